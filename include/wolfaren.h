@@ -50,7 +50,7 @@
 #define WOLFAREN_VERSION (10000 * WOLFAREN_VERSION_MAJOR + 100 * WOLFAREN_VERSION_MINOR + WOLFAREN_VERSION_PATCH)
 
 /* A checksum of the structs, numbers and calls in this header, made by scripts/abi of the repository. */
-#define WOLFAREN_ABI 0x7fcf0450u
+#define WOLFAREN_ABI 0x78d463a6u
 
 #if !(defined(__x86_64__) && !defined(__ILP32__)) && !defined(_M_X64) && !defined(__aarch64__) && !defined(_M_ARM64)
 #error "libwolfaren needs a 64-bit machine: x86-64 or ARM64"
@@ -527,7 +527,10 @@ enum wolfaren_test {
     WOLFAREN_TEST_PORT = 18,               /* the source or the destination port is */
     WOLFAREN_TEST_NO_TRANSPORT = 19,       /* the payload should start with ports, but is too short for both */
     WOLFAREN_TEST_ICMP_TYPE = 20,          /* the type of the ICMP or ICMPv6 message is `number` */
-    WOLFAREN_TEST_ICMP_CODE = 21           /* its code is `number` */
+    WOLFAREN_TEST_ICMP_CODE = 21,          /* its code is `number` */
+    WOLFAREN_TEST_TCP_FLAGS = 22,          /* of the flags of TCP in `address_low`, exactly those in `number` are set */
+    WOLFAREN_TEST_ROUTING_TYPE = 23,       /* a routing header has the type `number` */
+    WOLFAREN_TEST_SEGMENTS_LEFT = 24       /* the segments left of a routing header compare so with `number` */
 };
 
 /*
@@ -562,7 +565,7 @@ enum wolfaren_comparison {
 struct wolfaren_filter_test {
     uint64_t number;       /* flags, the number of a term, what a quantity is compared with, or the lowest port */
     uint64_t address_high; /* bytes 0 to 7 of an IPv6 network's address, as a big-endian number; ignored for IPv4 */
-    uint64_t address_low;  /* bytes 8 to 15 of it, the address of an IPv4 network, or the highest port */
+    uint64_t address_low;  /* bytes 8 to 15 of it, an IPv4 network's address, the highest port, or flags of TCP */
     uint8_t kind;          /* WOLFAREN_TEST_FLAGS .. */
     uint8_t comparison;    /* WOLFAREN_EQUAL .. */
     uint8_t version;       /* IP version of a network's address: 4 or 6 */
@@ -603,7 +606,8 @@ enum wolfaren_expected {
     WOLFAREN_EXPECTED_BYTE = 13,              /* a number of 8 bits */
     WOLFAREN_EXPECTED_NETWORK_OR_PORT = 14,   /* an address, a prefix or `port` */
     WOLFAREN_EXPECTED_ADDRESS = 15,           /* an address */
-    WOLFAREN_EXPECTED_PORTS = 16              /* a port or a range of ports */
+    WOLFAREN_EXPECTED_PORTS = 16,             /* a port or a range of ports */
+    WOLFAREN_EXPECTED_TCP_FLAGS = 17          /* flags of TCP */
 };
 
 /* Where the text of a filter is wrong. */
@@ -631,14 +635,18 @@ struct wolfaren_filter_error {
  *   dscp OP N, ecn OP N                  the differentiated services code point; explicit congestion notification
  *   flow OP N                            the flow label; false of IPv4 packets
  *   spi N, id N
+ *   routing-type N                       a routing header of the packet has this type
+ *   segments-left OP N                   the segments left of a routing header of the packet
  *   src NET, dst NET, net NET            NET is an IPv4 or IPv6 address, alone or with a slash and a number of bits
  *   host A                               A is an IPv4 or IPv6 address
  *   src port P, dst port P, port P       P is a port or a range such as 1024-65535
  *   no-transport                         the payload should start with ports, but is too short for both
  *   icmp-type N, icmp-code N             the type and the code of an ICMP or ICMPv6 message
+ *   tcp-flags LIST, tcp-flags LIST/LIST  these flags of TCP are set; of those after the slash, exactly these. LIST is a flag
+ *                                        or several with commas between: fin, syn, rst, psh, ack, urg, ece, cwr
  *
- * TCP, UDP, UDP-Lite, SCTP and DCCP have ports. Ports, types and codes are read from the payload, so extension headers may
- * precede them. A later fragment has none, nor has a packet with an error or a truncated header.
+ * TCP, UDP, UDP-Lite, SCTP and DCCP have ports. Ports, types, codes and flags of TCP are read from the payload, so extension
+ * headers may precede them. A later fragment has none, nor has a packet with an error or a truncated header.
  *
  * Numbers are decimal, or hexadecimal after 0x. On success, returns true and fills in `filter`; `error` is left unchanged.
  * On error, returns false and stores in `error` what is expected where; `filter` is left unchanged.

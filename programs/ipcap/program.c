@@ -40,6 +40,9 @@ static const char *const comparisons[] = {
     [WOLFAREN_AT_MOST] = "<=", [WOLFAREN_GREATER] = ">",    [WOLFAREN_AT_LEAST] = ">=",
 };
 
+/* The flags of TCP, from the low bit of their byte up. */
+static const char *const tcp_flags[] = {"fin", "syn", "rst", "psh", "ack", "urg", "ece", "cwr"};
+
 /* Prints the word for a test that no packet meets, and returns the length. */
 static int print_never(void)
 {
@@ -86,6 +89,23 @@ static int print_ports(const char *word, const struct wolfaren_filter_test *test
     return len + printf("-%llu", (unsigned long long)test->address_low);
 }
 
+/* Prints the names of flags of TCP, from the low bit up, with commas between. */
+static int print_tcp_names(uint64_t flags)
+{
+    int len = 0;
+    for (size_t i = 0; i < COUNT(tcp_flags); i++)
+        if (flags >> i & 1) len += printf("%s%s", len ? "," : "", tcp_flags[i]);
+    return len;
+}
+
+/* Prints flags of TCP that are set, and after a slash all that count if there are others. */
+static int print_tcp_flags(const char *word, const struct wolfaren_filter_test *test)
+{
+    int len = printf("%s ", word) + print_tcp_names(test->number);
+    if (test->address_low == test->number) return len;
+    return len + printf("/") + print_tcp_names(test->address_low);
+}
+
 static int print_network(const char *word, const struct wolfaren_filter_test *test)
 {
     uint8_t address[16];
@@ -127,6 +147,9 @@ static const struct {
     [WOLFAREN_TEST_NO_TRANSPORT] = {print_word, "no-transport"},
     [WOLFAREN_TEST_ICMP_TYPE] = {print_number, "icmp-type"},
     [WOLFAREN_TEST_ICMP_CODE] = {print_number, "icmp-code"},
+    [WOLFAREN_TEST_TCP_FLAGS] = {print_tcp_flags, "tcp-flags"},
+    [WOLFAREN_TEST_ROUTING_TYPE] = {print_number, "routing-type"},
+    [WOLFAREN_TEST_SEGMENTS_LEFT] = {print_count, "segments-left"},
 };
 
 /* Prints a test, and returns the length. No packet meets a test of an unknown kind. */

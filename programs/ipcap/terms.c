@@ -32,6 +32,8 @@ static const struct {
     {"ip6", "as version 6", "ip6"},
     {"spi N", "the security parameters index", "spi 0x1000"},
     {"id N", "the identification of the fragment", "id 7"},
+    {"routing-type N", "the type of a routing header", "routing-type 4"},
+    {"segments-left OP N", "the segments left of a routing header", "segments-left > 0"},
     {"src NETWORK", "the source address is in the network", "src 2001:db8::/32"},
     {"dst NETWORK", "the destination address is in the network", "dst 192.0.2.1"},
     {"net NETWORK", "either address is in the network", "net 10.0.0.0/8"},
@@ -42,6 +44,7 @@ static const struct {
     {"no-transport", "the payload is too short for its ports", "no-transport"},
     {"icmp-type N", "the type of the ICMP or ICMPv6 message", "icmp-type 128"},
     {"icmp-code N", "the code of the ICMP or ICMPv6 message", "icmp-code 0"},
+    {"tcp-flags FLAGS", "these flags of TCP are set", "tcp-flags syn/syn,ack"},
 };
 
 static const char arguments[] =
@@ -55,13 +58,14 @@ static const char arguments[] =
     "NETWORK   an IPv4 or IPv6 address, alone or with a slash and a number of bits\n"
     "ADDRESS   an IPv4 or IPv6 address\n"
     "PORTS     a number from 0 to 65535, or a range such as 1024-65535\n"
+    "FLAGS     fin, syn, rst, psh, ack, urg, ece, cwr, or several with commas between; all that count after a slash\n"
     "TCP, UDP, UDP-Lite, SCTP and DCCP have ports. A later fragment has none.\n"
     "Terms are combined with `not`, `and` and `or`, or `!`, `&&` and `||`, and parentheses.\n";
 
 void print_terms(void)
 {
-    printf("%-17s  %-43s  %s\n", "term", "meaning", "example");
+    printf("%-18s  %-43s  %s\n", "term", "meaning", "example");
     for (size_t i = 0; i < sizeof terms / sizeof *terms; i++)
-        printf("%-17s  %-43s  %s\n", terms[i].term, terms[i].meaning, terms[i].example);
+        printf("%-18s  %-43s  %s\n", terms[i].term, terms[i].meaning, terms[i].example);
     printf("\n%s", arguments);
 }

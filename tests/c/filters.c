@@ -55,6 +55,8 @@ static void texts(void)
     check_matches("flow >= 0", false, false);
     check_matches("src port 2313 and port 0-0x909 and no-transport", true, false);
     check_matches("dst port 0-65535 or port 2314-65535 or icmp-type 9 or icmp-code 9", false, false);
+    check_matches("routing-type 0 or segments-left >= 0", false, false);
+    check_matches("tcp-flags fin or not tcp-flags syn,ack/syn,ack,rst", true, true);
 }
 
 static void check_refused(const char *text, size_t offset, uint8_t expected, const char *words)
@@ -83,11 +85,13 @@ static void refused(void)
     check_refused("src x", 4, WOLFAREN_EXPECTED_NETWORK_OR_PORT, "an address, a prefix or `port`");
     check_refused("net x", 4, WOLFAREN_EXPECTED_NETWORK, "an address or a prefix");
     check_refused("host ::1/64", 5, WOLFAREN_EXPECTED_ADDRESS, "an address");
+    check_refused("tcp-flags fin/syn", 10, WOLFAREN_EXPECTED_TCP_FLAGS,
+                  "`fin`, `syn`, `rst`, `psh`, `ack`, `urg`, `ece` or `cwr`, or a list as syn,ack or syn/syn,ack");
     check_refused("dst port 2-1", 9, WOLFAREN_EXPECTED_PORTS, "a port or a range of ports, as 1024-65535");
     struct wolfaren_filter filter;
     struct wolfaren_filter_error error;
     check(!wolfaren_parse_filter(NULL, 0, &filter, &error) && error.offset == 0, "no text");
-    check(wolfaren_expected_text(0, NULL, 0) == 0 && wolfaren_expected_text(17, NULL, 0) == 0, "an unknown code");
+    check(wolfaren_expected_text(0, NULL, 0) == 0 && wolfaren_expected_text(18, NULL, 0) == 0, "an unknown code");
 }
 
 static uint8_t next_byte(void)
@@ -130,7 +134,7 @@ static void any_contents(void)
         for (size_t i = 0; i < sizeof filter; i++) ((uint8_t *)&filter)[i] = next_byte();
         for (size_t i = 0; i < WOLFAREN_FILTER_TESTS; i++) {
             struct wolfaren_filter_test *test = &filter.tests[i];
-            test->kind %= WOLFAREN_TEST_ICMP_CODE + 2;
+            test->kind %= WOLFAREN_TEST_SEGMENTS_LEFT + 2;
             if (round % 3 == 0) continue;
             test->if_met = (uint8_t)(i + test->if_met % 16);
             test->if_not = (uint8_t)(i + test->if_not % 16);
@@ -166,7 +170,7 @@ static void programs(void)
         {"a jump past the end", false, {2, {{MET, .if_met = 2}, {MET, .if_met = 64}, {MET, .if_met = 64}}}},
         {"a jump to index 255", false, {1, {{MET, .if_met = 255, .if_not = 64}}}},
         {"the unknown kind 0", true, {1, {{.if_met = 65, .if_not = 64}}}},
-        {"the unknown kind 22", true, {1, {{.kind = 22, .if_met = 65, .if_not = 64}}}},
+        {"the unknown kind 25", true, {1, {{.kind = 25, .if_met = 65, .if_not = 64}}}},
         {"an unknown comparison", true, {1, {{.kind = WOLFAREN_TEST_PAYLOAD, .comparison = 7, .if_not = 64}}}},
         {"an unknown version", true, {1, {{.kind = WOLFAREN_TEST_EITHER, .version = 5, .if_not = 64}}}},
         {"one of two flags", true,
@@ -199,6 +203,7 @@ static void programs(void)
         {"too few bytes for both ports", true, {1, {{.kind = WOLFAREN_TEST_NO_TRANSPORT, .if_met = 64}}}},
         {"no type of ICMP", true, {1, {{.kind = WOLFAREN_TEST_ICMP_TYPE, .number = 9, .if_not = 64}}}},
         {"no code of ICMP", true, {1, {{.kind = WOLFAREN_TEST_ICMP_CODE, .number = 9, .if_not = 64}}}},
+        {"no flags of TCP", true, {1, {{.kind = WOLFAREN_TEST_TCP_FLAGS, .if_not = 64}}}},
     };
     for (size_t i = 0; i < sizeof rows / sizeof *rows; i++)
         check(wolfaren_filter_matches(&rows[i].filter, IPV4, sizeof IPV4) == rows[i].passes, rows[i].what);
@@ -268,6 +273,10 @@ static void parsed_tests(void)
         {"no-transport", WOLFAREN_TEST_NO_TRANSPORT, 0, 0},
         {"icmp-type 128", WOLFAREN_TEST_ICMP_TYPE, 128, 0},
         {"icmp-code 255", WOLFAREN_TEST_ICMP_CODE, 255, 0},
+        {"routing-type 4", WOLFAREN_TEST_ROUTING_TYPE, 4, 0},
+        {"segments-left > 3", WOLFAREN_TEST_SEGMENTS_LEFT, 3, 0},
+        {"tcp-flags cwr,fin", WOLFAREN_TEST_TCP_FLAGS, 0x81, 0x81},
+        {"tcp-flags syn/syn,ack", WOLFAREN_TEST_TCP_FLAGS, 2, 0x12},
         {"host 192.0.2.1", WOLFAREN_TEST_EITHER, 0, 0xc0000201},
     };
     for (size_t i = 0; i < sizeof rows / sizeof *rows; i++) {
@@ -286,6 +295,54 @@ static const uint8_t SEGMENT[] = {IPV6(20, 60), 44, 0, 1, 4, 0, 0, 0, 0, 6, 0, 0
 
 /* An echo request of code 7, with an authentication header. */
 static const uint8_t ECHO[] = {IPV6(14, 51), 58, 1, 0, 0, 0, 0, 1, 2, 0, 0, 0, 3, 128, 7};
+
+/* A segment with the flags ACK, SYN and ECE, after destination options. */
+static const uint8_t OPENING[] = {IPV6(28, 60), 6, 0, 1, 4, 0, 0, 0, 0, 1, 0xbb, 0xc3, 0x50, 0, 0, 0, 0, 0, 0, 0, 0, 0x50, 0x52,
+                                  0, 0, 0, 0, 0, 0};
+
+/* Two routing headers: of type 2 with 1 segment left, and of type 0 with 5. */
+static const uint8_t ROUTED[] = {IPV6(16, 43), 43, 0, 2, 1, 0, 0, 0, 0, 59, 0, 0, 5, 0, 0, 0, 0};
+
+/* Each routing header is asked. */
+static void routing(void)
+{
+    static const struct {
+        const char *text;
+        bool matches;
+    } rows[] = {
+        {"routing-type 2", true},     {"routing-type 0", true},       {"routing-type 1", false},
+        {"routing-type 5", false},    {"segments-left = 1", true},    {"segments-left = 5", true},
+        {"segments-left > 5", false}, {"segments-left < 2", true},    {"segments-left = 0", false},
+        {"segments-left = 2", false}, {"segments-left != 5", true},
+    };
+    for (size_t i = 0; i < sizeof rows / sizeof *rows; i++) {
+        struct wolfaren_filter filter;
+        struct wolfaren_filter_error error;
+        check(parse(rows[i].text, &filter, &error), rows[i].text);
+        check(wolfaren_filter_matches(&filter, ROUTED, sizeof ROUTED) == rows[i].matches, rows[i].text);
+    }
+}
+
+/* Flags of TCP after extension headers. */
+static void tcp_flags(void)
+{
+    static const struct {
+        const char *text;
+        bool matches;
+    } rows[] = {
+        {"tcp-flags syn", true},           {"tcp-flags ack,syn", true},
+        {"tcp-flags syn/syn,fin", true},   {"tcp-flags ece,syn,ack/fin,syn,rst,psh,ack,urg,ece,cwr", true},
+        {"tcp-flags syn/syn,ack", false},  {"tcp-flags fin", false},
+        {"tcp-flags syn,cwr", false},      {"tcp-flags urg or tcp-flags psh or tcp-flags rst", false},
+    };
+    for (size_t i = 0; i < sizeof rows / sizeof *rows; i++) {
+        struct wolfaren_filter filter;
+        struct wolfaren_filter_error error;
+        check(parse(rows[i].text, &filter, &error), rows[i].text);
+        check(wolfaren_filter_matches(&filter, OPENING, sizeof OPENING) == rows[i].matches, rows[i].text);
+        check(!wolfaren_filter_matches(&filter, SEGMENT, sizeof SEGMENT), "a segment that is too short");
+    }
+}
 
 /* Ports and ICMP messages after extension headers. */
 static void upper_layers(void)
@@ -320,5 +377,7 @@ int main(void)
     parsed_program();
     parsed_tests();
     upper_layers();
+    tcp_flags();
+    routing();
     return 0;
 }

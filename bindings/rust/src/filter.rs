@@ -51,14 +51,17 @@ impl Filter {
     /// | `flow OP N` | the flow label compares so; false of IPv4 packets |
     /// | `spi N` | an authentication header has this security parameters index |
     /// | `id N` | the fragment has this identification |
+    /// | `routing-type N` | a routing header has this type |
+    /// | `segments-left OP N` | the segments left of a routing header compare so |
     /// | `src NET`, `dst NET`, `net NET` | the source, the destination or one of them is in this network: an address, or a prefix such as `2001:db8::/32` |
     /// | `host A` | the source or the destination is this address |
     /// | `src port P`, `dst port P`, `port P` | the source port, the destination port or one of them is in this range: a port, or a range such as `1024-65535` |
     /// | `no-transport` | the payload should start with ports, but is too short for both |
     /// | `icmp-type N`, `icmp-code N` | the payload is an ICMP message, of either version, of this type or with this code |
+    /// | `tcp-flags LIST`, `tcp-flags LIST/LIST` | these flags of TCP are set; of those after the slash, exactly these. `LIST` is a flag or several with commas between: `fin`, `syn`, `rst`, `psh`, `ack`, `urg`, `ece`, `cwr` |
     ///
-    /// TCP, UDP, UDP-Lite, SCTP and DCCP have ports. Ports, types and codes are read from the payload, so extension
-    /// headers may precede them. A later fragment has none, nor has a packet with an error or a truncated header.
+    /// TCP, UDP, UDP-Lite, SCTP and DCCP have ports. Ports, types, codes and flags of TCP are read from the payload, so
+    /// extension headers may precede them. A later fragment has none, nor has a packet with an error or a truncated header.
     ///
     /// `!`, `&&` and `||` are `not`, `and` and `or`. `not` binds most tightly, then `and`; parentheses group. There may
     /// be up to 64 terms and 16 levels of parentheses.

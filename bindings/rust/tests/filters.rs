@@ -134,6 +134,50 @@ fn messages_of_icmp() {
 }
 
 #[test]
+fn routing_headers() {
+    let headers = [43, 0, 2, 1, 0, 0, 0, 0, 59, 0, 0, 5, 0, 0, 0, 0];
+    let matching = [
+        "routing-type 2 and routing-type 0",
+        "segments-left = 1 and segments-left >= 5",
+        "segments-left != 1",
+    ];
+    let others = ["routing-type 1", "segments-left > 5", "segments-left = 2"];
+    check(&ipv6(16, 43, &headers), &matching, &others);
+    let options = [59, 0, 0, 5, 0, 0, 0, 0];
+    check(
+        &ipv6(8, 60, &options),
+        &["header 60"],
+        &["routing-type 0", "segments-left = 5"],
+    );
+}
+
+#[test]
+fn flags_of_tcp() {
+    let segment = [
+        1, 0xbb, 0xc3, 0x50, 0, 0, 0, 1, 0, 0, 0, 2, 0x50, 0x12, 0, 0, 0, 0, 0, 0,
+    ];
+    let matching = [
+        "tcp-flags syn",
+        "tcp-flags ack,syn",
+        "tcp-flags syn,ack/fin,syn,rst,ack",
+    ];
+    let others = [
+        "tcp-flags syn/syn,ack",
+        "tcp-flags fin",
+        "tcp-flags syn,ece",
+    ];
+    let auth = [&[6, 1, 0, 80, 0, 0, 1, 2, 0, 0, 0, 3][..], &segment].concat();
+    check(&ipv4(51, &auth), &matching, &others);
+    let first = [&[6, 0, 0, 1, 0, 0, 0, 7][..], &segment].concat();
+    check(&ipv6(28, 44, &first), &matching, &others);
+    let later = [&[6, 0, 0, 8, 0, 0, 0, 7][..], &segment].concat();
+    check(&ipv6(28, 44, &later), &["tcp"], &matching);
+    check(&ipv6(20, 17, &segment), &["udp"], &matching);
+    check(&ipv6(13, 6, &segment[..13]), &["tcp"], &matching);
+    check(&ipv6(14, 6, &segment[..14]), &matching, &others);
+}
+
+#[test]
 fn fields_of_base_headers() {
     let mut packet = ipv6(8, 59, &PORTS);
     packet[..4].copy_from_slice(&[0x6b, 0x9c, 0xde, 0xf1]);
@@ -255,11 +299,20 @@ fn different_filters() {
             .collect();
     terms.extend(kinds.split(' ').map(|kind| format!("fault {kind}")));
     terms.push("no-transport".to_owned());
-    for name in ["src port", "dst port", "port", "icmp-type", "icmp-code"] {
+    for name in [
+        "src port",
+        "dst port",
+        "port",
+        "icmp-type",
+        "icmp-code",
+        "routing-type",
+    ] {
         terms.push(format!("{name} 6"));
     }
     terms.push("port 6-7".to_owned());
-    let quantities = "headers chain-bytes payload length hop-limit dscp ecn flow".split(' ');
+    terms.extend(["syn", "syn/syn,ack", "ack"].map(|it| format!("tcp-flags {it}")));
+    let quantities =
+        "headers chain-bytes payload length hop-limit dscp ecn flow segments-left".split(' ');
     for name in quantities {
         terms.extend(["=", "!=", "<", "<=", ">", ">="].map(|it| format!("{name} {it} 7")));
     }
@@ -359,6 +412,12 @@ fn refused_texts() {
             "a port or a range of ports, as 1024-65535",
         ),
         ("icmp-code x", 10, Expected::Byte, "a number from 0 to 255"),
+        (
+            "tcp-flags syn/",
+            10,
+            Expected::TcpFlags,
+            "`fin`, `syn`, `rst`, `psh`, `ack`, `urg`, `ece` or `cwr`, or a list as syn,ack or syn/syn,ack",
+        ),
     ];
     for (text, offset, expected, words) in rows {
         assert_eq!(

@@ -57,7 +57,7 @@ set_more m k b c small are n less = rw (one_bit k 64 small) (elim (cases_eq n k)
   | inr other ↦ bit_other m k n other ∙ are n less ∙ grind (arith, common_steps, number_more n c (record { number = k; bytes = b }))
 ])
 
--- Without a header of the number, none has it and passes another test.
-pub none_passes : (n : ℕ) (q : ExtHeader → Bool) (c : List ExtHeader) → false ≡ list_any (λ h. h.number == n) c → false ≡ list_any (λ h. (h.number == n) && q h) c
-none_passes n q [] none = refl
-none_passes n q (h ∷ c) none = grind (arith, common_steps, none_passes n q c)
+-- Without a header of such a number, none has one and passes another test.
+pub none_passes : (asked : ℕ → Bool) (q : ExtHeader → Bool) (c : List ExtHeader) → false ≡ list_any (λ h. asked h.number) c → false ≡ list_any (λ h. asked h.number && q h) c
+none_passes asked q [] none = refl
+none_passes asked q (h ∷ c) none = grind (arith, common_steps, none_passes asked q c)

@@ -3,6 +3,7 @@ mod FormulaLemmas
 mod WordLemmas
 mod NumberLemmas
 mod IndexLemmas
+mod TcpFlagLemmas
 mod ArgumentLemmas
 mod NetworkTextLemmas
 mod AfterLemmas

@@ -7,6 +7,7 @@ use Rattle.ip_filter.specs.declared.term.Comparison.{Comparison}
 use Rattle.ip_filter.specs.declared.term.Comparison.TheVariants as by
 use Rattle.ip_filter.specs.declared.term.Quantity.{Quantity}
 use Rattle.ip_filter.specs.declared.term.Ports.{Ports}
+use Rattle.ip_filter.specs.declared.term.TcpFlags.{TcpFlags}
 use Rattle.ip_filter.specs.declared.term.Term.{Term}
 use Rattle.ip_filter.specs.declared.term.Term.TheVariants as term
 use Rattle.ip_filter.specs.declared.keyword.Keyword.{Keyword}
@@ -20,7 +21,7 @@ use Rattle.ip_filter.specs.declared.term.FaultKind.{FaultKind}
 use Rattle.ip_filter.specs.declared.network.Network.{Network}
 use Rattle.ip_filter.specs.declared.words.Word.{Word as FirstWord}
 use Rattle.ip_filter.specs.Words.{Word, words}
-use Rattle.ip_filter.specs.Numbers.{version_of, header_of, protocol_of, number_up_to, ports_of, comparison_of, fault_kind_of, IsNetworkText, IsHostText}
+use Rattle.ip_filter.specs.Numbers.{version_of, header_of, protocol_of, number_up_to, ports_of, tcp_flags_of, names_in, comparison_of, fault_kind_of, IsNetworkText, IsHostText}
 use Rattle.ip_filter.specs.Grammar.{AreArguments, IsOne, Finds, Make, AreCompared, AreSide, source, destination, is_and, is_or}
 use Rattle.ip_filter.specs.Reading.{IsFirstWord, ReadsArgument, RefusesArgument, ReadsArguments, RefusesArguments, ReadsTerm, RefusesTerm, WantsArgument, IsKeyword, IsCountKeyword, IsNumberKeyword, IsByteKeyword, IsSideKeyword, ends_term}
 use Rattle.ip_filter.proofs.NetworkTextLemmas.{one_network, some_network, some_host}
@@ -99,6 +100,11 @@ no_comparison text left e r = record {
 -- an address is one network
 one_host : (w : Word) (a b : Network) → IsHostText w a → IsHostText w b → a ≡ b
 one_host w a b p q = one_network w a b p.0 q.0
+
+-- some word writes flags
+some_flags : (w : Word) × (f : TcpFlags) × Finds tcp_flags_of w f
+unfolding names_in
+some_flags = (codes "syn", record { set = 2; mask = 2 }, refl)
 
 -- ---- keywords
 
@@ -221,23 +227,41 @@ module _ (text : List ℕ) where
   pub id_refused : (left : ℕ) (e : Expected) → RefusesArgument (Finds (number_up_to 4294967295)) text left × (e ≡ expects.Number) → RefusesTerm (keyword.Number number.Identification) text left e
   id_refused left e r = is_refused (keyword.Number number.Identification) (IsOne (Finds (number_up_to 4294967295))) term.Identification (λ us t m. m) (λ us t m. m) IsNumberKeyword (λ w i. inr i) text left e (not_one (Finds (number_up_to 4294967295)) (found_once (number_up_to 4294967295)) (codes "0", 0, refl) IsNumberKeyword expects.Number (λ w i. ([], w, refl, i)) text left e r)
 
+  pub routing_type_read : (rest : List ℕ) (a : ℕ) → ReadsArgument (Finds (number_up_to 255)) text a rest → ReadsTerm (keyword.Number number.RoutingType) text (term.RoutingType a) rest
+  routing_type_read rest a r = is_read (keyword.Number number.RoutingType) (IsOne (Finds (number_up_to 255))) term.RoutingType (λ us t m. m) (λ us t m. m) text rest a (one (Finds (number_up_to 255)) (found_once (number_up_to 255)) text rest a r)
+
+  pub routing_type_refused : (left : ℕ) (e : Expected) → RefusesArgument (Finds (number_up_to 255)) text left × (e ≡ expects.Byte) → RefusesTerm (keyword.Number number.RoutingType) text left e
+  routing_type_refused left e r = is_refused (keyword.Number number.RoutingType) (IsOne (Finds (number_up_to 255))) term.RoutingType (λ us t m. m) (λ us t m. m) IsByteKeyword (λ w i. inl i) text left e (not_one (Finds (number_up_to 255)) (found_once (number_up_to 255)) (codes "0", 0, refl) IsByteKeyword expects.Byte (λ w i. ([], w, refl, i)) text left e r)
+
   pub icmp_type_read : (rest : List ℕ) (a : ℕ) → ReadsArgument (Finds (number_up_to 255)) text a rest → ReadsTerm (keyword.Number number.IcmpType) text (term.IcmpType a) rest
   icmp_type_read rest a r = is_read (keyword.Number number.IcmpType) (IsOne (Finds (number_up_to 255))) term.IcmpType (λ us t m. m) (λ us t m. m) text rest a (one (Finds (number_up_to 255)) (found_once (number_up_to 255)) text rest a r)
 
   pub icmp_type_refused : (left : ℕ) (e : Expected) → RefusesArgument (Finds (number_up_to 255)) text left × (e ≡ expects.Byte) → RefusesTerm (keyword.Number number.IcmpType) text left e
-  icmp_type_refused left e r = is_refused (keyword.Number number.IcmpType) (IsOne (Finds (number_up_to 255))) term.IcmpType (λ us t m. m) (λ us t m. m) IsByteKeyword (λ w i. inl i) text left e (not_one (Finds (number_up_to 255)) (found_once (number_up_to 255)) (codes "0", 0, refl) IsByteKeyword expects.Byte (λ w i. ([], w, refl, i)) text left e r)
+  icmp_type_refused left e r = is_refused (keyword.Number number.IcmpType) (IsOne (Finds (number_up_to 255))) term.IcmpType (λ us t m. m) (λ us t m. m) IsByteKeyword (λ w i. inr (inl i)) text left e (not_one (Finds (number_up_to 255)) (found_once (number_up_to 255)) (codes "0", 0, refl) IsByteKeyword expects.Byte (λ w i. ([], w, refl, i)) text left e r)
 
   pub icmp_code_read : (rest : List ℕ) (a : ℕ) → ReadsArgument (Finds (number_up_to 255)) text a rest → ReadsTerm (keyword.Number number.IcmpCode) text (term.IcmpCode a) rest
   icmp_code_read rest a r = is_read (keyword.Number number.IcmpCode) (IsOne (Finds (number_up_to 255))) term.IcmpCode (λ us t m. m) (λ us t m. m) text rest a (one (Finds (number_up_to 255)) (found_once (number_up_to 255)) text rest a r)
 
   pub icmp_code_refused : (left : ℕ) (e : Expected) → RefusesArgument (Finds (number_up_to 255)) text left × (e ≡ expects.Byte) → RefusesTerm (keyword.Number number.IcmpCode) text left e
-  icmp_code_refused left e r = is_refused (keyword.Number number.IcmpCode) (IsOne (Finds (number_up_to 255))) term.IcmpCode (λ us t m. m) (λ us t m. m) IsByteKeyword (λ w i. inr i) text left e (not_one (Finds (number_up_to 255)) (found_once (number_up_to 255)) (codes "0", 0, refl) IsByteKeyword expects.Byte (λ w i. ([], w, refl, i)) text left e r)
+  icmp_code_refused left e r = is_refused (keyword.Number number.IcmpCode) (IsOne (Finds (number_up_to 255))) term.IcmpCode (λ us t m. m) (λ us t m. m) IsByteKeyword (λ w i. inr (inr i)) text left e (not_one (Finds (number_up_to 255)) (found_once (number_up_to 255)) (codes "0", 0, refl) IsByteKeyword expects.Byte (λ w i. ([], w, refl, i)) text left e r)
+
+  pub tcp_flags_read : (rest : List ℕ) (a : TcpFlags) → ReadsArgument (Finds tcp_flags_of) text a rest → ReadsTerm (keyword.Number number.TcpFlags) text (term.TcpFlags a) rest
+  tcp_flags_read rest a r = is_read (keyword.Number number.TcpFlags) (IsOne (Finds tcp_flags_of)) term.TcpFlags (λ us t m. m) (λ us t m. m) text rest a (one (Finds tcp_flags_of) (found_once tcp_flags_of) text rest a r)
+
+  pub tcp_flags_refused : (left : ℕ) (e : Expected) → RefusesArgument (Finds tcp_flags_of) text left × (e ≡ expects.TcpFlags) → RefusesTerm (keyword.Number number.TcpFlags) text left e
+  tcp_flags_refused left e r = is_refused (keyword.Number number.TcpFlags) (IsOne (Finds tcp_flags_of)) term.TcpFlags (λ us t m. m) (λ us t m. m) (IsKeyword (keyword.Number number.TcpFlags)) (λ w i. i) text left e (not_one (Finds tcp_flags_of) (found_once tcp_flags_of) some_flags (IsKeyword (keyword.Number number.TcpFlags)) expects.TcpFlags (λ w i. ([], w, refl, i)) text left e r)
 
   pub compared_read : (q : Quantity) (rest : List ℕ) (c : Comparison) (n : ℕ) → ReadsArguments AreCompared text (c, n) rest → ReadsTerm (keyword.Compared q) text (term.Compared q c n) rest
   compared_read q rest c n r = is_read (keyword.Compared q) AreCompared (λ a. term.Compared q a.0 a.1) (λ us t m. m) (λ us t m. m) text rest (c, n) r
 
   pub compared_refused : (q : Quantity) (left : ℕ) (e : Expected) → RefusesArguments AreCompared IsCountKeyword text left e → RefusesTerm (keyword.Compared q) text left e
-  compared_refused q left e r = is_refused (keyword.Compared q) AreCompared (λ a. term.Compared q a.0 a.1) (λ us t m. m) (λ us t m. m) IsCountKeyword (λ w i. (q, i)) text left e r
+  compared_refused q left e r = is_refused (keyword.Compared q) AreCompared (λ a. term.Compared q a.0 a.1) (λ us t m. m) (λ us t m. m) IsCountKeyword (λ w i. inl (q, i)) text left e r
+
+  pub segments_left_read : (rest : List ℕ) (c : Comparison) (n : ℕ) → ReadsArguments AreCompared text (c, n) rest → ReadsTerm keyword.SegmentsLeft text (term.SegmentsLeft c n) rest
+  segments_left_read rest c n r = is_read keyword.SegmentsLeft AreCompared (λ a. term.SegmentsLeft a.0 a.1) (λ us t m. m) (λ us t m. m) text rest (c, n) r
+
+  pub segments_left_refused : (left : ℕ) (e : Expected) → RefusesArguments AreCompared IsCountKeyword text left e → RefusesTerm keyword.SegmentsLeft text left e
+  segments_left_refused left e r = is_refused keyword.SegmentsLeft AreCompared (λ a. term.SegmentsLeft a.0 a.1) (λ us t m. m) (λ us t m. m) IsCountKeyword (λ w i. inr i) text left e r
 
   pub source_read : (rest : List ℕ) (x : Side) → ReadsArguments AreSide text x rest → ReadsTerm (keyword.Address address.Source) text (source x) rest
   source_read rest x r = is_read (keyword.Address address.Source) AreSide source (λ us t m. m) (λ us t m. m) text rest x r
@@ -270,6 +294,6 @@ module _ (text : List ℕ) where
   port_refused left e r = is_refused (keyword.Address address.Port) (IsOne (Finds ports_of)) term.Port (λ us t m. m) (λ us t m. m) (IsKeyword (keyword.Address address.Port)) (λ w i. i) text left e (not_one (Finds ports_of) (found_once ports_of) (codes "0", record { first = 0; last = 0 }, refl) (IsKeyword (keyword.Address address.Port)) expects.Ports (λ w i. ([], w, refl, i)) text left e r)
 
 -- by what follows the keyword
-pub ruleset number_terms = (version_read, version_refused, header_read, header_refused, leads_to_read, leads_to_refused, spi_read, spi_refused, id_read, id_refused, icmp_type_read, icmp_type_refused, icmp_code_read, icmp_code_refused)
+pub ruleset number_terms = (version_read, version_refused, header_read, header_refused, leads_to_read, leads_to_refused, spi_read, spi_refused, id_read, id_refused, routing_type_read, routing_type_refused, icmp_type_read, icmp_type_refused, icmp_code_read, icmp_code_refused, tcp_flags_read, tcp_flags_refused)
 
 pub ruleset address_terms = (source_read, source_refused, destination_read, destination_refused, network_read, network_refused, host_read, host_refused, port_read, port_refused)

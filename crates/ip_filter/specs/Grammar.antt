@@ -16,7 +16,7 @@ use Rattle.ip_filter.specs.declared.keyword.AddressKeyword.TheVariants as addres
 use Rattle.ip_filter.specs.declared.parse_term.Side.{Side}
 use Rattle.ip_filter.specs.declared.parse_term.Side.TheVariants as side
 use Rattle.ip_filter.specs.Words.{Word}
-use Rattle.ip_filter.specs.Numbers.{version_of, header_of, upper_layer_of, protocol_of, number_up_to, ports_of, comparison_of, fault_kind_of, IsNetworkText, IsHostText}
+use Rattle.ip_filter.specs.Numbers.{version_of, header_of, upper_layer_of, protocol_of, number_up_to, ports_of, tcp_flags_of, comparison_of, fault_kind_of, IsNetworkText, IsHostText}
 use Rattle.ip_filter.specs.Formula.{Formula, single, negation, both, either}
 
 -- ---- keywords
@@ -54,8 +54,10 @@ number_keyword_of w =
     else if bytes_eq w (codes "leads-to") then Some number.LeadsTo
     else if bytes_eq w (codes "spi") then Some number.SecurityParameters
     else if bytes_eq w (codes "id") then Some number.Identification
+    else if bytes_eq w (codes "routing-type") then Some number.RoutingType
     else if bytes_eq w (codes "icmp-type") then Some number.IcmpType
     else if bytes_eq w (codes "icmp-code") then Some number.IcmpCode
+    else if bytes_eq w (codes "tcp-flags") then Some number.TcpFlags
     else None
 
 -- a keyword that an address, a network or ports follow
@@ -71,6 +73,7 @@ address_keyword_of w =
 abbrev pub keyword_of : Word → Option Keyword
 keyword_of w =
     if bytes_eq w (codes "fault") then Some keyword.Fault
+    else if bytes_eq w (codes "segments-left") then Some keyword.SegmentsLeft
     else option_or (option_map keyword.Alone (alone w))
     (option_or (option_map keyword.Compared (quantity_named w))
     (option_or (option_map keyword.Number (number_keyword_of w)) (option_map keyword.Address (address_keyword_of w))))
@@ -114,8 +117,10 @@ AreNumberArguments number.Header args t = Make (IsOne (Finds header_of)) term.He
 AreNumberArguments number.LeadsTo args t = Make (IsOne (Finds protocol_of)) term.LeadsTo args t
 AreNumberArguments number.SecurityParameters args t = Make (IsOne (Finds (number_up_to 4294967295))) term.SecurityParameters args t
 AreNumberArguments number.Identification args t = Make (IsOne (Finds (number_up_to 4294967295))) term.Identification args t
+AreNumberArguments number.RoutingType args t = Make (IsOne (Finds (number_up_to 255))) term.RoutingType args t
 AreNumberArguments number.IcmpType args t = Make (IsOne (Finds (number_up_to 255))) term.IcmpType args t
 AreNumberArguments number.IcmpCode args t = Make (IsOne (Finds (number_up_to 255))) term.IcmpCode args t
+AreNumberArguments number.TcpFlags args t = Make (IsOne (Finds tcp_flags_of)) term.TcpFlags args t
 
 abbrev pub AreAddressArguments : AddressKeyword → List Word → Term → Type 0
 AreAddressArguments address.Source args t = Make AreSide source args t
@@ -129,6 +134,7 @@ AreArguments (keyword.Alone u) args t = (args ≡ []) × (t ≡ u)
 AreArguments keyword.Fault args t = ((args ≡ []) × (t ≡ term.Fault)) ⊎ Make (IsOne (Finds fault_kind_of)) term.FaultOf args t
 AreArguments (keyword.Number k) args t = AreNumberArguments k args t
 AreArguments (keyword.Compared q) args t = Make AreCompared (λ c. term.Compared q c.0 c.1) args t
+AreArguments keyword.SegmentsLeft args t = Make AreCompared (λ c. term.SegmentsLeft c.0 c.1) args t
 AreArguments (keyword.Address k) args t = AreAddressArguments k args t
 
 -- the word w is a keyword, and writes the term t with the words after it

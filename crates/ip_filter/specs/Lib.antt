@@ -1,6 +1,8 @@
 pub mod Network
 pub mod Transport
+pub mod HeaderFields
 pub mod Truth
+pub mod HeaderConditions
 pub mod Facts
 pub mod Flags
 pub mod Tests

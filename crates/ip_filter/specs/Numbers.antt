@@ -1,5 +1,5 @@
 -- How a filter's text writes numbers, protocols, comparisons, kinds of fault and networks.
-use Rattle.std.specs.Prelude.{◌≡◌, ◌≤◌, ℕ, List, [], ◌∷◌, length, take, drop, Bool, false, not, ◌==◌, ◌&&◌, nat_le, nat_lt, Option, Some, None, codes, if◌then◌else◌}
+use Rattle.std.specs.Prelude.{◌≡◌, ◌≤◌, ℕ, List, [], ◌∷◌, length, take, drop, Bool, false, not, ◌==◌, ◌&&◌, nat_le, nat_lt, bit_and, bit_or, Option, Some, None, codes, if◌then◌else◌}
 use Rattle.std.specs.List.{list_all, prefix_len}
 use Rattle.std.specs.Option.{option_or, option_and_then}
 use Rattle.std.specs.Char.{is_digit}
@@ -12,6 +12,7 @@ use Rattle.std.specs.declared.net.ipv6_addr.Ipv6Addr.{Ipv6Addr}
 use Rattle.ip_filter.specs.declared.network.Network.{Network}
 use Rattle.ip_filter.specs.declared.network.Network.TheVariants as network
 use Rattle.ip_filter.specs.declared.term.Ports.{Ports}
+use Rattle.ip_filter.specs.declared.term.TcpFlags.{TcpFlags}
 use Rattle.ip_filter.specs.declared.term.Comparison.{Comparison}
 use Rattle.ip_filter.specs.declared.term.Comparison.TheVariants as by
 use Rattle.ip_filter.specs.declared.term.FaultKind.{FaultKind}
@@ -116,6 +117,52 @@ abbrev pub ports_of : Word → Option Ports
 ports_of w =
     option_and_then (λ first. option_and_then (ports_from first) (last_port first (drop (index_of 45 w) w)))
     (number_up_to 65535 (take (index_of 45 w) w))
+
+-- the bit of a flag of TCP, by its name (RFC 9293, section 3.1; RFC 3168, section 6.1)
+abbrev pub tcp_flag_of : Word → Option ℕ
+tcp_flag_of w =
+    if bytes_eq w (codes "fin") then Some 1
+    else if bytes_eq w (codes "syn") then Some 2
+    else if bytes_eq w (codes "rst") then Some 4
+    else if bytes_eq w (codes "psh") then Some 8
+    else if bytes_eq w (codes "ack") then Some 16
+    else if bytes_eq w (codes "urg") then Some 32
+    else if bytes_eq w (codes "ece") then Some 64
+    else if bytes_eq w (codes "cwr") then Some 128
+    else None
+
+-- the names of a list, between which there are commas
+abbrev pub with_letter : ℕ → List Word → List Word
+with_letter c [] = (c ∷ []) ∷ []
+with_letter c (name ∷ names) = (c ∷ name) ∷ names
+
+unfoldable pub names_in : Word → List Word
+names_in [] = [] ∷ []
+names_in (c ∷ w) = if c == 44 then [] ∷ names_in w else with_letter c (names_in w)
+
+-- the flags f, and those with these names
+abbrev pub with_flags : ℕ → List Word → Option ℕ
+with_flags f [] = Some f
+with_flags f (name ∷ names) = option_and_then (λ bit. with_flags (bit_or f bit) names) (tcp_flag_of name)
+
+-- a list of flags
+abbrev pub tcp_flag_list : Word → Option ℕ
+tcp_flag_list w = with_flags 0 (names_in w)
+
+-- the flags that count, after a slash; without one, those that are set
+abbrev pub tcp_flag_mask : ℕ → List ℕ → Option ℕ
+tcp_flag_mask set [] = Some set
+tcp_flag_mask set (slash ∷ list) = tcp_flag_list list
+
+-- flags that are set, of those that count
+abbrev pub tcp_flags_from : ℕ → ℕ → Option TcpFlags
+tcp_flags_from set mask = if bit_and set mask == set then Some (record { set = set; mask = mask }) else None
+
+-- flags of TCP that are set: a list, and a slash and a list of all flags that count or nothing
+abbrev pub tcp_flags_of : Word → Option TcpFlags
+tcp_flags_of w =
+    option_and_then (λ set. option_and_then (tcp_flags_from set) (tcp_flag_mask set (drop (slash_index w) w)))
+    (tcp_flag_list (take (slash_index w) w))
 
 -- the number of bits after an address: without a slash, all of them
 abbrev pub prefix_bits : ℕ → List ℕ → Option ℕ

@@ -21,15 +21,17 @@ IsKeyword k w = keyword_of w ≡ Some k
 
 -- a comparison and a number follow
 abbrev pub IsCountKeyword : Word → Type 0
-IsCountKeyword w = (q : Quantity) × IsKeyword (keyword.Compared q) w
+IsCountKeyword w = ((q : Quantity) × IsKeyword (keyword.Compared q) w) ⊎ IsKeyword keyword.SegmentsLeft w
 
 -- a number of 32 bits follows
 abbrev pub IsNumberKeyword : Word → Type 0
 IsNumberKeyword w = IsKeyword (keyword.Number number.SecurityParameters) w ⊎ IsKeyword (keyword.Number number.Identification) w
 
--- a type or code of ICMP follows
+-- a number of 8 bits follows: a type of routing, or a type or code of ICMP
 abbrev pub IsByteKeyword : Word → Type 0
-IsByteKeyword w = IsKeyword (keyword.Number number.IcmpType) w ⊎ IsKeyword (keyword.Number number.IcmpCode) w
+IsByteKeyword w =
+    IsKeyword (keyword.Number number.RoutingType) w ⊎ (IsKeyword (keyword.Number number.IcmpType) w
+    ⊎ IsKeyword (keyword.Number number.IcmpCode) w)
 
 -- a network or `port` follows
 abbrev pub IsSideKeyword : Word → Type 0
@@ -52,6 +54,7 @@ WantsArgument ws expects.Network = LastIs (IsKeyword (keyword.Address address.Ne
 WantsArgument ws expects.Address = LastIs (IsKeyword (keyword.Address address.Host)) ws
 WantsArgument ws expects.NetworkOrPort = LastIs IsSideKeyword ws
 WantsArgument ws expects.Ports = LastIs (IsKeyword (keyword.Address address.Port)) ws
+WantsArgument ws expects.TcpFlags = LastIs (IsKeyword (keyword.Number number.TcpFlags)) ws
 WantsArgument ws e = ⊥
 
 -- `and` or `or`

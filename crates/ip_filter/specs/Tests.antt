@@ -1,12 +1,11 @@
 -- Tests of a packet, in plain numbers.
-use Rattle.std.specs.Prelude.{ℕ, ◌+◌, ◌*◌, ◌^◌, ◌==◌, ◌&&◌, ◌||◌, nat_lt, nat_le, if◌then◌else◌, Bool, false, List, Option, Some, None}
+use Rattle.std.specs.Prelude.{ℕ, ◌+◌, ◌*◌, ◌^◌, ◌==◌, ◌&&◌, ◌||◌, nat_lt, nat_le, bit_and, if◌then◌else◌, Bool, false, List, Option, Some, None}
 use Rattle.std.specs.List.{list_any}
 use Rattle.std.specs.Option.{option_map, option_map_or}
-use Rattle.ip_spec.specs.Numbers.{AUTHENTICATION}
-use Rattle.ip_spec.specs.Fields.{auth_fields}
 use Rattle.ip_dissect.specs.Dissection.{DissectedParts, dissected}
-use Rattle.ip_filter.specs.Transport.{source_port, destination_port, lacks_ports, icmp_byte}
+use Rattle.ip_filter.specs.Transport.{source_port, destination_port, lacks_ports, icmp_byte, tcp_flags}
 use Rattle.ip_filter.specs.Truth.{compares, has_base, has_source, has_destination, quantity_of}
+use Rattle.ip_filter.specs.HeaderFields.{has_spi, has_routing_type, has_segments_left}
 use Rattle.ip_filter.specs.Flags.{any_flag}
 use Rattle.ip_filter.specs.declared.network.Network.{Network}
 use Rattle.ip_filter.specs.declared.network.Network.TheVariants.{Ipv4, Ipv6}
@@ -55,7 +54,7 @@ meets x p =
     else if x.kind == 3 then compared x Headers p
     else if x.kind == 4 then compared x ChainBytes p
     else if x.kind == 5 then compared x Payload p
-    else if x.kind == 6 then list_any (λ h. (h.number == AUTHENTICATION) && ((auth_fields h.bytes).spi == x.number)) p.headers
+    else if x.kind == 6 then list_any (has_spi x.number) p.headers
     else if x.kind == 7 then option_map_or (λ y. y.identification == x.number) p.fragment false
     else if x.kind == 8 then option_map_or (λ n. has_source n p) (network_in x) false
     else if x.kind == 9 then option_map_or (λ n. has_destination n p) (network_in x) false
@@ -71,6 +70,9 @@ meets x p =
     else if x.kind == 19 then lacks_ports p
     else if x.kind == 20 then option_map_or (λ n. n == x.number) (icmp_byte 0 p) false
     else if x.kind == 21 then option_map_or (λ n. n == x.number) (icmp_byte 1 p) false
+    else if x.kind == 22 then option_map_or (λ n. bit_and n x.address_low == x.number) (tcp_flags p) false
+    else if x.kind == 23 then list_any (has_routing_type x.number) p.headers
+    else if x.kind == 24 then option_map_or (λ c. list_any (has_segments_left (λ n. compares c n x.number)) p.headers) (comparison_in x.comparison) false
     else false
 
 -- a frame meets the test: the packet at the start of its bytes does, and a frame that is not IP meets none

@@ -1,10 +1,11 @@
 -- What follows the headers: the header of a transport protocol, or an ICMP message.
-use Rattle.std.specs.Prelude.{ℕ, ◌+◌, List, [], length, slice_index, slice_range, Bool, true, false, ◌==◌, ◌&&◌, ◌||◌, nat_lt, nat_le, if◌then◌else◌, Option, Some, None}
+use Rattle.std.specs.Prelude.{ℕ, ◌+◌, List, [], length, slice_index, slice_range, bit_and, Bool, true, false, ◌==◌, ◌&&◌, ◌||◌, nat_lt, nat_le, if◌then◌else◌, Option, Some, None}
 use Rattle.std.specs.Int.{from_be_bytes, w16}
 use Rattle.ip_dissect.specs.Dissection.{DissectedParts}
 use Rattle.ip_dissect.specs.declared.end.End.{End}
 use Rattle.ip_dissect.specs.declared.end.End.TheVariants as end
 use Rattle.ip_filter.specs.declared.term.Ports.{Ports}
+use Rattle.ip_filter.specs.declared.term.TcpFlags.{TcpFlags}
 
 -- The headers end at the payload, which isn't that of a later fragment.
 abbrev pub is_at_payload : End → Bool
@@ -46,3 +47,11 @@ is_icmp n = (n == 1) || (n == 58)
 -- byte i of the message, if it is there
 abbrev pub icmp_byte : ℕ → DissectedParts → Option ℕ
 icmp_byte i p = if is_icmp p.number && nat_lt i (length (transport_of p)) then Some (slice_index (transport_of p) i) else None
+
+-- byte 13 of a TCP header (RFC 9293, section 3.1), if it is there: from the high bit CWR, ECE, URG, ACK, PSH, RST, SYN, FIN
+abbrev pub tcp_flags : DissectedParts → Option ℕ
+tcp_flags p = if (p.number == 6) && nat_lt 13 (length (transport_of p)) then Some (slice_index (transport_of p) 13) else None
+
+-- of the flags f that count, exactly those are set that the term names
+abbrev pub are_set : TcpFlags → ℕ → Bool
+are_set t f = bit_and f t.mask == t.set

@@ -3,8 +3,6 @@ use Rattle.std.specs.Prelude.{ℕ, List, length, Bool, true, false, not, ◌==�
 use Rattle.std.specs.Int.{from_be_bytes, w32, w128}
 use Rattle.std.specs.List.{list_any}
 use Rattle.std.specs.Option.{option_map_or}
-use Rattle.ip_spec.specs.Numbers.{AUTHENTICATION}
-use Rattle.ip_spec.specs.Fields.{auth_fields}
 use Rattle.ip_spec.specs.Chain.{bytes_of}
 use Rattle.ip_base.specs.Ipv4Header.{ipv4_source_octets, ipv4_destination_octets}
 use Rattle.ip_base.specs.Ipv6Header.{ipv6_source_octets, ipv6_destination_octets}
@@ -20,7 +18,8 @@ use Rattle.ip_dissect.specs.declared.end.End.{End}
 use Rattle.ip_dissect.specs.declared.end.End.TheVariants as end
 use Rattle.ip_base.specs.BaseHeaderFields.{ipv4_ttl, ipv4_dscp, ipv4_ecn, ipv6_hop_limit, ipv6_traffic_class, ipv6_flow_label}
 use Rattle.ip_filter.specs.Network.{ipv4_lies_in, ipv6_lies_in}
-use Rattle.ip_filter.specs.Transport.{source_port, destination_port, lacks_ports, icmp_byte, are_among}
+use Rattle.ip_filter.specs.HeaderFields.{has_spi, has_routing_type, has_segments_left}
+use Rattle.ip_filter.specs.Transport.{source_port, destination_port, lacks_ports, icmp_byte, tcp_flags, are_among, are_set}
 use Rattle.ip_filter.specs.declared.network.Network.{Network}
 use Rattle.ip_filter.specs.declared.term.Comparison.{Comparison}
 use Rattle.ip_filter.specs.declared.term.Comparison.TheVariants as by
@@ -125,7 +124,9 @@ holds term.Incomplete p = not (p.missing == 0)
 holds term.Fault p = is_some (fault_in p.end)
 holds (term.FaultOf kind) p = option_map_or (λ k. kind_index k == kind_index kind) (fault_in p.end) false
 holds (term.Compared q c n) p = option_map_or (λ x. compares c x n) (quantity_of q p) false
-holds (term.SecurityParameters i) p = list_any (λ h. (h.number == AUTHENTICATION) && ((auth_fields h.bytes).spi == i)) p.headers
+holds (term.SecurityParameters i) p = list_any (has_spi i) p.headers
+holds (term.RoutingType n) p = list_any (has_routing_type n) p.headers
+holds (term.SegmentsLeft c n) p = list_any (has_segments_left (λ x. compares c x n)) p.headers
 holds (term.Identification i) p = option_map_or (λ x. x.identification == i) p.fragment false
 holds (term.Source n) p = has_source n p
 holds (term.Destination n) p = has_destination n p
@@ -136,3 +137,4 @@ holds (term.Port r) p = option_map_or (are_among r) (source_port p) false || opt
 holds term.NoTransport p = lacks_ports p
 holds (term.IcmpType n) p = option_map_or (λ x. x == n) (icmp_byte 0 p) false
 holds (term.IcmpCode n) p = option_map_or (λ x. x == n) (icmp_byte 1 p) false
+holds (term.TcpFlags t) p = option_map_or (are_set t) (tcp_flags p) false

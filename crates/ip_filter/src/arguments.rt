@@ -4,7 +4,7 @@
 ghost use Rattle.std.specs.Prelude.{◌≡◌, [], IfOk, IfErr};
 ghost use Rattle.ip_filter.specs.declared.parse_error.Expected.TheVariants as expects;
 ghost use Rattle.ip_filter.specs.Words.{words};
-ghost use Rattle.ip_filter.specs.Numbers.{number_up_to, version_of, header_of, protocol_of, comparison_of, ports_of, IsNetworkText, IsHostText};
+ghost use Rattle.ip_filter.specs.Numbers.{number_up_to, version_of, header_of, protocol_of, comparison_of, ports_of, tcp_flags_of, IsNetworkText, IsHostText};
 ghost use Rattle.ip_filter.specs.Grammar.{Finds};
 ghost use Rattle.ip_filter.specs.Reading.{IsPlace, IsFirstWord, ReadsArgument, RefusesArgument};
 
@@ -12,8 +12,9 @@ use crate::networks::{parse_host, parse_network};
 use crate::numbers::{
     parse_comparison, parse_header, parse_number, parse_ports, parse_protocol, parse_version,
 };
+use crate::tcp_flags::parse_tcp_flags;
 use crate::words::{Word, first_word};
-use crate::{Comparison, Expected, Network, Ports};
+use crate::{Comparison, Expected, Network, Ports, TcpFlags};
 
 /// What is wrong in a text.
 #[derive(Clone, Copy)]
@@ -153,5 +154,18 @@ pub(crate) fn read_ports(text: &[u8]) -> Result<(Ports, &[u8]), Unexpected>
     match parse_ports(word.bytes) {
         Some(ports) => Ok((ports, word.rest)),
         None => Err(word.unexpected(Expected::Ports)),
+    }
+}
+
+/// Reads flags of TCP.
+pub(crate) fn read_tcp_flags(text: &[u8]) -> Result<(TcpFlags, &[u8]), Unexpected>
+    ensures ok { IfOk result (λ r. ReadsArgument (Finds tcp_flags_of) text.now r.0 r.1.now) }
+    ensures err { IfErr result (λ e. RefusesArgument (Finds tcp_flags_of) text.now e.left
+        × (e.expected ≡ expects.TcpFlags)) }
+{
+    let word = argument(text, Expected::TcpFlags)?;
+    match parse_tcp_flags(word.bytes) {
+        Some(flags) => Ok((flags, word.rest)),
+        None => Err(word.unexpected(Expected::TcpFlags)),
     }
 }

@@ -1,24 +1,21 @@
 //! What tests ask of a packet.
-ghost use Rattle.std.specs.Prelude.{◌≡◌, ◌==◌, ◌&&◌, true};
+ghost use Rattle.std.specs.Prelude.{◌≡◌, true};
 ghost use Rattle.std.specs.List.{list_any};
-ghost use Rattle.ip_spec.specs.Numbers.{AUTHENTICATION};
-ghost use Rattle.ip_spec.specs.Fields.{auth_fields};
-ghost use Rattle.ip_ext_slices.specs.Longest.{longest_chain};
-ghost use Rattle.ip_ext_slices.specs.Ipv6ExtensionSlice.{header_of};
 ghost use Rattle.ip_dissect.specs.Dissection.{dissected};
 ghost use Rattle.ip_dissect.specs.Outline.{is_plain};
 ghost use Rattle.ip_filter.specs.Flags.{AreKnown, any_flag};
 ghost use Rattle.ip_filter.specs.Facts.{first_number};
+ghost use Rattle.ip_filter.specs.HeaderConditions.{meets_condition};
 ghost use Rattle.ip_filter.specs.Truth.{is_first_kind, is_later_kind, fault_kind, fault_in, is_truncated};
 ghost use Rattle.ip_filter.specs.Truth.{has_source, has_destination};
 
 use crate::flags::{Flags, mask};
+use crate::header_condition::{HeaderCondition, any_header};
 use crate::{FaultKind, Network};
 use ip_base::err::ip::{HeaderError, HeadersError, SliceError};
 use ip_base::err::ipv6_exts;
 use ip_base::{IpNumber, ip_number};
 use ip_dissect::{BaseHeader, End, FragmentKind, Packet};
-use ip_ext_slices::{Ipv6ExtensionSlice, Ipv6ExtensionsCursor};
 
 /// What tests ask of a packet: its parts, and its flags but for errors.
 #[derive(Clone, Copy, Debug)]
@@ -60,18 +57,17 @@ impl<'a> Facts<'a> {
         self.flags.with_end(&self.packet.end()).has_one_of(mask)
     }
 
-    /// Returns whether the packet has an authentication header with the security parameters index. Walks the extension
-    /// headers again if there is an authentication header.
+    /// Returns whether an extension header meets the condition. Walks them again if there is one that can meet it.
     #[inline(always)]
-    pub(crate) fn has_spi(&self, spi: u64) -> bool
-        ensures { result ≡ list_any (λ h. (h.number == AUTHENTICATION)
-            && ((auth_fields h.bytes).spi == spi)) (dissected self.now.packet.bytes.now).headers }
+    pub(crate) fn has_header(&self, condition: HeaderCondition) -> bool
+        ensures { result ≡ list_any (meets_condition condition)
+            (dissected self.now.packet.bytes.now).headers }
     {
-        self.has_one_of(mask::AUTHENTICATION)
-            && has_spi(
+        self.has_one_of(condition.mask())
+            && any_header(
                 first_number(self.packet.base),
                 self.packet.extensions(),
-                spi,
+                condition,
             )
     }
 
@@ -115,30 +111,6 @@ fn first_number(base: Option<BaseHeader<'_>>) -> IpNumber
         Some(BaseHeader::Ipv4(header)) => header.protocol(),
         Some(BaseHeader::Ipv6(header)) => header.next_header(),
         None => ip_number::IPV6_NO_NEXT_HEADER,
-    }
-}
-
-/// Returns whether an authentication header of the longest chain has the security parameters index.
-fn has_spi(first: IpNumber, bytes: &[u8], spi: u64) -> bool
-    ensures { result ≡ list_any (λ h. (h.number == AUTHENTICATION)
-        && ((auth_fields h.bytes).spi == spi)) (longest_chain first.0 bytes.now) }
-{
-    'headers: for header in Ipv6ExtensionsCursor::new(first, bytes) {
-        if is_with_spi(&header, spi) {
-            return true;
-        }
-    }
-    false
-}
-
-/// Returns whether the header is an authentication header with the security parameters index.
-fn is_with_spi(header: &Ipv6ExtensionSlice<'_>, spi: u64) -> bool
-    ensures { result ≡ (((header_of header.now).number == AUTHENTICATION)
-        && ((auth_fields (header_of header.now).bytes).spi == spi)) }
-{
-    match header {
-        Ipv6ExtensionSlice::Authentication(header) => u64::from(header.spi()) == spi,
-        _ => false,
     }
 }
 

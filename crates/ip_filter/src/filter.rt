@@ -9,19 +9,19 @@
 #[repr(C)]
 #[derive(Clone, Copy, Debug, PartialEq, Eq)]
 pub struct Test {
-    /// The flags of which one has to be set, the protocol number, security parameters index, identification, or type or code
-    /// of ICMP, what a quantity is compared with, or the lowest port.
+    /// The flags of which one has to be set, the protocol number, security parameters index, identification, type or code of
+    /// ICMP, type of routing, what a number of the packet is compared with, the lowest port, or the flags of TCP that are set.
     pub number: u64,
     /// The high 64 bits of a network's address, as a number in network byte order; not used for IPv4.
     pub address_high: u64,
-    /// The other bits of a network's address, or the highest port.
+    /// The other bits of a network's address, the highest port, or the flags of TCP that count.
     pub address_low: u64,
     /// What is tested: 1 flags, 2 the protocol number that follows the headers, 3 the number of extension headers, 4 their
     /// bytes, 5 the bytes of payload that are here, 6 the security parameters index of an authentication header, 7 the
     /// identification of a fragment, 8 the source, 9 the destination, 10 either address, 11 the stated length, 12 the hop
     /// limit, 13 the code point of differentiated services, 14 explicit congestion notification, 15 the flow label, 16 the
     /// source, 17 the destination, 18 either port, 19 whether ports should be there but aren't, 20 the type, 21 the code of
-    /// ICMP.
+    /// ICMP, 22 flags of TCP, 23 the type, 24 the segments left of a routing header.
     pub kind: u8,
     /// How a quantity is compared: 1 equal, 2 not equal, 3 less, 4 at most, 5 greater, 6 at least.
     pub comparison: u8,

@@ -46,6 +46,8 @@ pub(crate) mod mask {
 
     pub const TRUNCATED: u64 = 1 << place::TRUNCATED;
 
+    pub const ROUTING: u64 = 1 << ip_number::IPV6_ROUTE.0;
+
     pub const AUTHENTICATION: u64 = 1 << ip_number::AUTH.0;
 
     /// All kinds of faults.

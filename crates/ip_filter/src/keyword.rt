@@ -16,6 +16,8 @@ pub(crate) enum Keyword {
     Number(NumberKeyword),
     /// A comparison and a number follow.
     Compared(Quantity),
+    /// The segments left of a routing header, which a comparison and a number follow.
+    SegmentsLeft,
     /// An address, a network or ports follow.
     Address(AddressKeyword),
 }
@@ -33,10 +35,14 @@ pub(crate) enum NumberKeyword {
     SecurityParameters,
     /// An identification.
     Identification,
+    /// A type of routing.
+    RoutingType,
     /// A type of ICMP.
     IcmpType,
     /// A code of ICMP.
     IcmpCode,
+    /// Flags of TCP.
+    TcpFlags,
 }
 
 /// A keyword that an address, a network or ports follow.
@@ -60,6 +66,9 @@ pub(crate) fn keyword_of(word: &[u8]) -> Option<Keyword>
 {
     if word == b"fault".as_slice() {
         return Some(Keyword::Fault);
+    }
+    if word == b"segments-left".as_slice() {
+        return Some(Keyword::SegmentsLeft);
     }
     if let Some(term) = alone(word) {
         return Some(Keyword::Alone(term));
@@ -160,11 +169,17 @@ fn number_keyword_of(word: &[u8]) -> Option<NumberKeyword>
     if word == b"id".as_slice() {
         return Some(NumberKeyword::Identification);
     }
+    if word == b"routing-type".as_slice() {
+        return Some(NumberKeyword::RoutingType);
+    }
     if word == b"icmp-type".as_slice() {
         return Some(NumberKeyword::IcmpType);
     }
     if word == b"icmp-code".as_slice() {
         return Some(NumberKeyword::IcmpCode);
+    }
+    if word == b"tcp-flags".as_slice() {
+        return Some(NumberKeyword::TcpFlags);
     }
     None
 }

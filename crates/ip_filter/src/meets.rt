@@ -1,10 +1,11 @@
 //! Which packets meet a test.
-ghost use Rattle.std.specs.Prelude.{◌≡◌, ◌==◌, false};
+ghost use Rattle.std.specs.Prelude.{◌≡◌, ◌==◌, bit_and, false};
 ghost use Rattle.std.specs.Option.{option_map_or};
 ghost use Rattle.ip_dissect.specs.Dissection.{dissected};
 ghost use Rattle.ip_filter.specs.Tests.{comparison_in, network_in, compared, is_in_range, meets};
 
 use crate::facts::Facts;
+use crate::header_condition::HeaderCondition;
 use crate::transport::{DESTINATION_PORT, ICMP_CODE, ICMP_TYPE, SOURCE_PORT};
 use crate::{Comparison, Network, Quantity, Test};
 
@@ -51,6 +52,12 @@ pub(crate) mod kind {
     pub const ICMP_TYPE: u8 = 20;
 
     pub const ICMP_CODE: u8 = 21;
+
+    pub const TCP_FLAGS: u8 = 22;
+
+    pub const ROUTING_TYPE: u8 = 23;
+
+    pub const SEGMENTS_LEFT: u8 = 24;
 }
 
 impl Test {
@@ -73,7 +80,16 @@ impl Test {
             kind::DSCP => self.compares(Quantity::Dscp, facts),
             kind::ECN => self.compares(Quantity::Ecn, facts),
             kind::FLOW_LABEL => self.compares(Quantity::FlowLabel, facts),
-            kind::SECURITY_PARAMETERS => facts.has_spi(self.number),
+            kind::SECURITY_PARAMETERS => {
+                facts.has_header(HeaderCondition::SecurityParameters(self.number))
+            }
+            kind::ROUTING_TYPE => facts.has_header(HeaderCondition::RoutingType(self.number)),
+            kind::SEGMENTS_LEFT => match comparison_of(self.comparison) {
+                Some(comparison) => {
+                    facts.has_header(HeaderCondition::SegmentsLeft(comparison, self.number))
+                }
+                None => false,
+            },
             kind::IDENTIFICATION => match outline.fragment {
                 Some(fragment) => u64::from(fragment.identification) == self.number,
                 None => false,
@@ -99,6 +115,7 @@ impl Test {
             kind::NO_TRANSPORT => facts.lacks_ports(),
             kind::ICMP_TYPE => self.is_number(facts.icmp_byte(ICMP_TYPE)),
             kind::ICMP_CODE => self.is_number(facts.icmp_byte(ICMP_CODE)),
+            kind::TCP_FLAGS => self.has_bits(facts.tcp_flags()),
             _ => false,
         }
     }
@@ -135,6 +152,18 @@ impl Test {
     {
         match byte {
             Some(byte) => u64::from(byte) == self.number,
+            None => false,
+        }
+    }
+
+    /// Returns whether the flags are there, and those that count are the number of the test.
+    #[inline(always)]
+    fn has_bits(&self, flags: Option<u8>) -> bool
+        ensures { result ≡ option_map_or (λ n. bit_and n self.now.address_low == self.now.number) flags
+            false }
+    {
+        match flags {
+            Some(flags) => u64::from(flags) & self.address_low == self.number,
             None => false,
         }
     }

@@ -34,7 +34,7 @@ pub enum Expected {
     /// A network.
     #[error("an address or a prefix")]
     Network,
-    /// A type or code of ICMP.
+    /// A type or code of ICMP, or a type of routing.
     #[error("a number from 0 to 255")]
     Byte,
     /// A network, or the ports of one side.
@@ -46,6 +46,9 @@ pub enum Expected {
     /// Ports.
     #[error("a port or a range of ports, as 1024-65535")]
     Ports,
+    /// Flags of TCP.
+    #[error("`fin`, `syn`, `rst`, `psh`, `ack`, `urg`, `ece` or `cwr`, or a list as syn,ack or syn/syn,ack")]
+    TcpFlags,
     /// No operator, since there are 64 terms already.
     #[error("no more than 64 terms")]
     FewerTerms,

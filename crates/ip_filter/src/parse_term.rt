@@ -6,7 +6,7 @@ ghost use Rattle.ip_filter.specs.Reading.{IsCountKeyword, IsSideKeyword, ReadsTe
 
 use crate::arguments::{
     Unexpected, argument, read_comparison, read_header, read_host, read_network, read_number,
-    read_ports, read_protocol, read_version,
+    read_ports, read_protocol, read_tcp_flags, read_version,
 };
 use crate::keyword::{AddressKeyword, Keyword, NumberKeyword};
 use crate::networks::parse_network;
@@ -21,7 +21,7 @@ const MAX_NUMBER: u64 = 4_294_967_295;
 pub(crate) type ReadTerm<'a> = Result<(Term, &'a [u8]), Unexpected>;
 
 /// Reads the term with the keyword from the text after it, and returns the term and what follows it.
-#[tactic(auto, using(crate::proofs::TermLemmas::alone_read, crate::proofs::TermLemmas::compared_read, crate::proofs::TermLemmas::compared_refused))]
+#[tactic(auto, using(crate::proofs::TermLemmas::alone_read, crate::proofs::TermLemmas::compared_read, crate::proofs::TermLemmas::segments_left_read))]
 pub(crate) fn read_term(keyword: Keyword, text: &[u8]) -> ReadTerm<'_>
     ensures ok { IfOk result (λ r. ReadsTerm keyword text.now r.0 r.1.now) }
     ensures err { IfErr result (λ e. RefusesTerm keyword text.now e.left e.expected) }
@@ -34,6 +34,10 @@ pub(crate) fn read_term(keyword: Keyword, text: &[u8]) -> ReadTerm<'_>
             Ok(((comparison, number), rest)) => {
                 Ok((Term::Compared(quantity, comparison, number), rest))
             }
+            Err(error) => Err(error),
+        },
+        Keyword::SegmentsLeft => match read_count(text) {
+            Ok(((comparison, number), rest)) => Ok((Term::SegmentsLeft(comparison, number), rest)),
             Err(error) => Err(error),
         },
         Keyword::Address(keyword) => read_address_term(keyword, text),
@@ -81,6 +85,10 @@ fn read_number_term(keyword: NumberKeyword, text: &[u8]) -> ReadTerm<'_>
             let (number, rest) = read_number(text, MAX_NUMBER, Expected::Number)?;
             Ok((Term::Identification(number as u32), rest))
         }
+        NumberKeyword::RoutingType => {
+            let (number, rest) = read_number(text, 255, Expected::Byte)?;
+            Ok((Term::RoutingType(number as u8), rest))
+        }
         NumberKeyword::IcmpType => {
             let (number, rest) = read_number(text, 255, Expected::Byte)?;
             Ok((Term::IcmpType(number as u8), rest))
@@ -88,6 +96,10 @@ fn read_number_term(keyword: NumberKeyword, text: &[u8]) -> ReadTerm<'_>
         NumberKeyword::IcmpCode => {
             let (number, rest) = read_number(text, 255, Expected::Byte)?;
             Ok((Term::IcmpCode(number as u8), rest))
+        }
+        NumberKeyword::TcpFlags => {
+            let (flags, rest) = read_tcp_flags(text)?;
+            Ok((Term::TcpFlags(flags), rest))
         }
     }
 }

@@ -48,6 +48,16 @@ pub struct Ports {
     pub last: u16,
 }
 
+/// Which flags of TCP are set, as bits of byte 13 of its header: `fin` 1, `syn` 2, `rst` 4, `psh` 8, `ack` 16, `urg` 32, `ece` 64,
+/// `cwr` 128 (RFC 9293, section 3.1).
+#[derive(Clone, Copy, Debug, PartialEq, Eq)]
+pub struct TcpFlags {
+    /// Those that are set.
+    pub set: u8,
+    /// Those that count: of these, all others are not set.
+    pub mask: u8,
+}
+
 /// What is wrong in a faulty header.
 #[derive(Clone, Copy, Debug, PartialEq, Eq)]
 pub enum FaultKind {
@@ -90,6 +100,10 @@ pub enum Term {
     Compared(Quantity, Comparison, u64),
     /// An authentication header has this security parameters index (RFC 4302, section 2.4).
     SecurityParameters(u32),
+    /// A routing header has this type (RFC 8200, section 4.4).
+    RoutingType(u8),
+    /// The segments left field of a routing header compares so (RFC 8200, section 4.4).
+    SegmentsLeft(Comparison, u64),
     /// The packet has a fragment header, or is a fragment, with this identification.
     Identification(u32),
     /// The source address lies in the network.
@@ -111,4 +125,7 @@ pub enum Term {
     IcmpType(u8),
     /// The payload is a message of ICMP or ICMPv6 with this code.
     IcmpCode(u8),
+    /// The payload begins with a TCP header, of which these flags are set, and the others that count aren't. The headers
+    /// end at the payload, as for ports, and the byte of the flags is there (RFC 9293, section 3.1).
+    TcpFlags(TcpFlags),
 }

@@ -12,7 +12,7 @@ use crate::flags::{mask, place};
 use crate::holds::kind_index;
 use crate::meets::kind;
 use crate::run::PASSED;
-use crate::{Comparison, FaultKind, Network, Ports, Quantity, Term, Test};
+use crate::{Comparison, FaultKind, Network, Ports, Quantity, TcpFlags, Term, Test};
 use ip_base::{IpNumber, ip_number};
 
 /// The index after all tests at which a packet has not passed.
@@ -42,6 +42,8 @@ impl Test {
             Term::SecurityParameters(spi) => {
                 Test::of_number(kind::SECURITY_PARAMETERS, u64::from(spi))
             }
+            Term::RoutingType(number) => Test::of_number(kind::ROUTING_TYPE, u64::from(number)),
+            Term::SegmentsLeft(comparison, number) => Test::of_segments_left(comparison, number),
             Term::Identification(identification) => {
                 Test::of_number(kind::IDENTIFICATION, u64::from(identification))
             }
@@ -54,6 +56,7 @@ impl Test {
             Term::NoTransport => Test::of_number(kind::NO_TRANSPORT, 0),
             Term::IcmpType(number) => Test::of_number(kind::ICMP_TYPE, u64::from(number)),
             Term::IcmpCode(number) => Test::of_number(kind::ICMP_CODE, u64::from(number)),
+            Term::TcpFlags(flags) => Test::of_tcp_flags(flags),
         }
     }
 
@@ -100,6 +103,20 @@ impl Test {
         }
     }
 
+    /// Returns a test that compares the segments left of routing headers.
+    fn of_segments_left(comparison: Comparison, number: u64) -> Test
+        ensures kind { result.kind ≡ 24 }
+        ensures number { result.number ≡ number }
+        ensures comparison { comparison_in result.comparison ≡ Some comparison }
+        ensures if_met { result.if_met ≡ 64 }
+        ensures if_not { result.if_not ≡ 65 }
+    {
+        Test {
+            comparison: comparison_code(comparison),
+            ..Test::of_number(kind::SEGMENTS_LEFT, number)
+        }
+    }
+
     /// Returns a test of this kind with a range of ports.
     fn of_ports(kind: u8, ports: Ports) -> Test
         ensures kind { result.kind ≡ kind }
@@ -111,6 +128,20 @@ impl Test {
         Test {
             address_low: u64::from(ports.last),
             ..Test::of_number(kind, u64::from(ports.first))
+        }
+    }
+
+    /// Returns a test of flags of TCP.
+    fn of_tcp_flags(flags: TcpFlags) -> Test
+        ensures kind { result.kind ≡ 22 }
+        ensures set { result.number ≡ flags.set }
+        ensures mask { result.address_low ≡ flags.mask }
+        ensures if_met { result.if_met ≡ 64 }
+        ensures if_not { result.if_not ≡ 65 }
+    {
+        Test {
+            address_low: u64::from(flags.mask),
+            ..Test::of_number(kind::TCP_FLAGS, u64::from(flags.set))
         }
     }
 

@@ -1,7 +1,7 @@
 //! Ports, and the types of ICMP: what the payload begins with.
 ghost use Rattle.std.specs.Prelude.{◌≡◌, ◌≤◌, ◌+◌};
 ghost use Rattle.ip_dissect.specs.Dissection.{dissected};
-ghost use Rattle.ip_filter.specs.Transport.{is_at_payload, transport_of, has_ports, is_icmp, port_at, icmp_byte, lacks_ports};
+ghost use Rattle.ip_filter.specs.Transport.{is_at_payload, transport_of, has_ports, is_icmp, port_at, icmp_byte, tcp_flags, lacks_ports};
 
 use crate::facts::Facts;
 
@@ -33,6 +33,9 @@ pub(crate) const ICMP_TYPE: usize = 0;
 
 /// The offset of the code of an ICMP message.
 pub(crate) const ICMP_CODE: usize = 1;
+
+/// The offset of the flags in a TCP header.
+const TCP_FLAGS: usize = 13;
 
 impl<'a> Facts<'a> {
     /// Returns the port at an offset from the start of the payload, if the payload begins with ports and this one is there.
@@ -72,6 +75,22 @@ impl<'a> Facts<'a> {
         let transport = self.transport();
         if offset < transport.len() {
             Some(transport[offset])
+        } else {
+            None
+        }
+    }
+
+    /// Returns the flags of a TCP header, if the payload begins with one and they are there.
+    #[inline(always)]
+    pub(crate) fn tcp_flags(&self) -> Option<u8>
+        ensures { result ≡ tcp_flags (dissected self.now.packet.bytes.now) }
+    {
+        if self.packet.outline.next_header.0 != protocol::TCP {
+            return None;
+        }
+        let segment = self.transport();
+        if TCP_FLAGS < segment.len() {
+            Some(segment[TCP_FLAGS])
         } else {
             None
         }

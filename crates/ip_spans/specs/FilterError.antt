@@ -21,3 +21,4 @@ expected_code expected.Byte = 13
 expected_code expected.NetworkOrPort = 14
 expected_code expected.Address = 15
 expected_code expected.Ports = 16
+expected_code expected.TcpFlags = 17

@@ -58,6 +58,7 @@ fn code_of(expected: Expected) -> u8
         Expected::NetworkOrPort => 14,
         Expected::Address => 15,
         Expected::Ports => 16,
+        Expected::TcpFlags => 17,
     }
 }
 
@@ -83,6 +84,7 @@ pub(crate) fn expected_of(code: u8) -> Option<Expected>
         14 => Some(Expected::NetworkOrPort),
         15 => Some(Expected::Address),
         16 => Some(Expected::Ports),
+        17 => Some(Expected::TcpFlags),
         _ => None,
     }
 }

@@ -117,7 +117,7 @@ fn terms(rt: HostRuntime) -> Result<(), Fail> {
     Ok(())
 }
 
-/// Returns the last test, of ports in a range.
+/// Returns the last test, of ports in a range, or of flags of TCP of which some count.
 fn ports(kind: u8, first: u64, last: u64) -> Test {
     Test {
         address_low: last,
@@ -145,6 +145,13 @@ fn terms_of_fields_and_ports(rt: HostRuntime) -> Result<(), Fail> {
         ("no-transport", number(19, 0, PASSED, REFUSED)),
         ("icmp-type 128", number(20, 128, PASSED, REFUSED)),
         ("icmp-code 0", number(21, 0, PASSED, REFUSED)),
+        ("routing-type 4", number(23, 4, PASSED, REFUSED)),
+        ("segments-left>=2", count(24, 6, 2)),
+        ("tcp-flags syn", ports(22, 2, 2)),
+        ("tcp-flags cwr,ece,urg,ack", ports(22, 0xf0, 0xf0)),
+        ("tcp-flags fin,fin", ports(22, 1, 1)),
+        ("tcp-flags syn/syn,ack", ports(22, 2, 0x12)),
+        ("tcp-flags rst,psh/fin,psh,rst", ports(22, 12, 13)),
         ("host 10.0.0.1", network(10, 4, (0, 0x0a00_0001), 32)),
         ("src ::1", network(8, 6, (0, 1), 128)),
     ];
@@ -255,6 +262,18 @@ fn errors_in_arguments(rt: HostRuntime) -> Result<(), Fail> {
         ("net port 1", 4, Expected::Network),
         ("host 10.0.0.0/8", 5, Expected::Address),
         ("icmp-type 256", 10, Expected::Byte),
+        ("routing-type 256", 13, Expected::Byte),
+        ("segments-left", 13, Expected::Comparison),
+        ("segments-left = x", 16, Expected::Count),
+        ("tcp-flags", 9, Expected::TcpFlags),
+        ("tcp-flags SYN", 10, Expected::TcpFlags),
+        ("tcp-flags syn,", 10, Expected::TcpFlags),
+        ("tcp-flags ,syn", 10, Expected::TcpFlags),
+        ("tcp-flags syn/", 10, Expected::TcpFlags),
+        ("tcp-flags /syn", 10, Expected::TcpFlags),
+        ("tcp-flags fin/syn", 10, Expected::TcpFlags),
+        ("tcp-flags syn/syn/syn", 10, Expected::TcpFlags),
+        ("tcp-flags syn ack", 14, Expected::OperatorOrEnd),
         ("ttl 1", 4, Expected::Comparison),
         ("tcp port", 4, Expected::OperatorOrEnd),
         ("net 2001:db8::/129", 4, Expected::Network),

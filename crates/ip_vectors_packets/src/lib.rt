@@ -22,8 +22,12 @@ mod plain_packets;
 #[cfg(test)]
 mod ports;
 #[cfg(test)]
+mod routing;
+#[cfg(test)]
 mod samples;
 #[cfg(test)]
 mod spans;
 #[cfg(test)]
 mod statistics;
+#[cfg(test)]
+mod tcp_flags;

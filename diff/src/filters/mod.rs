@@ -38,6 +38,8 @@ pub enum Term {
     Fault(Option<FaultKind>),
     Compared(Quantity, Comparison),
     Spi(u64),
+    RoutingType(u64),
+    SegmentsLeft(Comparison),
     Id(u64),
     Source(Network),
     Destination(Network),
@@ -48,6 +50,7 @@ pub enum Term {
     NoTransport,
     IcmpType(u64),
     IcmpCode(u64),
+    TcpFlags(TcpFlags),
 }
 
 /// A number of a packet, which terms compare.
@@ -68,6 +71,13 @@ pub enum Quantity {
 pub struct Ports {
     pub first: u64,
     pub last: u64,
+}
+
+/// The flags of TCP that are set, and those that count.
+#[derive(Debug)]
+pub struct TcpFlags {
+    pub set: u8,
+    pub mask: u8,
 }
 
 #[derive(Clone, Copy, Debug, PartialEq, Eq)]
@@ -110,6 +120,7 @@ pub enum Expected {
     NetworkOrPort,
     Address,
     Ports,
+    TcpFlags,
     FewerTerms,
     LessNesting,
 }
@@ -128,7 +139,7 @@ pub fn ours(text: &[u8], packet: &[u8]) -> Answer {
     let answer = unsafe { ipexts_filter(text.as_ptr(), text.len(), packet.as_ptr(), packet.len()) };
     match answer {
         0..4 => Answer::Matches(answer % 2 == 1, answer / 2 == 1),
-        _ => Answer::Refused((answer / 16) as usize - 1, (answer % 16) as u8),
+        _ => Answer::Refused((answer / 32) as usize - 1, (answer % 32) as u8),
     }
 }
 
@@ -215,6 +226,8 @@ mod tests {
             "no-transport and src port 0-65535",
             "icmp-type 0 or icmp-type 1 or icmp-type 2 or icmp-type 3",
             "icmp-code 0 or icmp-code 1 or icmp-code 2 or icmp-code 3",
+            "routing-type 0 or routing-type 2 or segments-left = 0 or segments-left > 3",
+            "tcp-flags syn/syn,ack or tcp-flags rst or tcp-flags ece,cwr/ece,cwr,urg",
             "udp-lite and later-fragment",
         ];
         let mut random = Random::new(4);

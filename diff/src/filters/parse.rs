@@ -1,5 +1,5 @@
 //! The plain parser: recursive descent over words.
-use super::{Comparison, Expected, FaultKind, Formula, Network, Ports, Quantity, Term};
+use super::{Comparison, Expected, FaultKind, Formula, Network, Ports, Quantity, TcpFlags, Term};
 use std::net::IpAddr;
 
 /// The offset of the word that isn't expected, and what is.
@@ -193,8 +193,11 @@ impl Parser {
             "host" => Term::Either(self.take(host, Expected::Address)?),
             "port" => Term::Port(self.take(ports, Expected::Ports)?),
             "no-transport" => Term::NoTransport,
+            "routing-type" => Term::RoutingType(self.take(byte, Expected::Byte)?),
+            "segments-left" => Term::SegmentsLeft(self.comparison()?),
             "icmp-type" => Term::IcmpType(self.take(byte, Expected::Byte)?),
             "icmp-code" => Term::IcmpCode(self.take(byte, Expected::Byte)?),
+            "tcp-flags" => Term::TcpFlags(self.take(tcp_flags, Expected::TcpFlags)?),
             word => return self.named_term(word),
         })
     }
@@ -297,6 +300,24 @@ fn ports(word: &str) -> Option<Ports> {
         last: number(last, 65535)?,
     };
     (ports.first <= ports.last).then_some(ports)
+}
+
+/// Returns the flags of TCP that the word writes, the least significant first: those that are set, and after a slash all
+/// that count.
+fn tcp_flags(word: &str) -> Option<TcpFlags> {
+    let names = ["fin", "syn", "rst", "psh", "ack", "urg", "ece", "cwr"];
+    let list = |text: &str| {
+        text.split(',').try_fold(0, |flags, name| {
+            let bit = names.iter().position(|it| *it == name)?;
+            Some(flags | 1 << bit)
+        })
+    };
+    let (set, mask) = word.split_once('/').unwrap_or((word, word));
+    let flags = TcpFlags {
+        set: list(set)?,
+        mask: list(mask)?,
+    };
+    (flags.set & !flags.mask == 0).then_some(flags)
 }
 
 fn header(word: &str) -> Option<u64> {

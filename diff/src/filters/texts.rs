@@ -151,6 +151,19 @@ fn term(packet: &[u8], random: &mut Random, words: &mut Vec<String>) {
             word(words, "port");
             word(words, ports(packet, random));
         }
+        18 if random.percent(30) => {
+            word(words, "routing-type");
+            word(words, routing_field(packet, random, 2));
+        }
+        18 if random.percent(30) => {
+            word(words, "segments-left");
+            word(words, comparison(random));
+            word(words, routing_field(packet, random, 3));
+        }
+        18 if random.percent(50) => {
+            word(words, "tcp-flags");
+            word(words, tcp_flags(packet, random));
+        }
         18 => {
             word(words, one_of(&["icmp-type", "icmp-code"], random));
             word(words, byte(packet, random));
@@ -225,6 +238,45 @@ fn byte(packet: &[u8], random: &mut Random) -> String {
     match packet.get(at) {
         Some(byte) if random.percent(80) => byte.to_string(),
         _ => random.below(260).to_string(),
+    }
+}
+
+/// Makes a byte of the packet that may be this byte of a routing header, or any number of about 8 bits.
+fn routing_field(packet: &[u8], random: &mut Random, byte: usize) -> String {
+    let most = if random.percent(50) { 5 } else { 260 };
+    match packet.get(40 + 8 * random.below(4) + byte) {
+        Some(byte) if random.percent(70) => byte.to_string(),
+        _ => random.below(most).to_string(),
+    }
+}
+
+/// Makes flags of TCP: those of a byte of the packet near its payload, some of them, or others, and after a slash more.
+fn tcp_flags(packet: &[u8], random: &mut Random) -> String {
+    let names = [
+        "fin", "syn", "rst", "psh", "ack", "urg", "ece", "cwr", "sin",
+    ];
+    let at = place(packet, random) + 13;
+    let mut bits = packet.get(at).map_or(0, |byte| usize::from(*byte));
+    let list = |bits: usize| {
+        let named: Vec<&str> = (0..9)
+            .filter(|bit| bits >> bit & 1 == 1)
+            .map(|bit| names[bit])
+            .collect();
+        named.join(",")
+    };
+    match random.below(10) {
+        0..3 => list(bits & random.next() as usize),
+        3..6 => list(1 << random.below(8)),
+        6 => list(random.below(512)),
+        _ => {
+            let mask = random.next() as usize & 0xff;
+            bits = if random.percent(80) {
+                bits & mask
+            } else {
+                bits
+            };
+            format!("{}/{}", list(bits), list(mask))
+        }
     }
 }
 

@@ -3,7 +3,11 @@ use super::{Comparison, FaultKind, Formula, Network, Ports, Quantity, Term};
 use crate::dissections::{Dissected, End};
 use etherparse::err::{ip, ipv6_exts};
 
+const ROUTING: u8 = 43;
+
 const AUTH: u8 = 51;
+
+const TCP: u8 = 6;
 
 /// The protocols whose headers begin with the source and the destination port, of 2 bytes each: TCP, UDP, DCCP, SCTP and
 /// UDP-Lite.
@@ -51,6 +55,14 @@ fn is_met(term: &Term, packet: &Dissected<'_>) -> bool {
             *number == AUTH
                 && u64::from(u32::from_be_bytes([bytes[4], bytes[5], bytes[6], bytes[7]])) == *index
         }),
+        Term::RoutingType(number) => packet
+            .headers
+            .iter()
+            .any(|(it, bytes)| *it == ROUTING && u64::from(bytes[2]) == *number),
+        Term::SegmentsLeft(comparison) => packet
+            .headers
+            .iter()
+            .any(|(it, bytes)| *it == ROUTING && compares(bytes[3].into(), comparison)),
         Term::Id(number) => packet
             .fragment
             .is_some_and(|it| u64::from(it.identification) == *number),
@@ -65,6 +77,9 @@ fn is_met(term: &Term, packet: &Dissected<'_>) -> bool {
         Term::NoTransport => upper_layer(packet, &WITH_PORTS).is_some_and(|bytes| bytes.len() < 4),
         Term::IcmpType(number) => icmp_byte(packet, 0) == Some(*number),
         Term::IcmpCode(number) => icmp_byte(packet, 1) == Some(*number),
+        Term::TcpFlags(flags) => upper_layer(packet, &[TCP])
+            .and_then(|bytes| bytes.get(13))
+            .is_some_and(|found| found & flags.mask == flags.set),
     }
 }
 

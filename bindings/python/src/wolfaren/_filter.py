@@ -46,14 +46,18 @@ class Filter:
         dscp OP N, ecn OP N                  the differentiated services code point; explicit congestion notification
         flow OP N                            the flow label; false of IPv4 packets
         spi N, id N
+        routing-type N                       a routing header of the packet has this type
+        segments-left OP N                   the segments left of a routing header of the packet
         src NET, dst NET, net NET            NET is an IPv4 or IPv6 address, alone or with a slash and a number of bits
         host A                               A is an IPv4 or IPv6 address
         src port P, dst port P, port P       P is a port or a range such as 1024-65535
         no-transport                         the payload should start with ports, but is too short for both
         icmp-type N, icmp-code N             the type and the code of an ICMP or ICMPv6 message
+        tcp-flags LIST, tcp-flags LIST/LIST  these flags of TCP are set; of those after the slash, exactly these. LIST is a
+                                             flag or several with commas between: fin, syn, rst, psh, ack, urg, ece, cwr
 
-    TCP, UDP, UDP-Lite, SCTP and DCCP have ports. Ports, types and codes are read from the payload, so extension headers may
-    precede them. A later fragment has none, nor has a packet with an error or a truncated header.
+    TCP, UDP, UDP-Lite, SCTP and DCCP have ports. Ports, types, codes and flags of TCP are read from the payload, so
+    extension headers may precede them. A later fragment has none, nor has a packet with an error or a truncated header.
 
     Numbers are decimal, or hexadecimal after 0x. Raises `FilterError`, a `ValueError`, for any other text.
 

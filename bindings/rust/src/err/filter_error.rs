@@ -46,6 +46,8 @@ pub enum Expected {
     Address,
     /// A port or a range of ports.
     Ports,
+    /// Flags of TCP.
+    TcpFlags,
 }
 
 impl Expected {
@@ -67,6 +69,7 @@ impl Expected {
             14 => Expected::NetworkOrPort,
             15 => Expected::Address,
             16 => Expected::Ports,
+            17 => Expected::TcpFlags,
             _ => Expected::Operand,
         }
     }

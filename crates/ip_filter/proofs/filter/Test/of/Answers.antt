@@ -2,7 +2,7 @@ use Rattle.ip_spec.proofs.Common.{rules, sym, ap, ◌∙◌}
 use Rattle.ip_dissect.specs.Dissection.{dissected}
 use Rattle.ip_filter.specs.Truth.{holds}
 use Rattle.ip_filter.proofs.MaskLemmas.{by_flags, fragment_mask, first_mask, later_mask, truncated_mask, incomplete_mask, faults_mask}
-use Rattle.ip_filter.proofs.TestLemmas.{by_icmp_code}
+use Rattle.ip_filter.proofs.TestLemmas.{by_icmp_code, by_segments_left}
 use Rattle.ip_filter.proofs.filter.Test.of.Goals as goal
 
 pub returns-in-Fragment-clause-meets : goal.returns-in-Fragment-clause-meets
@@ -25,3 +25,8 @@ returns-in-Fault-clause-meets c = λ s. by_flags c.of_flags-in-Fault.result _ (d
 
 pub returns-in-IcmpCode-clause-meets : goal.returns-in-IcmpCode-clause-meets
 returns-in-IcmpCode-clause-meets c = λ s. by_icmp_code c.of_number-in-IcmpCode.result c.in-IcmpCode.number (dissected s) c.of_number-in-IcmpCode.ensures.kind (search rules) ∙ ap (λ t. holds t (dissected s)) (sym c.in-IcmpCode.is)
+
+pub returns-in-SegmentsLeft-clause-meets : goal.returns-in-SegmentsLeft-clause-meets
+returns-in-SegmentsLeft-clause-meets c =
+    let is = c.of_segments_left.ensures in
+    λ s. by_segments_left c.of_segments_left.result c.in-SegmentsLeft.comparison c.in-SegmentsLeft.number (dissected s) is.kind is.comparison is.number ∙ ap (λ t. holds t (dissected s)) (sym c.in-SegmentsLeft.is)

@@ -513,7 +513,7 @@ enum wolfaren_test {
     WOLFAREN_TEST_CHAIN_BYTES = 4,         /* the length of the extension headers in bytes does */
     WOLFAREN_TEST_PAYLOAD = 5,             /* the number of payload bytes that are present does */
     WOLFAREN_TEST_SECURITY_PARAMETERS = 6, /* an authentication header has the security parameters index `number` */
-    WOLFAREN_TEST_IDENTIFICATION = 7,      /* the fragment's identification is `number` */
+    WOLFAREN_TEST_IDENTIFICATION = 7,      /* a fragment header, or an IPv4 fragment, has the identification `number` */
     WOLFAREN_TEST_SOURCE = 8,              /* the source address is in the network */
     WOLFAREN_TEST_DESTINATION = 9,         /* the destination address is in the network */
     WOLFAREN_TEST_EITHER = 10,             /* the source or the destination address is in the network */
@@ -540,8 +540,8 @@ enum wolfaren_test {
 enum wolfaren_flag {
     WOLFAREN_FLAG_IPV4 = 4,                    /* the packet has an IPv4 header */
     WOLFAREN_FLAG_IPV6 = 6,                    /* the packet has an IPv6 header */
-    WOLFAREN_FLAG_FIRST_FRAGMENT = 8,          /* the packet is a first fragment */
-    WOLFAREN_FLAG_LATER_FRAGMENT = 9,          /* the packet is a middle or last fragment */
+    WOLFAREN_FLAG_FIRST_FRAGMENT = 8,          /* the packet is a first fragment, by one of its fragment headers */
+    WOLFAREN_FLAG_LATER_FRAGMENT = 9,          /* the packet is a middle or last fragment, by one of them */
     WOLFAREN_FLAG_INCOMPLETE = 10,             /* bytes of the stated length are missing */
     WOLFAREN_FLAG_TRUNCATED = 11,              /* a header is truncated */
     WOLFAREN_FLAG_TOO_SHORT = 12,              /* a header is faulty, with an error of kind WOLFAREN_TOO_SHORT */
@@ -646,7 +646,8 @@ struct wolfaren_filter_error {
  *                                        or several with commas between: fin, syn, rst, psh, ack, urg, ece, cwr
  *
  * TCP, UDP, UDP-Lite, SCTP and DCCP have ports. Ports, types, codes and flags of TCP are read from the payload, so extension
- * headers may precede them. A later fragment has none, nor has a packet with an error or a truncated header.
+ * headers may precede them. A later fragment has none, nor has a packet with an error or a truncated header. The terms about
+ * fragments hold of an IPv6 packet if they do of one of its fragment headers.
  *
  * Numbers are decimal, or hexadecimal after 0x. On success, returns true and fills in `filter`; `error` is left unchanged.
  * On error, returns false and stores in `error` what is expected where; `filter` is left unchanged.

@@ -323,6 +323,28 @@ static void routing(void)
     }
 }
 
+/* Two fragment headers: of a first fragment with identification 7, and of a middle one with identification 9. */
+static const uint8_t TWICE[] = {IPV6(16, 44), 44, 0, 0, 1, 0, 0, 0, 7, 17, 0, 3, 0x21, 0, 0, 0, 9};
+
+/* Each fragment header is asked. */
+static void two_fragment_headers(void)
+{
+    static const struct {
+        const char *text;
+        bool matches;
+    } rows[] = {
+        {"fragment and first-fragment and later-fragment", true},
+        {"id 7 and id 9", true},
+        {"id 8 or not fragment", false},
+    };
+    for (size_t i = 0; i < sizeof rows / sizeof *rows; i++) {
+        struct wolfaren_filter filter;
+        struct wolfaren_filter_error error;
+        check(parse(rows[i].text, &filter, &error), rows[i].text);
+        check(wolfaren_filter_matches(&filter, TWICE, sizeof TWICE) == rows[i].matches, rows[i].text);
+    }
+}
+
 /* Flags of TCP after extension headers. */
 static void tcp_flags(void)
 {
@@ -379,5 +401,6 @@ int main(void)
     upper_layers();
     tcp_flags();
     routing();
+    two_fragment_headers();
     return 0;
 }

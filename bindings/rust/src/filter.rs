@@ -61,7 +61,8 @@ impl Filter {
     /// | `tcp-flags LIST`, `tcp-flags LIST/LIST` | these flags of TCP are set; of those after the slash, exactly these. `LIST` is a flag or several with commas between: `fin`, `syn`, `rst`, `psh`, `ack`, `urg`, `ece`, `cwr` |
     ///
     /// TCP, UDP, UDP-Lite, SCTP and DCCP have ports. Ports, types, codes and flags of TCP are read from the payload, so
-    /// extension headers may precede them. A later fragment has none, nor has a packet with an error or a truncated header.
+    /// extension headers may precede them. A later fragment has none, nor has a packet with an error or a truncated
+    /// header. The terms about fragments hold of an IPv6 packet if they do of one of its fragment headers.
     ///
     /// `!`, `&&` and `||` are `not`, `and` and `or`. `not` binds most tightly, then `and`; parentheses group. There may
     /// be up to 64 terms and 16 levels of parentheses.

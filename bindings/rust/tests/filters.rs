@@ -134,6 +134,23 @@ fn messages_of_icmp() {
 }
 
 #[test]
+fn two_fragment_headers() {
+    let headers = [44, 0, 0, 1, 0, 0, 0, 7, 17, 0, 3, 0x20, 0, 0, 0, 9];
+    let matching = [
+        "fragment and first-fragment and later-fragment",
+        "id 7 and id 9",
+    ];
+    check(
+        &ipv6(16, 44, &headers),
+        &matching,
+        &["id 8", "not fragment"],
+    );
+    let later = [44, 0, 3, 0x20, 0, 0, 0, 7, 17, 0, 0, 1, 0, 0, 0, 9];
+    let others = ["first-fragment", "id 9"];
+    check(&ipv6(16, 44, &later), &["later-fragment and id 7"], &others);
+}
+
+#[test]
 fn routing_headers() {
     let headers = [43, 0, 2, 1, 0, 0, 0, 0, 59, 0, 0, 5, 0, 0, 0, 0];
     let matching = [

@@ -1,10 +1,9 @@
 -- The extension headers of a packet, and their numbers.
-use Rattle.ip_spec.proofs.Common.{◌≡◌, ℕ, List, [], ◌∷◌, ◌++◌, refl, ◌∙◌, rules, arith, common_steps, bytes_of, ExtHeader, IsChain, IsHeader, Option, None, Some, Bool, true, false, ◌==◌, ◌||◌, ◌&&◌}
-use Rattle.std.proofs.Common.{inl, inr, ◌<◌, ◌*◌, ◌%◌, ◌^◌, bit_or}
+use Rattle.ip_spec.proofs.Common.{◌≡◌, ℕ, List, [], ◌∷◌, ◌++◌, refl, rules, arith, common_steps, bytes_of, ExtHeader, IsChain, IsHeader, Option, None, Some, Bool, true, false, ◌==◌, ◌||◌, ◌&&◌}
+use Rattle.std.proofs.Common.{◌<◌, ◌*◌, ◌%◌, ◌^◌, bit_or}
 use Rattle.std.specs.Int.{bit_at}
 use Rattle.std.proofs.lemmas.Nat.{pow_below}
 use Rattle.std.proofs.lemmas.Nat.Bits.{bit_at_or, bit_at-lt, bit_at-pow_same, bit_at-pow_other}
-use Rattle.std.proofs.lemmas.Bool.{cases_eq}
 use Rattle.ip_spec.specs.Header.{raw, fragment, auth}
 use Rattle.std.specs.List.{list_any}
 use Rattle.ip_base.specs.Ipv4HeaderSlice as ipv4_header
@@ -37,8 +36,8 @@ small_number n b (fragment is x) = omega (arith, is)
 small_number n b (auth is x) = omega (arith, is)
 
 -- One more header.
-number_more : (n : ℕ) (c : List ExtHeader) (h : ExtHeader) → list_any (λ x. x.number == n) (c ++ h ∷ []) ≡ (list_any (λ x. x.number == n) c || (h.number == n))
-number_more n c h = grind (arith, common_steps)
+pub any_more : (q : ExtHeader → Bool) (c : List ExtHeader) (h : ExtHeader) → list_any q (c ++ h ∷ []) ≡ (list_any q c || q h)
+any_more q c h = grind (arith, common_steps)
 
 -- the bit of a number below 64
 pub one_bit : (k w : ℕ) → k < w → 1 * 2 ^ k % 2 ^ w ≡ 2 ^ k
@@ -49,13 +48,6 @@ bit_same m k = rw (bit_at_or m (2 ^ k) k, bit_at-pow_same k) (grind (arith, comm
 
 pub bit_other : (m k n : ℕ) → (n ≡ k → ⊥) → (bit_at (bit_or m (2 ^ k)) n == 1) ≡ (bit_at m n == 1)
 bit_other m k n other = rw (bit_at_or m (2 ^ k) n, bit_at-pow_other k n other) (grind (arith, common_steps))
-
-pub set_more : (m k : ℕ) (b : List ℕ) (c : List ExtHeader) → k < 64 → ((n : ℕ) → n < 64 → (bit_at m n == 1) ≡ list_any (λ h. h.number == n) c)
-    → (n : ℕ) → n < 64 → (bit_at (bit_or m (1 * 2 ^ k % 2 ^ 64)) n == 1) ≡ list_any (λ h. h.number == n) (c ++ record { number = k; bytes = b } ∷ [])
-set_more m k b c small are n less = rw (one_bit k 64 small) (elim (cases_eq n k) [
-  | inl same ↦ rw same (bit_same m k ∙ grind (arith, common_steps, number_more k c (record { number = k; bytes = b })))
-  | inr other ↦ bit_other m k n other ∙ are n less ∙ grind (arith, common_steps, number_more n c (record { number = k; bytes = b }))
-])
 
 -- Without a header of such a number, none has one and passes another test.
 pub none_passes : (asked : ℕ → Bool) (q : ExtHeader → Bool) (c : List ExtHeader) → false ≡ list_any (λ h. asked h.number) c → false ≡ list_any (λ h. asked h.number && q h) c

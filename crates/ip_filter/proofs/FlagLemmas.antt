@@ -1,7 +1,7 @@
 -- The flags of a packet.
 use Rattle.std.proofs.Common.{zero, suc, bit_or, true≢false}
 use mir.Val.{bool_byte}
-use Rattle.ip_spec.proofs.Common.{◌≡◌, ℕ, ◌+◌, ◌<◌, ◌≤◌, ◌*◌, ◌%◌, ◌^◌, inl, inr, refl, sym, ap, ◌∙◌, arith, common_steps, eqb_tells, cases_eq, cases_lt, cases_Bool, bit_and, Bool, true, false, not, ◌==◌, ◌&&◌, ◌||◌, nat_eq, None, option_map_or, Option, ◌⊎◌, or-false, Some}
+use Rattle.ip_spec.proofs.Common.{◌≡◌, ℕ, ◌+◌, ◌<◌, ◌≤◌, ◌*◌, ◌%◌, ◌^◌, inl, inr, refl, sym, ap, ◌∙◌, arith, common_steps, eqb_tells, cases_eq, cases_lt, cases_Bool, bit_and, Bool, true, false, not, ◌==◌, ◌&&◌, ◌||◌, nat_eq, None, option_map_or, Option, ◌⊎◌, or-false, Some, List, [], ◌∷◌, ◌++◌, ExtHeader}
 use Rattle.std.specs.Int.{bit_at}
 use Rattle.std.proofs.lemmas.Bool.{or_parts}
 use Rattle.std.proofs.lemmas.Nat.{and_le_l}
@@ -10,11 +10,11 @@ use Rattle.ip_dissect.specs.Dissection.{DissectedParts}
 use Rattle.ip_dissect.specs.End.{has_error}
 use Rattle.ip_dissect.specs.declared.end.End.{End}
 use Rattle.ip_dissect.specs.declared.end.End.TheVariants as end
-use Rattle.ip_filter.specs.Truth.{is_version, is_truncated, fault_in, kind_index}
-use Rattle.ip_filter.specs.Flags.{known_flag, flag, any_flag}
+use Rattle.ip_filter.specs.Truth.{is_version, is_first_kind, is_later_kind, says_fragment, is_truncated, fault_in, kind_index}
+use Rattle.ip_filter.specs.Flags.{known_flag, header_flag, flag, any_flag}
 use Rattle.ip_filter.specs.declared.term.FaultKind.{FaultKind}
 use Rattle.ip_filter.specs.declared.term.FaultKind.TheVariants as kind
-use Rattle.ip_filter.proofs.FactsLemmas.{one_bit, bit_same, bit_other}
+use Rattle.ip_filter.proofs.FactsLemmas.{one_bit, bit_same, bit_other, any_more}
 
 -- one more flag
 pub flag_set : (m k n b : ℕ) (s : Bool) → k < 64 → b ≡ bool_byte s → (bit_at (bit_or m (b * 2 ^ k % 2 ^ 64)) n == 1) ≡ ((bit_at m n == 1) || ((n == k) && s))
@@ -26,6 +26,28 @@ flag_set m k n b false small is =
     let none : 0 * 2 ^ k ≡ 0 = omega arith in
     let nothing : b * 2 ^ k % 2 ^ 64 ≡ 0 = ap (λ x. x * 2 ^ k % 2 ^ 64) is ∙ ap (λ x. x % 2 ^ 64) none in
     rw nothing (rw (bit_at_or m 0 n, bit_at-zero n) (grind (arith, common_steps, bit_at-lt m n)))
+
+-- one more header
+pub one_more_flag : (n : ℕ) (c : List ExtHeader) (h : ExtHeader) → (((header_flag n c || ((n == h.number) && true)) || ((n == 8) && says_fragment (λ x. is_first_kind x.kind) h)) || ((n == 9) && says_fragment (λ x. is_later_kind x.kind) h)) ≡ header_flag n (c ++ h ∷ [])
+one_more_flag n c h =
+    let turned : (h.number == n) ≡ (n == h.number) = grind (arith, common_steps, eqb_tells) in
+    rw (any_more (λ g. g.number == n) c h, any_more (says_fragment (λ x. is_first_kind x.kind)) c h, any_more (says_fragment (λ x. is_later_kind x.kind)) c h, turned) (grind (arith, common_steps))
+
+-- the flags of headers before those of the versions
+versions_first : (a p q v w : Bool) → ((((a || p) || q) || v) || w) ≡ ((((a || v) || w) || p) || q)
+versions_first a p q v w = grind (arith, common_steps)
+
+kinds_joined : (a p q r s : Bool) → ((((a || p) || q) || r) || s) ≡ ((a || (p || r)) || (q || s))
+kinds_joined a p q r s = grind (arith, common_steps)
+
+distributed : (x f g : Bool) → (x && (f || g)) ≡ ((x && f) || (x && g))
+distributed x f g = grind (arith, common_steps)
+
+pub flags_joined : (a v w x y f l g m : Bool) → ((((((a || (x && f)) || (y && l)) || v) || w) || (x && g)) || (y && m)) ≡ ((((a || v) || w) || (x && (f || g))) || (y && (l || m)))
+flags_joined a v w x y f l g m =
+    ap (λ b. (b || (x && g)) || (y && m)) (versions_first a (x && f) (y && l) v w)
+    ∙ kinds_joined ((a || v) || w) (x && f) (y && l) (x && g) (y && m)
+    ∙ sym (rw (distributed x f g, distributed y l m) refl)
 
 -- The bits w are the flags of a packet with the parts p that the mask m selects.
 module _ (p : DissectedParts) (w m : ℕ) (are : (n : ℕ) → n < 64 → bit_at m n ≡ 1 → (bit_at w n == 1) ≡ flag n p) where

@@ -19,6 +19,7 @@ mod StateLemmas
 mod ReadFormulaLemmas
 mod ParseLemmas
 mod FactsLemmas
+mod FragmentLemmas
 mod FlagLemmas
 mod MaskLemmas
 mod TestLemmas

@@ -6,11 +6,12 @@ use Rattle.std.proofs.lemmas.Nat.Bits.{bit_at_or, bit_at-zero, bit_at-lt, bit_at
 use Rattle.ip_base.specs.Ipv4Header.{version, ipv4_header_len}
 use Rattle.ip_dissect.specs.Dissection.{DissectedParts, dissected, without_base}
 use Rattle.ip_dissect.specs.End.{base_end}
+use Rattle.ip_dissect.specs.Fragment.{ipv4_fragment}
 use Rattle.ip_dissect.specs.declared.end.End.{End}
 use Rattle.ip_dissect.specs.declared.fragment.Fragment.{Fragment}
 use Rattle.ip_dissect.proofs.Ipv4Lemmas.{ipv4_prefix}
 use Rattle.ip_dissect.proofs.LaterLemmas.{chain_to_later-longest}
-use Rattle.ip_filter.specs.Truth.{is_version, is_first_kind, is_later_kind, is_truncated, fault_in, kind_index}
+use Rattle.ip_filter.specs.Truth.{is_version, is_first_kind, is_later_kind, says_fragment, some_fragment, is_truncated, fault_in, kind_index}
 use Rattle.ip_filter.specs.Flags.{flag, any_flag}
 use Rattle.ip_filter.specs.Tests.{meets}
 use Rattle.ip_filter.specs.declared.filter.Test.{Test}
@@ -100,6 +101,23 @@ same_fault : (i : ℕ) (o : Option FaultKind) → option_map_or (λ k. 12 + i ==
 same_fault i None = refl
 same_fault i (Some k) = grind (arith, common_steps, eqb_tells)
 
+-- two conditions on what the headers say about fragmentation
+module _ (q r : Fragment → Bool) where
+  either_header : (c : List ExtHeader) → (list_any (says_fragment q) c || list_any (says_fragment r) c) ≡ list_any (says_fragment (λ x. q x || r x)) c
+  either_header [] = refl
+  either_header (h ∷ c) = grind (arith, common_steps, either_header c)
+
+  either_base : (o : Option Fragment) → (option_map_or q o false || option_map_or r o false) ≡ option_map_or (λ x. q x || r x) o false
+  either_base None = refl
+  either_base (Some x) = refl
+
+  by_version : (four : Bool) (o : Option Fragment) (c : List ExtHeader) → ((if four then option_map_or q o false else list_any (says_fragment q) c) || (if four then option_map_or r o false else list_any (says_fragment r) c)) ≡ (if four then option_map_or (λ x. q x || r x) o false else list_any (says_fragment (λ x. q x || r x)) c)
+  by_version true o c = either_base o
+  by_version false o c = either_header c
+
+  either_fragment : (p : DissectedParts) → (some_fragment q p || some_fragment r p) ≡ some_fragment (λ x. q x || r x) p
+  either_fragment p = by_version (p.version == 4) (ipv4_fragment p.base) p.headers
+
 -- ---- flags
 
 module _ (s : List ℕ) where
@@ -138,24 +156,20 @@ module _ (s : List ℕ) where
   pub other_header : (n : ℕ) → (IsExtensionNumber n → ⊥) → any_flag 64 0 p ≡ list_any (λ h. h.number == n) p.headers
   other_header n none = no_flag p 64 ∙ sym (no_number n none)
 
-  first_flag : flag 8 p ≡ option_map_or (λ x. is_first_kind x.kind) p.fragment false
+  first_flag : flag 8 p ≡ some_fragment (λ x. is_first_kind x.kind) p
   first_flag = rw (no_number 8 (λ is. search rules), no_fault_at 8 (inl (omega arith))) (simp or-false)
 
-  later_flag : flag 9 p ≡ option_map_or (λ x. is_later_kind x.kind) p.fragment false
+  later_flag : flag 9 p ≡ some_fragment (λ x. is_later_kind x.kind) p
   later_flag = rw (no_number 9 (λ is. search rules), no_fault_at 9 (inl (omega arith))) (simp or-false)
 
-  pub first_mask : any_flag 64 (2 ^ 8) p ≡ option_map_or (λ x. is_first_kind x.kind) p.fragment false
+  pub first_mask : any_flag 64 (2 ^ 8) p ≡ some_fragment (λ x. is_first_kind x.kind) p
   first_mask = one_flag p 64 8 (omega arith) ∙ first_flag
 
-  pub later_mask : any_flag 64 (2 ^ 9) p ≡ option_map_or (λ x. is_later_kind x.kind) p.fragment false
+  pub later_mask : any_flag 64 (2 ^ 9) p ≡ some_fragment (λ x. is_later_kind x.kind) p
   later_mask = one_flag p 64 9 (omega arith) ∙ later_flag
 
-  either_kind : (o : Option Fragment) → (option_map_or (λ x. is_first_kind x.kind) o false || option_map_or (λ x. is_later_kind x.kind) o false) ≡ option_map_or (λ x. is_first_kind x.kind || is_later_kind x.kind) o false
-  either_kind None = refl
-  either_kind (Some x) = refl
-
-  pub fragment_mask : any_flag 64 768 p ≡ option_map_or (λ x. is_first_kind x.kind || is_later_kind x.kind) p.fragment false
-  fragment_mask = either_flag p 64 256 512 ∙ ap (λ x. x || any_flag 64 512 p) first_mask ∙ ap (λ y. option_map_or (λ x. is_first_kind x.kind) p.fragment false || y) later_mask ∙ either_kind p.fragment
+  pub fragment_mask : any_flag 64 768 p ≡ some_fragment (λ x. is_first_kind x.kind || is_later_kind x.kind) p
+  fragment_mask = either_flag p 64 256 512 ∙ ap (λ x. x || any_flag 64 512 p) first_mask ∙ ap (λ y. some_fragment (λ x. is_first_kind x.kind) p || y) later_mask ∙ either_fragment (λ x. is_first_kind x.kind) (λ x. is_later_kind x.kind) p
 
   pub incomplete_mask : any_flag 64 (2 ^ 10) p ≡ not (p.missing == 0)
   incomplete_mask = one_flag p 64 10 (omega arith) ∙ rw (no_number 10 (λ is. search rules), no_fault_at 10 (inl (omega arith))) (simp or-false)

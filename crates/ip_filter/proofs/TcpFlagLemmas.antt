@@ -1,8 +1,7 @@
 -- The names of a list of flags.
 use Rattle.std.proofs.Common.{Some, None, suc, ◌+◌}
-use Rattle.ip_spec.proofs.Common.{◌≡◌, ℕ, ◌≤◌, List, [], ◌∷◌, length, take, drop, refl, sym, ap, ◌∙◌, arith, common_steps, nat_tests, inl, inr, cases_eq, ◌<◌, ◌==◌, false, drop_all, length-drop}
-use Rattle.std.specs.Prelude.{bit_or, Option}
-use Rattle.std.specs.Option.{option_and_then}
+use Rattle.ip_spec.proofs.Common.{◌≡◌, ℕ, ◌≤◌, List, [], ◌∷◌, length, take, drop, refl, ap, ◌∙◌, arith, common_steps, nat_tests, inl, inr, cases_eq, ◌<◌, ◌==◌, false, drop_all, length-drop}
+use Rattle.std.specs.Prelude.{bit_or}
 use Rattle.ip_filter.specs.Words.{Word}
 use Rattle.ip_filter.specs.Numbers.{index_of, names_in, with_letter, with_flags, tcp_flag_of}
 

@@ -1,15 +1,27 @@
--- Tests of a code, of segments left, and of a quantity.
-use Rattle.ip_spec.proofs.Common.{◌≡◌, ℕ, refl, ◌∙◌, false, ◌==◌, Some, option_map_or, list_any}
+-- Tests whose kind determines what they ask.
+use Rattle.ip_spec.proofs.Common.{◌≡◌, ℕ, refl, ◌∙◌, false, ◌==◌, ◌||◌, Some, option_map_or, list_any}
 use Rattle.ip_dissect.specs.Dissection.{DissectedParts}
 use Rattle.ip_filter.specs.declared.term.Comparison.{Comparison}
 use Rattle.ip_filter.specs.declared.term.Quantity.{Quantity}
+use Rattle.ip_filter.specs.declared.term.Ports.{Ports}
 use Rattle.ip_filter.specs.declared.filter.Test.{Test}
 use Rattle.ip_filter.specs.HeaderFields.{has_segments_left}
-use Rattle.ip_filter.specs.Transport.{icmp_byte}
-use Rattle.ip_filter.specs.Truth.{compares, quantity_of}
+use Rattle.ip_filter.specs.Transport.{source_port, destination_port, are_among, icmp_byte}
+use Rattle.ip_filter.specs.Truth.{compares, some_fragment, quantity_of}
 use Rattle.ip_filter.specs.Tests.{meets, compared, comparison_in}
 
--- a test of the code of ICMP
+-- a test of an identification
+pub by_identification : (x : Test) (n : ℕ) (p : DissectedParts) → x.kind ≡ 7 → x.number ≡ n → meets x p ≡ some_fragment (λ y. y.identification == n) p
+by_identification x n p kind number = rw (kind, number) refl
+
+-- a test of either port
+pub by_port : (x : Test) (r : Ports) (p : DissectedParts) → x.kind ≡ 18 → x.number ≡ r.first → x.address_low ≡ r.last → meets x p ≡ (option_map_or (are_among r) (source_port p) false || option_map_or (are_among r) (destination_port p) false)
+by_port x r p kind first last = rw (kind, first, last) refl
+
+-- a test of the type of ICMP, and of its code
+pub by_icmp_type : (x : Test) (n : ℕ) (p : DissectedParts) → x.kind ≡ 20 → x.number ≡ n → meets x p ≡ option_map_or (λ y. y == n) (icmp_byte 0 p) false
+by_icmp_type x n p kind number = rw (kind, number) refl
+
 pub by_icmp_code : (x : Test) (n : ℕ) (p : DissectedParts) → x.kind ≡ 21 → x.number ≡ n → meets x p ≡ option_map_or (λ y. y == n) (icmp_byte 1 p) false
 by_icmp_code x n p kind number = rw (kind, number) refl
 

@@ -4,7 +4,7 @@ use Rattle.std.specs.List.{list_any}
 use Rattle.std.specs.Option.{option_map, option_map_or}
 use Rattle.ip_dissect.specs.Dissection.{DissectedParts, dissected}
 use Rattle.ip_filter.specs.Transport.{source_port, destination_port, lacks_ports, icmp_byte, tcp_flags}
-use Rattle.ip_filter.specs.Truth.{compares, has_base, has_source, has_destination, quantity_of}
+use Rattle.ip_filter.specs.Truth.{compares, has_base, has_source, has_destination, some_fragment, quantity_of}
 use Rattle.ip_filter.specs.HeaderFields.{has_spi, has_routing_type, has_segments_left}
 use Rattle.ip_filter.specs.Flags.{any_flag}
 use Rattle.ip_filter.specs.declared.network.Network.{Network}
@@ -55,7 +55,7 @@ meets x p =
     else if x.kind == 4 then compared x ChainBytes p
     else if x.kind == 5 then compared x Payload p
     else if x.kind == 6 then list_any (has_spi x.number) p.headers
-    else if x.kind == 7 then option_map_or (λ y. y.identification == x.number) p.fragment false
+    else if x.kind == 7 then some_fragment (λ y. y.identification == x.number) p
     else if x.kind == 8 then option_map_or (λ n. has_source n p) (network_in x) false
     else if x.kind == 9 then option_map_or (λ n. has_destination n p) (network_in x) false
     else if x.kind == 10 then option_map_or (λ n. has_source n p || has_destination n p) (network_in x) false

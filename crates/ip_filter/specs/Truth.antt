@@ -3,7 +3,7 @@ use Rattle.std.specs.Prelude.{ℕ, List, length, Bool, true, false, not, ◌==�
 use Rattle.std.specs.Int.{from_be_bytes, w32, w128}
 use Rattle.std.specs.List.{list_any}
 use Rattle.std.specs.Option.{option_map_or}
-use Rattle.ip_spec.specs.Chain.{bytes_of}
+use Rattle.ip_spec.specs.Chain.{ExtHeader, bytes_of}
 use Rattle.ip_base.specs.Ipv4Header.{ipv4_source_octets, ipv4_destination_octets}
 use Rattle.ip_base.specs.Ipv6Header.{ipv6_source_octets, ipv6_destination_octets}
 use Rattle.ip_base.specs.declared.err.ipv6_exts.header_error.HeaderError.TheVariants.{HopByHopNotAtStart, IpAuth}
@@ -12,6 +12,8 @@ use Rattle.ip_base.specs.declared.err.ip.headers_error.HeadersError.TheVariants.
 use Rattle.ip_base.specs.declared.err.ip.slice_error.SliceError.{SliceError}
 use Rattle.ip_base.specs.declared.err.ip.slice_error.SliceError.TheVariants.{Len, IpHeaders}
 use Rattle.ip_dissect.specs.Dissection.{DissectedParts}
+use Rattle.ip_dissect.specs.Fragment.{is_fragment_header, fragment_of, ipv4_fragment}
+use Rattle.ip_dissect.specs.declared.fragment.Fragment.{Fragment}
 use Rattle.ip_dissect.specs.declared.fragment.FragmentKind.{FragmentKind}
 use Rattle.ip_dissect.specs.declared.fragment.FragmentKind.TheVariants.{First, Middle, Last}
 use Rattle.ip_dissect.specs.declared.end.End.{End}
@@ -53,6 +55,17 @@ abbrev pub is_later_kind : FragmentKind → Bool
 is_later_kind Middle = true
 is_later_kind Last = true
 is_later_kind k = false
+
+-- q is true of what a fragment header says
+abbrev pub says_fragment : (Fragment → Bool) → ExtHeader → Bool
+says_fragment q h = is_fragment_header h && q (fragment_of h)
+
+-- q is true of what the base header of an IPv4 packet says (RFC 791, section 3.1), or one of the fragment headers of an IPv6
+-- packet (RFC 8200, section 4.5), which may have several
+abbrev pub some_fragment : (Fragment → Bool) → DissectedParts → Bool
+some_fragment q p =
+    if p.version == 4 then option_map_or q (ipv4_fragment p.base) false
+    else list_any (says_fragment q) p.headers
 
 abbrev pub is_truncated : End → Bool
 is_truncated (end.Truncated e header) = true
@@ -116,9 +129,9 @@ abbrev pub holds : Term → DissectedParts → Bool
 holds (term.Version v) p = is_version v p
 holds (term.Header n) p = list_any (λ h. h.number == n) p.headers
 holds (term.LeadsTo n) p = has_base p && (p.number == n)
-holds term.Fragment p = option_map_or (λ x. is_first_kind x.kind || is_later_kind x.kind) p.fragment false
-holds term.FirstFragment p = option_map_or (λ x. is_first_kind x.kind) p.fragment false
-holds term.LaterFragment p = option_map_or (λ x. is_later_kind x.kind) p.fragment false
+holds term.Fragment p = some_fragment (λ x. is_first_kind x.kind || is_later_kind x.kind) p
+holds term.FirstFragment p = some_fragment (λ x. is_first_kind x.kind) p
+holds term.LaterFragment p = some_fragment (λ x. is_later_kind x.kind) p
 holds term.Truncated p = is_truncated p.end
 holds term.Incomplete p = not (p.missing == 0)
 holds term.Fault p = is_some (fault_in p.end)
@@ -127,7 +140,7 @@ holds (term.Compared q c n) p = option_map_or (λ x. compares c x n) (quantity_o
 holds (term.SecurityParameters i) p = list_any (has_spi i) p.headers
 holds (term.RoutingType n) p = list_any (has_routing_type n) p.headers
 holds (term.SegmentsLeft c n) p = list_any (has_segments_left (λ x. compares c x n)) p.headers
-holds (term.Identification i) p = option_map_or (λ x. x.identification == i) p.fragment false
+holds (term.Identification i) p = some_fragment (λ x. x.identification == i) p
 holds (term.Source n) p = has_source n p
 holds (term.Destination n) p = has_destination n p
 holds (term.Either n) p = has_source n p || has_destination n p

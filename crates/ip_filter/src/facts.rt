@@ -1,5 +1,5 @@
 //! What tests ask of a packet.
-ghost use Rattle.std.specs.Prelude.{◌≡◌, true};
+ghost use Rattle.std.specs.Prelude.{◌≡◌, ◌==◌, true};
 ghost use Rattle.std.specs.List.{list_any};
 ghost use Rattle.ip_dissect.specs.Dissection.{dissected};
 ghost use Rattle.ip_dissect.specs.Outline.{is_plain};
@@ -7,7 +7,7 @@ ghost use Rattle.ip_filter.specs.Flags.{AreKnown, any_flag};
 ghost use Rattle.ip_filter.specs.Facts.{first_number};
 ghost use Rattle.ip_filter.specs.HeaderConditions.{meets_condition};
 ghost use Rattle.ip_filter.specs.Truth.{is_first_kind, is_later_kind, fault_kind, fault_in, is_truncated};
-ghost use Rattle.ip_filter.specs.Truth.{has_source, has_destination};
+ghost use Rattle.ip_filter.specs.Truth.{has_source, has_destination, some_fragment};
 
 use crate::flags::{Flags, mask};
 use crate::header_condition::{HeaderCondition, any_header};
@@ -69,6 +69,22 @@ impl<'a> Facts<'a> {
                 self.packet.extensions(),
                 condition,
             )
+    }
+
+    /// Returns whether the base header of an IPv4 packet has the identification, or a fragment header of an IPv6 packet.
+    /// Walks the extension headers again if there are several.
+    #[inline(always)]
+    pub(crate) fn has_identification(&self, number: u64) -> bool
+        ensures { result ≡ some_fragment (λ x. x.identification == number)
+            (dissected self.now.packet.bytes.now) }
+    {
+        if self.packet.outline.header_count > 1 {
+            return self.has_header(HeaderCondition::Identification(number));
+        }
+        match self.packet.outline.fragment {
+            Some(fragment) => u64::from(fragment.identification) == number,
+            None => false,
+        }
     }
 
     /// Returns whether the source address of the packet lies in the network.

@@ -2,14 +2,17 @@
 ghost use Rattle.std.specs.Prelude.{◌≡◌, ◌<◌, ◌+◌, ◌==◌, ◌&&◌, ◌||◌, ℕ, List, [], false};
 ghost use Rattle.std.specs.Int.{bit_at};
 ghost use Rattle.std.specs.Option.{option_map_or};
+ghost use Rattle.ip_spec.specs.Header.{IsHeader};
 ghost use Rattle.ip_dissect.specs.Dissection.{DissectedParts, dissected};
-ghost use Rattle.ip_filter.specs.Truth.{is_first_kind, is_later_kind, is_truncated, fault_in, kind_index};
+ghost use Rattle.ip_filter.specs.Truth.{is_first_kind, is_later_kind, says_fragment, is_truncated, fault_in, kind_index};
+ghost use Rattle.ip_filter.specs.Flags.{base_fragment};
 
 use crate::FaultKind;
 use crate::facts::{fault_in, is_first_kind, is_later_kind, is_truncated};
 use crate::holds::kind_index;
-use ip_base::IpNumber;
-use ip_dissect::{End, Fragment, HeaderVisitor, Packet};
+use ip_base::{IpNumber, ip_number};
+use ip_dissect::{End, Fragment, HeaderVisitor, Outline, Packet};
+use ip_ext_headers::Ipv6FragmentHeaderSlice;
 
 /// The places of flags. That of an extension header is its number.
 pub(crate) mod place {
@@ -48,6 +51,8 @@ pub(crate) mod mask {
 
     pub const ROUTING: u64 = 1 << ip_number::IPV6_ROUTE.0;
 
+    pub const FRAGMENT: u64 = 1 << ip_number::IPV6_FRAG.0;
+
     pub const AUTHENTICATION: u64 = 1 << ip_number::AUTH.0;
 
     /// All kinds of faults.
@@ -64,12 +69,12 @@ pub(crate) struct Flags {
 }
 
 impl Flags {
-    ghost use Rattle.ip_filter.specs.Flags.{AreFlags, AreKnown, AreNumbersIn, any_flag};
+    ghost use Rattle.ip_filter.specs.Flags.{AreFlags, AreKnown, AreOfHeaders, any_flag};
 
     /// Returns the flags of no headers.
     #[inline(always)]
     pub(crate) fn none() -> Flags
-        ensures { AreNumbersIn [] result }
+        ensures { AreOfHeaders [] result }
     {
         Flags { bits: 0 }
     }
@@ -77,13 +82,13 @@ impl Flags {
     /// Returns these flags of a packet's extension headers, and the packet's other flags, but for errors.
     #[inline(always)]
     pub(crate) fn of(self, packet: &Packet<'_>) -> Flags
-        requires { AreNumbersIn (dissected packet.now.bytes.now).headers self }
+        requires { AreOfHeaders (dissected packet.now.bytes.now).headers self }
         ensures { AreKnown (dissected packet.now.bytes.now) result }
     {
         let outline = &packet.outline;
         self.with(place::IPV4, outline.version == 4)
             .with(place::IPV6, outline.version == 6)
-            .with_fragment(outline.fragment)
+            .with_fragment(base_fragment(outline))
             .with(place::INCOMPLETE, outline.missing != 0)
     }
 
@@ -145,15 +150,50 @@ impl Flags {
 }
 
 impl HeaderVisitor for Flags {
-    ghost use Rattle.ip_filter.specs.Flags.{AreNumbersIn};
+    ghost use Rattle.ip_filter.specs.Flags.{AreOfHeaders};
 
-    ghost visited = { λ old k c new. AreNumbersIn [] old → AreNumbersIn c new };
+    ghost visited = { λ old k c new. AreOfHeaders [] old → AreOfHeaders c new };
 
     ghost none = { λ v k e. e };
 
     #[inline(always)]
-    #[tactic(auto, using(crate::proofs::FactsLemmas::set_more, crate::proofs::FactsLemmas::small_number))]
-    fn visit(&mut self, number: IpNumber, _header: &[u8], _index: usize, _offset: usize) {
-        self.bits |= 1 << number.0;
+    fn visit(&mut self, number: IpNumber, header: &[u8], _index: usize, _offset: usize) {
+        let (is_first, is_later) = kinds_in(number, header);
+        *self = self
+            .with(number.0, true)
+            .with(place::FIRST_FRAGMENT, is_first)
+            .with(place::LATER_FRAGMENT, is_later);
+    }
+}
+
+/// Returns which fragment an IPv4 packet is by its base header.
+#[inline(always)]
+fn base_fragment(outline: &Outline) -> Option<Fragment>
+    ensures { result ≡ base_fragment outline.now }
+{
+    match outline.fragment {
+        Some(fragment) if outline.version == 4 => Some(fragment),
+        _ => None,
+    }
+}
+
+/// Returns whether a header is a fragment header of a first one, and of a later one.
+#[inline(always)]
+fn kinds_in(number: IpNumber, header: &[u8]) -> (bool, bool)
+    requires { IsHeader number.0 header.now }
+    ensures first { result.0 ≡ says_fragment (λ x. is_first_kind x.kind)
+        (record { number = number.0; bytes = header.now }) }
+    ensures later { result.1 ≡ says_fragment (λ x. is_later_kind x.kind)
+        (record { number = number.0; bytes = header.now }) }
+{
+    if number != ip_number::IPV6_FRAG {
+        return (false, false);
+    }
+    match Ipv6FragmentHeaderSlice::from_slice(header) {
+        Ok(header) => {
+            let is_later = header.fragment_offset().value() != 0;
+            (!is_later && header.more_fragments(), is_later)
+        }
+        Err(_) => (false, false),
     }
 }

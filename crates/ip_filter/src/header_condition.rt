@@ -5,7 +5,7 @@ ghost use Rattle.ip_ext_slices.specs.Longest.{longest_chain};
 ghost use Rattle.ip_ext_slices.specs.Ipv6ExtensionSlice.{header_of};
 ghost use Rattle.ip_dissect.specs.Dissection.{dissected};
 ghost use Rattle.ip_filter.specs.Flags.{any_flag};
-ghost use Rattle.ip_filter.specs.Truth.{compares};
+ghost use Rattle.ip_filter.specs.Truth.{compares, says_fragment};
 ghost use Rattle.ip_filter.specs.HeaderFields.{has_spi, has_routing_type, has_segments_left};
 ghost use Rattle.ip_filter.specs.HeaderConditions.{is_asked, meets_condition};
 
@@ -23,6 +23,8 @@ pub(crate) enum HeaderCondition {
     RoutingType(u64),
     /// A routing header whose segments left compare so.
     SegmentsLeft(Comparison, u64),
+    /// A fragment header with this identification.
+    Identification(u64),
 }
 
 impl HeaderCondition {
@@ -36,6 +38,7 @@ impl HeaderCondition {
             HeaderCondition::SecurityParameters(_) => mask::AUTHENTICATION,
             HeaderCondition::RoutingType(_) => mask::ROUTING,
             HeaderCondition::SegmentsLeft(_, _) => mask::ROUTING,
+            HeaderCondition::Identification(_) => mask::FRAGMENT,
         }
     }
 
@@ -49,6 +52,7 @@ impl HeaderCondition {
             HeaderCondition::SegmentsLeft(comparison, number) => {
                 has_segments_left(header, comparison, number)
             }
+            HeaderCondition::Identification(number) => has_identification(header, number),
         }
     }
 }
@@ -71,6 +75,16 @@ fn has_spi(header: &Ipv6ExtensionSlice<'_>, spi: u64) -> bool
 {
     match header {
         Ipv6ExtensionSlice::Authentication(header) => u64::from(header.spi()) == spi,
+        _ => false,
+    }
+}
+
+/// Returns whether the header is a fragment header with the identification.
+fn has_identification(header: &Ipv6ExtensionSlice<'_>, number: u64) -> bool
+    ensures { result ≡ says_fragment (λ x. x.identification == number) (header_of header.now) }
+{
+    match header {
+        Ipv6ExtensionSlice::Fragment(header) => u64::from(header.identification()) == number,
         _ => false,
     }
 }

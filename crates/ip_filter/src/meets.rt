@@ -90,10 +90,7 @@ impl Test {
                 }
                 None => false,
             },
-            kind::IDENTIFICATION => match outline.fragment {
-                Some(fragment) => u64::from(fragment.identification) == self.number,
-                None => false,
-            },
+            kind::IDENTIFICATION => facts.has_identification(self.number),
             kind::SOURCE => match self.network() {
                 Some(network) => facts.has_source(network),
                 None => false,

@@ -82,7 +82,8 @@ pub enum Term {
     Header(u8),
     /// This number follows the headers, whether or not there is an error.
     LeadsTo(u8),
-    /// The packet is a fragment: the first, a middle or the last one. An atomic fragment is none of them.
+    /// The packet is a fragment: the first, a middle or the last one. An atomic fragment is none of them. Of an IPv6
+    /// packet, each fragment header is asked.
     Fragment,
     /// The packet is a first fragment.
     FirstFragment,
@@ -104,7 +105,7 @@ pub enum Term {
     RoutingType(u8),
     /// The segments left field of a routing header compares so (RFC 8200, section 4.4).
     SegmentsLeft(Comparison, u64),
-    /// The packet has a fragment header, or is a fragment, with this identification.
+    /// A fragment header of an IPv6 packet has this identification, or an IPv4 packet, which is a fragment.
     Identification(u32),
     /// The source address lies in the network.
     Source(Network),

@@ -10,6 +10,8 @@ mod filter_texts;
 #[cfg(test)]
 mod filters;
 #[cfg(test)]
+mod fragment_headers;
+#[cfg(test)]
 mod lengths_that_lie;
 #[cfg(test)]
 mod long_formulas;

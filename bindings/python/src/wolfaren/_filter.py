@@ -57,7 +57,8 @@ class Filter:
                                              flag or several with commas between: fin, syn, rst, psh, ack, urg, ece, cwr
 
     TCP, UDP, UDP-Lite, SCTP and DCCP have ports. Ports, types, codes and flags of TCP are read from the payload, so
-    extension headers may precede them. A later fragment has none, nor has a packet with an error or a truncated header.
+    extension headers may precede them. A later fragment has none, nor has a packet with an error or a truncated header. The
+    terms about fragments hold of an IPv6 packet if they do of one of its fragment headers.
 
     Numbers are decimal, or hexadecimal after 0x. Raises `FilterError`, a `ValueError`, for any other text.
 

@@ -1,4 +1,4 @@
-use Rattle.ip_spec.proofs.Common.{◌∙◌, ap, sym, rules}
+use Rattle.ip_spec.proofs.Common.{◌∙◌, ap, sym}
 use Rattle.std.specs.List.{list_any}
 use Rattle.ip_ext_slices.specs.Longest.{longest_chain}
 use Rattle.ip_dissect.specs.Dissection.{dissected}

@@ -2,7 +2,7 @@ use Rattle.ip_spec.proofs.Common.{rules, sym, ap, ◌∙◌}
 use Rattle.ip_dissect.specs.Dissection.{dissected}
 use Rattle.ip_filter.specs.Truth.{holds}
 use Rattle.ip_filter.proofs.MaskLemmas.{by_flags, fragment_mask, first_mask, later_mask, truncated_mask, incomplete_mask, faults_mask}
-use Rattle.ip_filter.proofs.TestLemmas.{by_icmp_code, by_segments_left}
+use Rattle.ip_filter.proofs.TestLemmas.{by_identification, by_port, by_icmp_type, by_icmp_code, by_segments_left}
 use Rattle.ip_filter.proofs.filter.Test.of.Goals as goal
 
 pub returns-in-Fragment-clause-meets : goal.returns-in-Fragment-clause-meets
@@ -30,3 +30,14 @@ pub returns-in-SegmentsLeft-clause-meets : goal.returns-in-SegmentsLeft-clause-m
 returns-in-SegmentsLeft-clause-meets c =
     let is = c.of_segments_left.ensures in
     λ s. by_segments_left c.of_segments_left.result c.in-SegmentsLeft.comparison c.in-SegmentsLeft.number (dissected s) is.kind is.comparison is.number ∙ ap (λ t. holds t (dissected s)) (sym c.in-SegmentsLeft.is)
+
+pub returns-in-Identification-clause-meets : goal.returns-in-Identification-clause-meets
+returns-in-Identification-clause-meets c = λ s. by_identification c.of_number-in-Identification.result c.in-Identification.identification (dissected s) c.of_number-in-Identification.ensures.kind (search rules) ∙ ap (λ t. holds t (dissected s)) (sym c.in-Identification.is)
+
+pub returns-in-Port-clause-meets : goal.returns-in-Port-clause-meets
+returns-in-Port-clause-meets c =
+    let is = c.of_ports-in-Port.ensures in
+    λ s. by_port c.of_ports-in-Port.result c.in-Port.ports (dissected s) is.kind is.first is.last ∙ ap (λ t. holds t (dissected s)) (sym c.in-Port.is)
+
+pub returns-in-IcmpType-clause-meets : goal.returns-in-IcmpType-clause-meets
+returns-in-IcmpType-clause-meets c = λ s. by_icmp_type c.of_number-in-IcmpType.result c.in-IcmpType.number (dissected s) c.of_number-in-IcmpType.ensures.kind (search rules) ∙ ap (λ t. holds t (dissected s)) (sym c.in-IcmpType.is)

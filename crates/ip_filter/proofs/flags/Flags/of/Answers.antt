@@ -1,6 +1,9 @@
-use Rattle.ip_spec.proofs.Common.{arith, common_steps, ap, rules}
+use Rattle.ip_spec.proofs.Common.{arith, ap, ◌∙◌, rules, ◌||◌, ◌&&◌, ◌==◌, not, list_any}
 use Rattle.ip_dissect.specs.Dissection.{dissected}
-use Rattle.ip_filter.proofs.FlagLemmas.{of_version}
+use Rattle.ip_filter.specs.Truth.{is_first_kind, is_later_kind}
+use Rattle.ip_filter.specs.Flags.{base_fragment}
+use Rattle.ip_filter.proofs.FlagLemmas.{of_version, flags_joined}
+use Rattle.ip_filter.proofs.FragmentLemmas.{by_headers}
 use Rattle.ip_filter.proofs.flags.Flags.of.Goals as goal
 
 pub returns : goal.returns
@@ -15,7 +18,9 @@ returns c = λ n less.
       c.requires n less,
       of_version packet.outline.version 4 p (search rules) (omega arith),
       of_version packet.outline.version 6 p (search rules) (omega arith),
-      ap (λ o. o.fragment) packet.outline_is,
+      c.base_fragment.ensures ∙ ap base_fragment packet.outline_is,
       ap (λ o. o.missing) packet.outline_is,
+      by_headers (λ x. is_first_kind x.kind) packet.bytes.now,
+      by_headers (λ x. is_later_kind x.kind) packet.bytes.now,
     )
-    (grind (arith, common_steps))
+    (ap (λ b. b || ((n == 10) && not (p.missing == 0))) (flags_joined (list_any (λ h. h.number == n) p.headers) _ _ (n == 8) (n == 9) _ _ _ _))

@@ -1,5 +1,5 @@
 use Rattle.ip_spec.proofs.Common.{◌∙◌, ap, sym, rules, list_any}
-use Rattle.ip_spec.specs.Numbers.{ROUTING, AUTHENTICATION}
+use Rattle.ip_spec.specs.Numbers.{ROUTING, FRAGMENT, AUTHENTICATION}
 use Rattle.ip_dissect.specs.Dissection.{dissected}
 use Rattle.ip_filter.specs.HeaderConditions.{is_asked}
 use Rattle.ip_filter.proofs.MaskLemmas.{header_mask}
@@ -13,3 +13,6 @@ returns-in-RoutingType c = λ s. header_mask s ROUTING (search rules) ∙ ap (λ
 
 pub returns-in-SegmentsLeft : goal.returns-in-SegmentsLeft
 returns-in-SegmentsLeft c = λ s. header_mask s ROUTING (search rules) ∙ ap (λ x. list_any (λ h. is_asked x h.number) (dissected s).headers) (sym c.in-SegmentsLeft.is)
+
+pub returns-in-Identification : goal.returns-in-Identification
+returns-in-Identification c = λ s. header_mask s FRAGMENT (search rules) ∙ ap (λ x. list_any (λ h. is_asked x h.number) (dissected s).headers) (sym c.in-Identification.is)

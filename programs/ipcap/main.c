@@ -12,7 +12,7 @@ static const char usage[] =
     "       ipcap filter [OPTION..] -r FILE COND\n"
     "       ipcap filter --show COND\n"
     "       ipcap filter --help-terms\n"
-    "       ipcap show [-c N] [--color=WHEN | --one-line | --json] [FILE]\n"
+    "       ipcap show [-c N] [--color=WHEN | --one-line | --json | --csv] [FILE]\n"
     "       ipcap --help | --version\n"
     "Counts, filters and draws chains of IP extension headers in captures.\n"
     "See `ipcap COMMAND --help` for each command, and the manual page ipcap(1).\n";

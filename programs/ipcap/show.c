@@ -12,16 +12,18 @@
 #include "drawing.h"
 #include "input.h"
 #include "options.h"
+#include "record.h"
 #include "report.h"
 #include "title.h"
 
 static const char usage[] =
-    "usage: ipcap show [-c N] [--color=WHEN | --one-line | --json] [FILE]\n"
+    "usage: ipcap show [-c N] [--color=WHEN | --one-line | --json | --csv] [FILE]\n"
     "Draws each IP packet of FILE, or standard input, with its chain of extension headers.\n"
     "  -c N          stop after N packets\n"
     "  --color=WHEN  use colours `always`, `never`, or `auto`: only on a terminal (default)\n"
     "  --one-line    print only the first line of each packet\n"
     "  --json        print each packet as a line with a JSON object\n"
+    "  --csv         print a line of names, and each packet as a line of values, separated by commas\n"
     "  --help        print this help\n"
     "  --version     print the version\n";
 
@@ -61,6 +63,7 @@ struct request {
     bool in_color;
     bool is_one_line;
     bool json;
+    bool csv;
     uint64_t most; /* how many packets are shown at most */
 };
 
@@ -68,8 +71,8 @@ struct request {
 static void write_packet(const struct request *request, const struct capture *capture, const struct packet *packet,
                          const struct parts *parts, uint64_t shown)
 {
-    if (request->json) {
-        print_object(capture, packet, parts);
+    if (request->json || request->csv) {
+        (request->json ? print_object : print_row)(capture, packet, parts);
         return;
     }
     if (shown > 0 && !request->is_one_line) putchar('\n');
@@ -95,6 +98,7 @@ static bool show_capture(const struct request *request, const char *path)
     bool is_shown = true;
     uint64_t shown = 0;
     if (!open_input(&input, path)) return false;
+    if (request->csv) print_names();
     while (is_shown && shown < request->most && read_packet(&input.capture, &packet))
         is_shown = show_packet(request, &input.capture, &packet, &parts, &shown);
     free_parts(&parts);
@@ -107,6 +111,7 @@ static const struct option_row options[] = {
     {"color", read_color, offsetof(struct request, in_color), "always, never or auto"},
     {"one-line", set_flag, offsetof(struct request, is_one_line), NULL},
     {"json", set_flag, offsetof(struct request, json), NULL},
+    {"csv", set_flag, offsetof(struct request, csv), NULL},
 };
 
 int run_show(int count, char **arguments)
@@ -115,6 +120,7 @@ int run_show(int count, char **arguments)
     int status = read_options(count, arguments, usage, options, sizeof options / sizeof *options, &request);
     if (status >= 0) return status;
     if (count - optind > 1) return refuse_usage(usage, "show reads only one file");
-    if (request.json && request.is_one_line) return refuse_usage(usage, "--json and --one-line exclude each other");
+    if (request.json + request.csv + request.is_one_line > 1)
+        return refuse_usage(usage, "--one-line, --json and --csv exclude each other");
     return show_capture(&request, optind < count ? arguments[optind] : NULL) ? STATUS_DONE : STATUS_FAILED;
 }

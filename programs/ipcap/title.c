@@ -8,8 +8,6 @@
 
 #include "chain_key.h"
 
-enum { TIME_ROOM = 64 };
-
 /* Whether RFC 3339 has a form for a time, which then is stored as a date. Its years have four digits. */
 static bool has_date(const struct timespec *time, struct tm *date)
 {
@@ -18,11 +16,7 @@ static bool has_date(const struct timespec *time, struct tm *date)
     return date->tm_year >= FIRST_YEAR - EPOCH && date->tm_year <= LAST_YEAR - EPOCH;
 }
 
-/*
- * Formats the time of a packet as in RFC 3339, with as many digits as the capture has. A time that has no such form is
- * formatted as the number of seconds since the epoch.
- */
-static void write_time(const struct capture *capture, const struct packet *packet, char text[TIME_ROOM])
+void write_time(const struct capture *capture, const struct packet *packet, char text[TIME_ROOM])
 {
     struct timespec time = time_of(capture, packet);
     struct tm date;
@@ -51,13 +45,12 @@ static void write_address(const struct parts *parts, bool is_destination, char t
     if (!inet_ntop(addresses[version].family, parts->bytes + offset, text, INET6_ADDRSTRLEN)) *text = '\0';
 }
 
-static uint32_t frame_len(const struct packet *packet)
+uint32_t frame_len(const struct packet *packet)
 {
     return packet->header.len > packet->header.caplen ? packet->header.len : packet->header.caplen;
 }
 
-/* Writes the addresses of a packet with an IP header, in the given format. */
-__attribute__((format(printf, 2, 0))) static void print_addresses(const struct parts *parts, const char *format)
+void print_addresses(const struct parts *parts, const char *format)
 {
     char source[INET6_ADDRSTRLEN], destination[INET6_ADDRSTRLEN];
     if (parts->packet.version == 0) return;
@@ -95,53 +88,4 @@ void print_title(const struct capture *capture, const struct packet *packet, con
     }
     printf(", IP at %zu: ", packet->ip_offset);
     print_chain(parts);
-}
-
-static void print_fault(const struct wolfaren_fault *fault)
-{
-    printf(",\"fault\":{\"required_len\":%zu,\"len\":%zu,\"offset\":%zu,\"kind\":%d,\"header\":%d,\"layer\":%d,"
-           "\"len_source\":%d,\"value\":%" PRIu32 "}",
-           fault->required_len, fault->len, fault->offset, fault->kind, fault->header, fault->layer, fault->len_source,
-           fault->value);
-}
-
-static void print_headers(const struct parts *parts)
-{
-    fputs(",\"headers\":[", stdout);
-    for (size_t i = 0; i < parts->packet.headers; i++) {
-        const struct wolfaren_header *header = &parts->headers[i];
-        printf("%s{\"offset\":%zu,\"len\":%zu,\"number\":%d,\"next_header\":%d}", i > 0 ? "," : "", header->offset,
-               header->len, header->number, header->next_header);
-    }
-    putchar(']');
-}
-
-/* Writes the members for the fields of a dissection. */
-static void print_dissection(const struct parts *parts)
-{
-    const struct wolfaren_dissection *of = &parts->packet;
-    printf(",\"version\":%d,\"base_len\":%zu,\"stated_len\":%zu", of->version, of->base_len, of->stated_len);
-    print_headers(parts);
-    printf(",\"payload_number\":%d,\"payload_offset\":%zu,\"payload_len\":%zu,\"missing\":%zu,\"padding\":%zu",
-           of->payload_number, of->payload_offset, of->payload_len, of->missing, of->padding);
-    printf(",\"fragment\":%d,\"identification\":%" PRIu32 ",\"fragment_offset\":%" PRIu32 ",\"end\":%d", of->fragment,
-           of->identification, of->fragment_offset, of->end);
-    print_fault(&of->fault);
-}
-
-void print_object(const struct capture *capture, const struct packet *packet, const struct parts *parts)
-{
-    char time[TIME_ROOM];
-    printf("{\"packet\":%" PRIu64, capture->number);
-    if (packet->has_time) {
-        write_time(capture, packet, time);
-        printf(",\"time\":\"%s\"", time);
-    }
-    printf(",\"frame_len\":%u,\"captured_len\":%u", frame_len(packet), packet->header.caplen);
-    if (packet->is_ip) {
-        printf(",\"ip_offset\":%zu", packet->ip_offset);
-        print_addresses(parts, ",\"src\":\"%s\",\"dst\":\"%s\"");
-        print_dissection(parts);
-    }
-    puts("}");
 }

@@ -41,6 +41,7 @@ GROUPS = [("link layers", test_link_layers.link_layers), ("short frames", test_l
           ("options of tcpdump", test_filter.as_tcpdump), ("wrong conditions", test_filter.wrong_conditions),
           ("conditions and outputs that are refused", test_filter.what_is_refused), ("drawings", test_show.drawings),
           ("packets in lines", test_show.lines), ("packets in JSON", test_show.objects),
+          ("packets in rows", test_show.rows),
           ("large offsets", test_show.large_offsets),
           ("places of faults", test_show.places_of_faults), ("long packets", test_show.long_packets),
           ("colours", test_show.colors), ("help and version", test_use.helps), ("completions", test_completion.completions), ("wrong usage", test_use.wrong_usage),

@@ -1,5 +1,6 @@
 """Tests of `ipcap show`."""
 
+import csv
 import json
 
 from captures import *
@@ -114,6 +115,30 @@ def objects(harness):
     harness.equal([json.loads(line) for line in found.splitlines()], wanted, "objects")
     found = harness.run("show", "--json", "-c", "1", content=capture([ethernet(ipv6_chain([60] * 100))]))[1]
     harness.equal(len(json.loads(found)["headers"]), 100, "all headers")
+
+
+def rows(harness):
+    """--csv prints the members of --json as columns, those of the fault each with its own, and the numbers of the headers."""
+    content = drawn_capture() + record(ethernet(b"\x50" + bytes(5)))
+    status, found, errors, _ = harness.run("show", "--csv", content=content)
+    harness.equal((status, errors), (0, ""), "--csv")
+    names, *found = csv.reader(found.decode().splitlines())
+    harness.equal([len(row) for row in found], 6 * [len(names)], "values")
+    first, other, four, truncated, _, faulty = [dict(zip(names, row)) for row in found]
+    harness.equal({name: text for name, text in other.items() if text},
+                  {"packet": "2", "time": "1970-01-01T00:16:41.000006Z", "frame_len": "60", "captured_len": "60"}, "not IP")
+    harness.equal((first["headers"], first["src"], first["dst"], first["identification"], first["payload_number"]),
+                  ("0 43 44", "2001:db8::1", "2001:db8::2", "7", "17"), "headers")
+    harness.equal((four["headers"], four["version"], four["payload_len"], four["fault_kind"]), ("", "4", "8", "0"), "IPv4")
+    harness.equal((truncated["fault_required_len"], truncated["fault_offset"], truncated["end"]), ("8", "48", "2"), "truncated")
+    harness.equal((faulty["src"], faulty["padding"], faulty["fault_value"]), ("", "6", "5"), "another version")
+    for line, row in zip(harness.run("show", "--json", content=content)[1].splitlines(), found):
+        packet = json.loads(line)
+        fault = packet.pop("fault", {})
+        headers = " ".join(str(header["number"]) for header in packet.pop("headers", []))
+        wanted = {**packet, "headers": headers, **{f"fault_{name}": number for name, number in fault.items()}}
+        harness.equal({name: str(wanted.get(name, "")) for name in names}, dict(zip(names, row)), "the same as --json")
+    harness.equal(harness.run("show", "--csv", content=capture([]))[1].decode().count("\n"), 1, "no packet")
 
 
 def large_offsets(harness):

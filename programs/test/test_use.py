@@ -29,7 +29,8 @@ def wrong_usage(harness):
     for arguments in [[], ["frob"], ["--frob"], ["x" * 500], ["stat", "--frob"], ["sum", "file"], ["sum", "--frob"],
                       ["show", "a", "b"],
                       ["show", "--color"], ["show", "--color=red"], ["show", "-w", "x"], ["show", "-c", "0"],
-                      ["show", "--json", "--one-line"], ["stat", "--json=1"], ["stat", "-j", "0"], ["stat", "-j"],
+                      ["show", "--json", "--one-line"], ["show", "--csv", "--json"],
+                      ["stat", "--json=1"], ["stat", "-j", "0"], ["stat", "-j"],
                       ["stat", "-j", "x"], ["sum", "-j", "2"],
                       ["stat", "--top", "0"], ["stat", "--top"], ["sum", "--top", "x"], ["sum", "--per-file"]]:
         status, found, errors, _ = harness.run(*arguments)

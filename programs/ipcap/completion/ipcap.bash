@@ -36,7 +36,7 @@ _ipcap() {
         stat) options='-j --json --per-file --top' ;;
         sum) options='--json --top' ;;
         filter) options='-c -n -r -w --since --until --packets --show --help-terms' ;;
-        show) options='-c --color= --one-line --json' ;;
+        show) options='-c --color= --one-line --json --csv' ;;
         *) return ;;
     esac
     _ipcap_argument "${COMP_WORDS[COMP_CWORD-1]}" "$word" && return

@@ -1,0 +1,20 @@
+/* The JSON object and the row of values that describe a captured packet: its frame, its dissection and its headers. */
+#ifndef IPCAP_RECORD_H
+#define IPCAP_RECORD_H
+
+#include "capture.h"
+#include "parts.h"
+
+/* Writes a line with a JSON object. */
+void print_object(const struct capture *capture, const struct packet *packet, const struct parts *parts);
+
+/* Writes a line with the names of the values of each row, separated by commas. */
+void print_names(void);
+
+/*
+ * Writes a line with the values, separated by commas. A value is empty if the packet doesn't have it. The numbers of the
+ * headers are separated by spaces.
+ */
+void print_row(const struct capture *capture, const struct packet *packet, const struct parts *parts);
+
+#endif

@@ -1,9 +1,12 @@
 #include "condition.h"
 
+#include <netdb.h>
+#include <netinet/in.h>
 #include <stdio.h>
 #include <stdlib.h>
 #include <string.h>
 
+#include "network.h"
 #include "report.h"
 #include "text.h"
 
@@ -12,12 +15,23 @@ struct text {
     char *bytes;
     size_t *ends; /* where each argument ends */
     int count;
+    size_t *origins; /* where each byte comes from, or the byte that it stands for; null for the arguments themselves */
 };
 
 static void free_text(struct text *text)
 {
     free(text->bytes);
     free(text->ends);
+    free(text->origins);
+}
+
+/* Reports that memory runs out, unless the text has what it needs. */
+static bool has_memory(struct text *text, bool needs_origins)
+{
+    if (text->bytes && text->ends && (text->origins || !needs_origins)) return true;
+    complain_of_memory();
+    free_text(text);
+    return false;
 }
 
 /* Joins the arguments. If memory runs out, reports it and returns false. */
@@ -25,12 +39,8 @@ static bool join(struct text *text, int count, char *const *arguments)
 {
     size_t len = 0;
     for (int i = 0; i < count; i++) len += strlen(arguments[i]) + 1;
-    *text = (struct text){calloc(len, 1), calloc((unsigned)count, sizeof *text->ends), count};
-    if (!text->bytes || !text->ends) {
-        complain_of_memory();
-        free_text(text);
-        return false;
-    }
+    *text = (struct text){calloc(len, 1), calloc((unsigned)count, sizeof *text->ends), count, NULL};
+    if (!has_memory(text, false)) return false;
     char *end = text->bytes;
     for (int i = 0; i < count; i++) {
         size_t size = strlen(arguments[i]);
@@ -42,6 +52,11 @@ static bool join(struct text *text, int count, char *const *arguments)
     return true;
 }
 
+static bool is_space(char byte)
+{
+    return strchr(" \t\n\r", byte);
+}
+
 /* Whether two signs are one word. */
 static bool is_pair(char first, char second)
 {
@@ -49,14 +64,66 @@ static bool is_pair(char first, char second)
     return first == second && (first == '&' || first == '|');
 }
 
-/* Returns the length of the word at the start of the `len` bytes: of signs, or of the bytes up to a sign or a space. */
+/* Returns the length of the word at the start of the `len` bytes: of signs, of a space, or of the bytes up to either. */
 static size_t word_len(const char *word, size_t len)
 {
     static const char signs[] = "!&()<=>|", breaks[] = " \t\n\r!&()<=>|";
     size_t size = 1;
+    if (is_space(word[0])) return 1;
     if (strchr(signs, word[0])) return len > 1 && is_pair(word[0], word[1]) ? 2 : 1;
     while (size < len && !strchr(breaks, word[size])) size++;
     return size;
+}
+
+/* How many digits a port has at most. */
+enum { PORT_DIGITS = 5 };
+
+/* Writes the port of the service with this name. Returns the number of digits, or 0 if there is no such service. */
+static size_t write_port(const char *word, size_t len, char digits[PORT_DIGITS + 1])
+{
+    char name[64];
+    if (len >= sizeof name) return 0;
+    memcpy(name, word, len);
+    name[len] = '\0';
+    const struct servent *service = getservbyname(name, NULL);
+    return service ? (size_t)snprintf(digits, PORT_DIGITS + 1, "%d", ntohs((uint16_t)service->s_port)) : 0;
+}
+
+/* Appends bytes to a text. They come from the byte at `origin` and those after it, or all stand for it. */
+static void append(struct text *text, size_t *len, const char *bytes, size_t count, size_t origin, bool is_copied)
+{
+    memcpy(text->bytes + *len, bytes, count);
+    for (size_t i = 0; i < count; i++) text->origins[(*len)++] = origin + (is_copied ? i : 0);
+}
+
+/* Copies the words of the arguments, with the port of each service that is named after `port`. */
+static void copy_words(struct text *text, const struct text *arguments)
+{
+    size_t end = arguments->ends[arguments->count - 1], len = 0;
+    int argument = 0;
+    bool is_port = false;
+    for (size_t at = 0, size; at < end; at += size) {
+        const char *word = arguments->bytes + at;
+        char digits[PORT_DIGITS + 1];
+        while (arguments->ends[argument] <= at) text->ends[argument++] = len;
+        size = word_len(word, end - at);
+        size_t port = is_port ? write_port(word, size, digits) : 0;
+        append(text, &len, port ? digits : word, port ? port : size, at, port == 0);
+        if (!is_space(*word)) is_port = size == 4 && memcmp(word, "port", size) == 0;
+    }
+    while (argument < text->count) text->ends[argument++] = len;
+    text->origins[len] = end;
+}
+
+/* Replaces the names of services by their ports. If memory runs out, reports it and returns false. */
+static bool name_ports(struct text *text, const struct text *arguments)
+{
+    size_t len = arguments->ends[arguments->count - 1] + 1, count = (size_t)arguments->count;
+    *text = (struct text){calloc(len, PORT_DIGITS), calloc(count, sizeof *text->ends), arguments->count,
+                          calloc(len, PORT_DIGITS * sizeof *text->origins)};
+    if (!has_memory(text, true)) return false;
+    copy_words(text, arguments);
+    return true;
 }
 
 /* Writes the condition, and a caret below the byte at an offset. */
@@ -74,21 +141,54 @@ static void show_place(const struct text *text, size_t offset)
     fprintf(stderr, "\n  %*s^\n", columns, "");
 }
 
-/* Reports what the condition needs where. */
-static void complain_of_condition(const struct text *text, const struct wolfaren_filter_error *error)
+/* Words of libpcap's expressions, and what is written instead of them. */
+static const struct {
+    const char *word;
+    const char *ours;
+} libpcap_words[] = {
+    {"less", "length <= N"},       {"greater", "length >= N"},  {"len", "length"},     {"portrange", "port A-B"},
+    {"proto", "leads-to PROTOCOL"}, {"protochain", "header N, or leads-to N"}, {"tcp[tcpflags]", "tcp-flags FLAGS"},
+};
+
+/* Says what is written instead of a word of libpcap's expressions. */
+static void show_ours(const char *word, size_t size)
+{
+    for (size_t i = 0; i < sizeof libpcap_words / sizeof *libpcap_words; i++)
+        if (strlen(libpcap_words[i].word) == size && memcmp(libpcap_words[i].word, word, size) == 0)
+            fprintf(stderr, "  for libpcap's `%s`, write `%s`\n", libpcap_words[i].word, libpcap_words[i].ours);
+}
+
+/* Reports what the condition needs at a place. */
+static void complain_of_condition(const struct text *text, uint8_t wanted, size_t offset)
 {
     char expected[WOLFAREN_TEXT_ROOM];
-    wolfaren_expected_text(error->expected, expected, sizeof expected);
-    size_t left = text->ends[text->count - 1] - error->offset;
-    if (left == 0) {
+    wolfaren_expected_text(wanted, expected, sizeof expected);
+    size_t left = text->ends[text->count - 1] - offset;
+    const char *word = text->bytes + offset;
+    size_t size = left > 0 ? word_len(word, left) : 0;
+    if (left == 0)
         complain("condition: expected %s, found the end", expected);
-    } else {
-        const char *word = text->bytes + error->offset;
-        size_t size = word_len(word, left);
-        complain("condition: expected %s, found '%.*s' in column %zu", expected, size > 40 ? 40 : (int)size, word,
-                 error->offset + 1);
+    else
+        complain("condition: expected %s, found '%.*s' in column %zu", expected, size > 40 ? 40 : (int)size, word, offset + 1);
+    show_place(text, offset);
+    show_ours(word, size);
+}
+
+/* Reports the networks that have bits set after their prefix, which are likely mistakes. Returns whether there are any. */
+static bool has_host_bits(const struct wolfaren_filter *condition)
+{
+    bool is_any = false;
+    for (size_t i = 0; i < condition->count; i++) {
+        struct wolfaren_filter_test test = condition->tests[i];
+        char given[NETWORK_ROOM], meant[NETWORK_ROOM];
+        if (!is_network(&test)) continue;
+        write_network(&test, given);
+        if (!clear_host_bits(&test)) continue;
+        write_network(&test, meant);
+        complain("condition: the network %s has bits set after its prefix; %s is meant", given, meant);
+        is_any = true;
     }
-    show_place(text, error->offset);
+    return is_any;
 }
 
 /*
@@ -110,11 +210,14 @@ static int take_condition(struct wolfaren_filter *condition, const struct text *
 
 int read_condition(struct wolfaren_filter *condition, int count, char *const *arguments, bool is_whole, int *taken)
 {
-    struct text text;
+    struct text joined, text;
     struct wolfaren_filter_error error;
-    if (!join(&text, count, arguments)) return STATUS_FAILED;
-    *taken = take_condition(condition, &text, is_whole, &error);
-    if (*taken == 0) complain_of_condition(&text, &error);
+    if (!join(&joined, count, arguments)) return STATUS_FAILED;
+    bool is_named = name_ports(&text, &joined);
+    if (is_named) *taken = take_condition(condition, &text, is_whole, &error);
+    if (is_named && *taken == 0) complain_of_condition(&joined, error.expected, text.origins[error.offset]);
+    free_text(&joined);
+    if (!is_named) return STATUS_FAILED;
     free_text(&text);
-    return *taken > 0 ? -1 : STATUS_USAGE;
+    return *taken > 0 && !has_host_bits(condition) ? -1 : STATUS_USAGE;
 }

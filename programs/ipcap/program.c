@@ -1,7 +1,8 @@
 #include "program.h"
 
-#include <arpa/inet.h>
 #include <stdio.h>
+
+#include "network.h"
 
 #define FLAG(number) (UINT64_C(1) << (number))
 
@@ -108,17 +109,9 @@ static int print_tcp_flags(const char *word, const struct wolfaren_filter_test *
 
 static int print_network(const char *word, const struct wolfaren_filter_test *test)
 {
-    uint8_t address[16];
-    char text[INET6_ADDRSTRLEN];
-    for (int i = 0; i < 8; i++) {
-        address[i] = (uint8_t)(test->address_high >> (56 - 8 * i));
-        address[8 + i] = (uint8_t)(test->address_low >> (56 - 8 * i));
-    }
-    if (test->version == 4)
-        inet_ntop(AF_INET, address + 12, text, sizeof text);
-    else
-        inet_ntop(AF_INET6, address, text, sizeof text);
-    return printf("%s %s/%d", word, text, test->prefix_len);
+    char text[NETWORK_ROOM];
+    write_network(test, text);
+    return printf("%s %s", word, text);
 }
 
 /* How each kind of test is printed: by a function, which returns the length, with the word for the kind. */

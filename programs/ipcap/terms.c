@@ -57,7 +57,7 @@ static const char arguments[] =
     "N         a decimal number, or a hexadecimal one after 0x\n"
     "NETWORK   an IPv4 or IPv6 address, alone or with a slash and a number of bits\n"
     "ADDRESS   an IPv4 or IPv6 address\n"
-    "PORTS     a number from 0 to 65535, or a range such as 1024-65535\n"
+    "PORTS     a number from 0 to 65535, a range such as 1024-65535, or the name of a service such as https\n"
     "FLAGS     fin, syn, rst, psh, ack, urg, ece, cwr, or several with commas between; all that count after a slash\n"
     "TCP, UDP, UDP-Lite, SCTP and DCCP have ports. A later fragment has none.\n"
     "Terms are combined with `not`, `and` and `or`, or `!`, `&&` and `||`, and parentheses.\n";

@@ -5,6 +5,7 @@ import sys
 import harness
 import test_completion
 import test_compression
+import test_conditions
 import test_filter
 import test_library
 import test_link_layers
@@ -39,6 +40,10 @@ GROUPS = [("link layers", test_link_layers.link_layers), ("short frames", test_l
           ("several files", test_filter.several_files), ("numbers of packets to write", test_filter.counts),
           ("ranges of time", test_filter.times), ("ranges of packets", test_filter.numbers_of_packets),
           ("options of tcpdump", test_filter.as_tcpdump), ("wrong conditions", test_filter.wrong_conditions),
+          ("host bits", test_filter.host_bits), ("names of services", test_filter.services),
+          ("conditions as tshark has them", test_conditions.tshark_agrees),
+          ("conditions as libpcap has them", test_conditions.libpcap_agrees),
+          ("ports that libpcap misses", test_conditions.libpcap_misses),
           ("conditions and outputs that are refused", test_filter.what_is_refused), ("drawings", test_show.drawings),
           ("packets in lines", test_show.lines), ("packets in JSON", test_show.objects),
           ("packets in rows", test_show.rows),

@@ -31,7 +31,7 @@ packet 4: 1970-01-01T00:16:40.000005Z, 2001:db8::1 > 2001:db8::2, 62 of 78 bytes
 0010  00 00 00 00 00 00 00 01 20 01 0d b8 00 00 00 00
       -----------------------------------------------
 0020  00 00 00 00 00 00 00 02 2c 00 01 04 00 00 00 00
-      ----------------------] [----- dest-opts -----]
+      ----------------------] [ destination-options ]
 0030
       ^ truncated: not enough bytes for Ipv6FragHeader at offset 48: 8 needed, 0 there by Slice
       16 bytes missing
@@ -149,8 +149,8 @@ def large_offsets(harness):
     harness.equal(rows[2], "       [-------------------- IPv6 --------------------", "its marks")
     last = rows.index("10010  00 00 01 04 00 00 00 00 11 00 01 04 00 00 00 00")
     harness.equal(rows[last - 2:last], ["10000  3c 00 01 04 00 00 00 00 3c 00 01 04 00 00 00 00",
-                                        "       [----- dest-opts -----] [----- dest-opts -----]"], "the row before")
-    harness.equal(rows[last + 1], "       [----- dest-opts -----]", "the last marks")
+                                        "       [ destination-options ] [ destination-options ]"], "the row before")
+    harness.equal(rows[last + 1], "       [ destination-options ]", "the last marks")
     harness.check(rows[last + 2].startswith(" " * 31 + "^ "), rows[last + 2])
     harness.check(rows[last + 5].startswith("0000  60 "), "the next packet", rows[last + 5])
 
@@ -198,7 +198,7 @@ def long_packets(harness):
     harness.check(found.endswith("      and 968 bytes more\n"), found)
     found = harness.run("show", content=capture([ethernet(ipv6_chain([60] * 2000, 17, b""))]))[1].decode()
     harness.check("IPv6 2000 headers -> 17\n" in found, "a long chain")
-    harness.equal(found.count(" dest-opts "), 2000, "headers of a long chain")
+    harness.equal(found.count(" destination-options "), 2000, "headers of a long chain")
 
 
 def colors(harness):

@@ -10,6 +10,7 @@
  *  - For a condition on such packets: wolfaren_parse_filter once, and then wolfaren_filter_matches.
  *  - For statistics of such packets: wolfaren_count_packet, or wolfaren_count_dissection to dissect them too, and
  *    wolfaren_merge_statistics.
+ *  - For many packets in one buffer: wolfaren_count_packets, wolfaren_filter_packets, wolfaren_dissect_packets.
  *  - For packets that must be whole, where an error is a reason to drop them: wolfaren_find_payload, or
  *    wolfaren_parse_packet for the extension headers too. Neither stops at a later fragment, as wolfaren_dissect does.
  *  - For extension headers without an IP header: wolfaren_parse_chain, or wolfaren_next_header for one after another.
@@ -23,7 +24,8 @@
  *  - An array to fill is passed as a pointer and a length in elements. The pointer may be null if the length is 0.
  *    Nothing is written past the length. Elements that a call doesn't write keep their values.
  *  - Every other pointer must be valid and non-null. Output must not overlap input.
- *  - Any bytes, numbers and field values are valid input. Every call returns, within time linear in the bytes.
+ *  - Any bytes, numbers and field values are valid input. Every call returns, within time linear in the bytes. A call for
+ *    many packets takes time linear in the number of packets and in the bytes of all of them.
  *  - The library has no state and allocates no memory, so any thread may make any call at any time.
  *  - A call only reads what its `const` pointers refer to, such as bytes and filters: threads may share that while none
  *    of them writes it. A call writes what its other pointers refer to, and takes no lock: no other thread may read or
@@ -50,7 +52,7 @@
 #define WOLFAREN_VERSION (10000 * WOLFAREN_VERSION_MAJOR + 100 * WOLFAREN_VERSION_MINOR + WOLFAREN_VERSION_PATCH)
 
 /* A checksum of the structs, numbers and calls in this header, made by scripts/abi of the repository. */
-#define WOLFAREN_ABI 0x78d463a6u
+#define WOLFAREN_ABI 0x950f67aau
 
 #if !(defined(__x86_64__) && !defined(__ILP32__)) && !defined(_M_X64) && !defined(__aarch64__) && !defined(_M_ARM64)
 #error "libwolfaren needs a 64-bit machine: x86-64 or ARM64"
@@ -272,6 +274,25 @@ struct wolfaren_dissection {
 void wolfaren_dissect(const uint8_t *bytes, size_t len, struct wolfaren_header *headers, size_t room,
                       struct wolfaren_dissection *dissection) WOLFAREN_NONNULL(5);
 
+/* Where a packet is in a buffer that has many. */
+struct wolfaren_packet_span {
+    size_t offset; /* where the packet begins, in bytes from the start of the buffer */
+    size_t len;    /* number of bytes that are passed as the packet */
+};
+
+/*
+ * Dissects the packets at `count` places in the `len` bytes, each as wolfaren_dissect dissects the bytes of its span, without
+ * the positions of extension headers. Stores the dissections in `dissections`, in the order of the spans, as many as fit in
+ * its `room` elements. Spans may overlap, in any order.
+ *
+ * Returns true if each span lies within the bytes; `*outside` is left unchanged. Otherwise returns false, stores the index of
+ * the first span that doesn't in `*outside`, and leaves `dissections` unchanged. A span whose offset and length have a sum
+ * above SIZE_MAX doesn't lie within the bytes.
+ */
+WOLFAREN_USE_RESULT
+bool wolfaren_dissect_packets(const uint8_t *bytes, size_t len, const struct wolfaren_packet_span *spans, size_t count,
+                              struct wolfaren_dissection *dissections, size_t room, size_t *outside) WOLFAREN_NONNULL(7);
+
 /* The version of struct wolfaren_statistics: other versions have other counts. */
 #define WOLFAREN_STATISTICS_VERSION 1
 
@@ -280,8 +301,9 @@ void wolfaren_dissect(const uint8_t *bytes, size_t len, struct wolfaren_header *
  * order: wolfaren_merge_statistics then returns the statistics of all of them. Any contents are valid input.
  *
  * These calls write statistics, so threads that share them need a lock: wolfaren_init_statistics, wolfaren_count_packet,
- * wolfaren_count_dissection, wolfaren_count_other_frame, wolfaren_count_truncated_frame, and wolfaren_merge_statistics
- * for `into`. The last only reads `from`. Threads that count in statistics of their own, merged at the end, need no lock.
+ * wolfaren_count_packets, wolfaren_count_dissection, wolfaren_count_other_frame, wolfaren_count_truncated_frame, and
+ * wolfaren_merge_statistics for `into`. The last only reads `from`. Threads that count in statistics of their own, merged
+ * at the end, need no lock.
  *
  * Each packet is counted once in `packets`, once in the three counts by version, and once in the four counts by why its
  * headers end. A packet that starts with an IP header has a chain, possibly of no headers, and is counted once in
@@ -338,6 +360,15 @@ void wolfaren_init_statistics(struct wolfaren_statistics *statistics) WOLFAREN_N
  */
 void wolfaren_count_packet(struct wolfaren_statistics *statistics, const uint8_t *bytes, size_t len)
     WOLFAREN_NONNULL(1);
+
+/*
+ * Counts the packets at `count` places in the `len` bytes, each as wolfaren_count_packet counts the bytes of its span. The
+ * result and `outside` are those of wolfaren_dissect_packets. If a span doesn't lie within the bytes, nothing is counted.
+ */
+WOLFAREN_USE_RESULT
+bool wolfaren_count_packets(struct wolfaren_statistics *statistics, const uint8_t *bytes, size_t len,
+                            const struct wolfaren_packet_span *spans, size_t count, size_t *outside)
+    WOLFAREN_NONNULL(1, 6);
 
 /*
  * Counts the packet at the start of the `len` bytes as wolfaren_count_packet does, and dissects it as wolfaren_dissect
@@ -673,6 +704,17 @@ bool wolfaren_filter_matches(const struct wolfaren_filter *filter, const uint8_t
     WOLFAREN_NONNULL(1);
 
 /*
+ * Tests the packets at `count` places in the `len` bytes, each as wolfaren_filter_matches tests the bytes of its span. Stores 1
+ * for each packet that the filter matches and 0 for any other in `matches`, in the order of the spans, as many as fit in its
+ * `room` elements. The result and `outside` are those of wolfaren_dissect_packets. If a span doesn't lie within the bytes,
+ * `matches` is left unchanged.
+ */
+WOLFAREN_USE_RESULT
+bool wolfaren_filter_packets(const struct wolfaren_filter *filter, const uint8_t *bytes, size_t len,
+                             const struct wolfaren_packet_span *spans, size_t count, uint8_t *matches, size_t room,
+                             size_t *outside) WOLFAREN_NONNULL(1, 8);
+
+/*
  * Returns whether the filter matches a frame that isn't IP, such as an ARP request: no term holds of it, so it matches
  * `not fault`.
  */
@@ -745,6 +787,7 @@ WOLFAREN_LAYOUT(wolfaren_chain, 56, fragmented, 52);
 WOLFAREN_LAYOUT(wolfaren_cursor, 16, number, 8);
 WOLFAREN_LAYOUT(wolfaren_dissection, 104, end, 102);
 WOLFAREN_LAYOUT(wolfaren_statistics, 8152, faults, 7128);
+WOLFAREN_LAYOUT(wolfaren_packet_span, 16, len, 8);
 WOLFAREN_LAYOUT(wolfaren_packet, 40, len_source, 38);
 WOLFAREN_LAYOUT(wolfaren_payload, 32, len_source, 30);
 WOLFAREN_LAYOUT(wolfaren_fragment, 8, next_header, 7);

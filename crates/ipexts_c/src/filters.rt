@@ -1,13 +1,16 @@
 //! Filters.
-ghost use Rattle.std.specs.Prelude.{◌≡◌, ◌≤◌, ◌<◌, ◌+◌, drop, length, slice_index, false, IsTrue};
+ghost use Rattle.std.specs.Prelude.{◌≡◌, ◌≤◌, ◌<◌, ◌+◌, drop, length, slice_index, false, IsTrue, Some, None};
 ghost use Rattle.ip_dissect.specs.Dissection.{dissected};
 ghost use Rattle.ip_filter.specs.Tests.{meets};
 ghost use Rattle.ip_filter.specs.Program.{tests_of, passes};
 ghost use Rattle.ip_filter.specs.Parsed.{IsParsed, IsFirstError};
 ghost use Rattle.ip_filter.specs.declared.parse_error.Expected.{Expected as WasExpected};
 ghost use Rattle.ip_spans.specs.FilterError.{expected_code};
+ghost use Rattle.ip_spans.specs.HeaderSpan.{filled};
+ghost use Rattle.ip_batches.specs.Batch.{packets_at, first_outside, matches_of};
 
 use crate::bytes::Bytes;
+use ip_batches::{Batch, PacketSpan};
 use ip_filter::Filter;
 use ip_spans::{FilterError, expected_text, parse_filter};
 
@@ -52,6 +55,36 @@ pub extern "C" fn wolfaren_filter_matches(filter: &Filter, bytes: Bytes<'_>) -> 
     ensures { result ≡ passes (tests_of filter.now) (λ x. meets x (dissected bytes.entry.slice.now)) }
 {
     filter.matches(bytes.slice())
+}
+
+/// Calls `Batch::filter` with the packets at the spans. Returns whether each span lies within the bytes. If so, `outside` is
+/// unchanged; otherwise stores the index of the first one that doesn't in `outside`, and `matches` is unchanged.
+#[unsafe(no_mangle)]
+pub extern "C" fn wolfaren_filter_packets(
+    filter: &Filter,
+    bytes: Bytes<'_>,
+    spans: &[PacketSpan],
+    matches: &mut [u8],
+    outside: &mut usize,
+) -> bool
+    ensures matches { IsTrue result → matches.new ≡ filled
+        (matches_of filter.now (packets_at bytes.entry.slice.now spans.now)) matches.old }
+    ensures within { IsTrue result → (first_outside bytes.entry.slice.now spans.now ≡ None)
+        × (outside.new ≡ outside.old) }
+    ensures outside { result ≡ false
+        → first_outside bytes.entry.slice.now spans.now ≡ Some outside.new }
+    ensures same { result ≡ false → matches.new ≡ matches.old }
+{
+    match Batch::try_new(bytes.slice(), spans) {
+        Ok(batch) => {
+            batch.filter(filter, matches);
+            true
+        }
+        Err(index) => {
+            *outside = index;
+            false
+        }
+    }
 }
 
 /// Calls `Filter::matches_other`.

@@ -5,9 +5,11 @@ ghost use Rattle.ip_dissect.specs.Dissection.{dissected};
 ghost use Rattle.ip_spans.specs.HeaderSpan.{filled};
 ghost use Rattle.ip_spans.specs.DissectionParts.{dissection_parts, dissected_spans};
 ghost use Rattle.ip_spans.specs.PacketParts.{IsPacketParts, payload_span, parts_in, packet_fault, lax_packet_fault};
+ghost use Rattle.ip_batches.specs.Batch.{packets_at, first_outside, parts_of};
 
 use crate::bytes::Bytes;
 use crate::results::put_result;
+use ip_batches::{Batch, PacketSpan};
 use ip_spans::{
     DissectionParts, FaultFields, HeaderSpan, PacketParts, PayloadSpan, dissect_packet,
     find_payload, find_payload_lax, parse_packet, parse_packet_lax,
@@ -105,4 +107,33 @@ pub extern "C" fn wolfaren_dissect(
         ≡ length bytes.entry.slice.now }
 {
     dissect_packet(bytes.slice(), spans, parts);
+}
+
+/// Calls `Batch::dissect` with the packets at the spans. Returns whether each span lies within the bytes. If so, `outside` is
+/// unchanged; otherwise stores the index of the first one that doesn't in `outside`, and `parts` is unchanged.
+#[unsafe(no_mangle)]
+pub extern "C" fn wolfaren_dissect_packets(
+    bytes: Bytes<'_>,
+    spans: &[PacketSpan],
+    parts: &mut [DissectionParts],
+    outside: &mut usize,
+) -> bool
+    ensures parts { IsTrue result → parts.new ≡ filled
+        (parts_of (packets_at bytes.entry.slice.now spans.now)) parts.old }
+    ensures within { IsTrue result → (first_outside bytes.entry.slice.now spans.now ≡ None)
+        × (outside.new ≡ outside.old) }
+    ensures outside { result ≡ false
+        → first_outside bytes.entry.slice.now spans.now ≡ Some outside.new }
+    ensures same { result ≡ false → parts.new ≡ parts.old }
+{
+    match Batch::try_new(bytes.slice(), spans) {
+        Ok(batch) => {
+            batch.dissect(parts);
+            true
+        }
+        Err(index) => {
+            *outside = index;
+            false
+        }
+    }
 }

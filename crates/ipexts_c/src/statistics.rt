@@ -1,14 +1,17 @@
 //! Statistics of packets.
-ghost use Rattle.std.specs.Prelude.{◌≡◌, ◌+◌, ◌&&◌, true, false, length};
+ghost use Rattle.std.specs.Prelude.{◌≡◌, ◌+◌, ◌&&◌, true, false, length, IsTrue, Some, None};
 ghost use Rattle.ip_dissect.specs.Dissection.{dissected};
 ghost use Rattle.ip_statistics.specs.Counts.{added};
 ghost use Rattle.ip_statistics.specs.Packet.{counts_of};
 ghost use Rattle.ip_statistics.specs.Statistics.{merged};
+ghost use Rattle.ip_statistics.specs.Lists.{statistics_of};
 ghost use Rattle.ip_statistics.specs.Capture.{no_frames, is_current, captures_merged};
 ghost use Rattle.ip_spans.specs.HeaderSpan.{filled};
 ghost use Rattle.ip_spans.specs.DissectionParts.{dissection_parts, dissected_spans};
+ghost use Rattle.ip_batches.specs.Batch.{packets_at, first_outside};
 
 use crate::bytes::Bytes;
+use ip_batches::{Batch, PacketSpan};
 use ip_spans::{DissectionParts, HeaderSpan, PartsAndSpans};
 use ip_statistics::CaptureStatistics;
 
@@ -28,6 +31,37 @@ pub extern "C" fn wolfaren_count_packet(statistics: &mut CaptureStatistics, byte
     } }
 {
     statistics.packets.count_packet(bytes.slice());
+}
+
+/// Calls `Batch::count` with the packets at the spans. Returns whether each span lies within the bytes. If so, `outside` is
+/// unchanged; otherwise stores the index of the first one that doesn't in `outside`, and the statistics are unchanged.
+#[unsafe(no_mangle)]
+pub extern "C" fn wolfaren_count_packets(
+    statistics: &mut CaptureStatistics,
+    bytes: Bytes<'_>,
+    spans: &[PacketSpan],
+    outside: &mut usize,
+) -> bool
+    ensures counts { IsTrue result → statistics.new ≡ record statistics.old {
+      packets = merged statistics.old.packets
+          (statistics_of (packets_at bytes.entry.slice.now spans.now));
+    } }
+    ensures within { IsTrue result → (first_outside bytes.entry.slice.now spans.now ≡ None)
+        × (outside.new ≡ outside.old) }
+    ensures outside { result ≡ false
+        → first_outside bytes.entry.slice.now spans.now ≡ Some outside.new }
+    ensures same { result ≡ false → statistics.new ≡ statistics.old }
+{
+    match Batch::try_new(bytes.slice(), spans) {
+        Ok(batch) => {
+            batch.count(&mut statistics.packets);
+            true
+        }
+        Err(index) => {
+            *outside = index;
+            false
+        }
+    }
 }
 
 /// Calls `Statistics::count_and_visit` with the visitor of `dissect_packet`.

@@ -1,0 +1,9 @@
+//! Counts, filters and dissects many packets in one call. They lie at several places in one buffer.
+#![tactic(auto)]
+
+mod batch;
+mod count;
+mod dissect;
+mod matches;
+
+pub use batch::{Batch, PacketSpan};

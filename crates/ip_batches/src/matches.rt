@@ -1,0 +1,32 @@
+//! Tests the packets of a batch with a filter.
+ghost use Rattle.std.specs.Prelude.{◌≡◌};
+ghost use Rattle.ip_spans.specs.HeaderSpan.{filled};
+ghost use Rattle.ip_statistics.specs.Counts.{one_if};
+ghost use Rattle.ip_batches.specs.Batch.{packets_at, matches_of};
+
+use crate::Batch;
+use ip_filter::Filter;
+
+impl Batch<'_> {
+    /// Stores for each packet, in order, 1 if the filter matches it and 0 if it doesn't, at the front of `matches`, as
+    /// many as fit; the other elements are unchanged.
+    #[inline(always)]
+    #[tactic(auto, using(crate::proofs::BatchLemmas::all_stored))]
+    pub fn filter(&self, filter: &Filter, matches: &mut [u8])
+        ensures { matches.new ≡ filled
+            (matches_of filter.now (packets_at self.now.buffer.now self.now.spans.now)) matches.old }
+    {
+        let count = self.spans.len().min(matches.len());
+        'packets: for index in 0..count {
+            matches[index] = byte_of(filter.matches(self.packet(index)));
+        }
+    }
+}
+
+/// Returns 1 for true and 0 for false.
+#[inline(always)]
+fn byte_of(is_match: bool) -> u8
+    ensures { result ≡ one_if is_match }
+{
+    u8::from(is_match)
+}

@@ -1,5 +1,5 @@
-use crate::err::{Expected, FilterError};
-use crate::library;
+use crate::err::{Expected, FilterError, SpanError};
+use crate::{library, PacketSpan};
 #[cfg(feature = "alloc")]
 use alloc::boxed::Box;
 use core::fmt;
@@ -90,6 +90,33 @@ impl Filter {
     #[must_use]
     pub fn matches(&self, slice: &[u8]) -> bool {
         library::filter_matches(&self.program, slice)
+    }
+
+    /// Stores in `matches`, in order, whether the filter matches each of many packets in a buffer, as `matches` returns
+    /// it. Stores as many as fit; the other elements are unchanged.
+    ///
+    /// # Errors
+    ///
+    /// Reports the first span that doesn't lie within the buffer. Nothing is stored then.
+    ///
+    /// ```
+    /// use wolfaren::{Filter, PacketSpan};
+    ///
+    /// let mut buffer = [0; 80];
+    /// (buffer[0], buffer[6], buffer[40], buffer[46]) = (0x60, 17, 0x60, 6); // IPv6 with UDP, and with TCP
+    /// let spans = [0..40, 40..80].map(PacketSpan::from);
+    /// let mut matches = [false; 2];
+    /// Filter::parse("tcp")?.matches_many(&buffer, &spans, &mut matches).unwrap();
+    /// assert_eq!(matches, [false, true]);
+    /// # Ok::<(), wolfaren::err::FilterError>(())
+    /// ```
+    pub fn matches_many(
+        &self,
+        buffer: &[u8],
+        spans: &[PacketSpan],
+        matches: &mut [bool],
+    ) -> Result<(), SpanError> {
+        library::filter_packets(&self.program, buffer, spans, matches)
     }
 
     /// Returns whether the filter matches a frame that isn't IP, such as an ARP request: no term holds of it.

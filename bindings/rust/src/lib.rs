@@ -84,7 +84,7 @@
 //! `err::ipv6_exts::HeaderLimitedReadError`, `err::ipv6_exts::HeaderWriteError`.
 //!
 //! Only here: `Dissection`, `BaseHeader`, `Fragment`, `FragmentKind`, `End`, `Filter`, `Statistics`, `FaultKind`,
-//! `Ipv6ExtensionsBuilder`, `err::BuildError`, `err::FilterError`, `err::Expected`.
+//! `PacketSpan`, `Ipv6ExtensionsBuilder`, `err::BuildError`, `err::FilterError`, `err::Expected`, `err::SpanError`.
 //!
 //! The table has all names of etherparse's layer of extension headers. Of the layer below, that is IP headers, protocol
 //! numbers, `IpFragOffset`, `LenSource` and `Layer`, etherparse has more names than the table lists. The constants of
@@ -131,6 +131,7 @@ mod ipv6_raw_ext_header_slice;
 mod ipv6_slice;
 mod len_source;
 mod library;
+mod packet_span;
 mod parse_packet;
 #[cfg(test)]
 mod plain_tests;
@@ -160,4 +161,5 @@ pub use ipv6_header_slice::Ipv6HeaderSlice;
 pub use ipv6_raw_ext_header_slice::{Ipv6RawExtHeaderSlice, Ipv6RawExtensionHeaderSlice};
 pub use ipv6_slice::Ipv6Slice;
 pub use len_source::LenSource;
+pub use packet_span::PacketSpan;
 pub use statistics::{FaultKind, Statistics};

@@ -2,7 +2,8 @@
 //! this file.
 #![allow(unsafe_code)]
 
-use crate::Statistics;
+use crate::err::SpanError;
+use crate::{PacketSpan, Statistics};
 #[cfg(feature = "alloc")]
 use alloc::vec::Vec;
 use core::mem::{size_of, MaybeUninit};
@@ -208,11 +209,31 @@ unsafe extern "C" {
 
     fn wolfaren_filter_matches(filter: *const Filter, bytes: *const u8, len: usize) -> bool;
 
+    fn wolfaren_filter_packets(
+        filter: *const Filter,
+        bytes: *const u8,
+        len: usize,
+        spans: *const PacketSpan,
+        count: usize,
+        matches: *mut u8,
+        room: usize,
+        outside: *mut usize,
+    ) -> bool;
+
     fn wolfaren_filter_matches_other(filter: *const Filter) -> bool;
 
     fn wolfaren_init_statistics(statistics: *mut Statistics);
 
     fn wolfaren_count_packet(statistics: *mut Statistics, bytes: *const u8, len: usize);
+
+    fn wolfaren_count_packets(
+        statistics: *mut Statistics,
+        bytes: *const u8,
+        len: usize,
+        spans: *const PacketSpan,
+        count: usize,
+        outside: *mut usize,
+    ) -> bool;
 
     fn wolfaren_count_dissection(
         statistics: *mut Statistics,
@@ -379,6 +400,35 @@ pub(crate) fn filter_matches(filter: &Filter, bytes: &[u8]) -> bool {
     unsafe { wolfaren_filter_matches(filter, bytes.as_ptr(), bytes.len()) }
 }
 
+/// Stores whether the filter matches each packet in the buffer, as many as fit.
+pub(crate) fn filter_packets(
+    filter: &Filter,
+    buffer: &[u8],
+    spans: &[PacketSpan],
+    matches: &mut [bool],
+) -> Result<(), SpanError> {
+    let mut index = 0;
+    // SAFETY: the filter, the bytes and the spans are borrowed, and the call only reads them. `matches` is borrowed
+    // exclusively, and the call only writes 0 and 1 there, which are the bytes of `bool`.
+    let is_within = unsafe {
+        wolfaren_filter_packets(
+            filter,
+            buffer.as_ptr(),
+            buffer.len(),
+            spans.as_ptr(),
+            spans.len(),
+            matches.as_mut_ptr().cast(),
+            matches.len(),
+            &raw mut index,
+        )
+    };
+    if is_within {
+        Ok(())
+    } else {
+        Err(SpanError { index })
+    }
+}
+
 /// Returns whether the filter matches a frame that isn't IP.
 pub(crate) fn filter_matches_other(filter: &Filter) -> bool {
     // SAFETY: the filter is borrowed, and the call only reads it.
@@ -486,6 +536,31 @@ pub(crate) fn dissect(bytes: &[u8]) -> DissectedParts<'_> {
         found.assume_init()
     };
     dissected_parts(bytes, found)
+}
+
+/// Counts the packets in the buffer.
+pub(crate) fn count_packets(
+    statistics: &mut Statistics,
+    buffer: &[u8],
+    spans: &[PacketSpan],
+) -> Result<(), SpanError> {
+    let mut index = 0;
+    // SAFETY: the statistics are borrowed exclusively. The bytes and the spans are slices, which the call only reads.
+    let is_within = unsafe {
+        wolfaren_count_packets(
+            statistics,
+            buffer.as_ptr(),
+            buffer.len(),
+            spans.as_ptr(),
+            spans.len(),
+            &raw mut index,
+        )
+    };
+    if is_within {
+        Ok(())
+    } else {
+        Err(SpanError { index })
+    }
 }
 
 /// Counts the packet at the start of the bytes, and dissects it.
@@ -628,7 +703,7 @@ pub(crate) fn number_name(number: u8) -> &'static str {
 
 #[cfg(all(test, not(miri)))]
 mod tests {
-    use super::{Chain, Cursor, Dissection, Fault, Header, Payload, Statistics};
+    use super::{Chain, Cursor, Dissection, Fault, Header, PacketSpan, Payload, Statistics};
     use core::mem::{offset_of, size_of};
     use std::vec::Vec;
 
@@ -760,6 +835,7 @@ mod tests {
             fragment,
             end
         );
+        check!(PacketSpan, "wolfaren_packet_span", offset, len);
         check!(
             Statistics,
             "wolfaren_statistics",

@@ -1,5 +1,5 @@
-use crate::err::Layer;
-use crate::{library, Dissection};
+use crate::err::{Layer, SpanError};
+use crate::{library, Dissection, PacketSpan};
 use core::ops::AddAssign;
 
 /// Statistics of packets, and of the frames of a capture. Each count stops at `u64::MAX`.
@@ -100,6 +100,15 @@ impl Statistics {
     #[inline]
     pub fn count(&mut self, bytes: &[u8]) {
         library::count_packet(self, bytes);
+    }
+
+    /// Counts many packets in a buffer, each as `count` does.
+    ///
+    /// # Errors
+    ///
+    /// Reports the first span that doesn't lie within the buffer. Nothing is counted then.
+    pub fn count_many(&mut self, buffer: &[u8], spans: &[PacketSpan]) -> Result<(), SpanError> {
+        library::count_packets(self, buffer, spans)
     }
 
     /// Counts the packet at the start of the bytes as `count` does, and dissects it as `Dissection::from_slice` does, in

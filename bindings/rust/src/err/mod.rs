@@ -12,6 +12,7 @@ pub mod ipv6;
 pub mod ipv6_exts;
 mod layer;
 mod len_error;
+mod span_error;
 mod value_too_big_error;
 
 #[cfg(feature = "alloc")]
@@ -19,6 +20,7 @@ pub use build_error::BuildError;
 pub use filter_error::{Expected, FilterError};
 pub use layer::Layer;
 pub use len_error::LenError;
+pub use span_error::SpanError;
 pub use value_too_big_error::ValueTooBigError;
 
 /// Implements `Display` and `Error` for an error whose variants all wrap another error: its text and its source are those

@@ -94,7 +94,8 @@ class Libraries(unittest.TestCase):
         names = ["numpy", "pandas", "dask", "distributed", "matplotlib"]
         blocked = f"import sys; sys.modules.update(dict.fromkeys({names})); import wolfaren.distributed; "
         self.assertEqual(run([sys.executable, "-c", blocked + DISSECT]), (0, "17\n"))
-        for call, needs in [("wolfaren.table('')", "wolfaren.table needs pandas (Debian: python3-pandas)"),
+        for call, needs in [("wolfaren.dissect_many(b'', [], [])", "wolfaren.dissect_many needs numpy (Debian: python3-numpy)"),
+                            ("wolfaren.table('')", "wolfaren.table needs pandas (Debian: python3-pandas)"),
                             ("wolfaren.distributed.table([])", "wolfaren.distributed.table needs pandas (Debian: python3-pandas)")]:
             status, said = run([sys.executable, "-c", blocked + call])
             self.assertEqual((status, said.splitlines()[-1]), (1, f"ImportError: {needs}"))

@@ -7,11 +7,12 @@ from ._captures import Packet, Written, packets
 from ._dissection import (Dissection, End, ExtensionHeader, Fault, FaultKind, Fragment, FragmentKind, Layer, LenSource,
                           dissect, protocol_name)
 from ._filter import Filter, FilterError
+from ._many import SpanError, dissect_many
 from ._statistics import MOST, CaptureError, CaptureOSError, Statistics, statistics_of
 from ._table import table
 
 __version__ = "0.1.0"
 
 __all__ = ["MOST", "CaptureError", "CaptureOSError", "Dissection", "End", "ExtensionHeader", "Fault", "FaultKind", "Filter",
-           "FilterError", "Fragment", "FragmentKind", "Layer", "LenSource", "Packet", "Statistics", "Written", "dissect",
-           "packets", "protocol_name", "statistics_of", "table"]
+           "FilterError", "Fragment", "FragmentKind", "Layer", "LenSource", "Packet", "SpanError", "Statistics", "Written",
+           "dissect", "dissect_many", "packets", "protocol_name", "statistics_of", "table"]

@@ -3,9 +3,11 @@
 from __future__ import annotations
 
 from collections.abc import Callable
+from typing import Any
 
 from ._captures import Path, Written, write_matching
 from ._library import Buffer, ffi, lib
+from ._many import Packets
 
 _TEST_FIELDS = [name for name, _ in ffi.typeof("struct wolfaren_filter_test").fields]
 
@@ -81,6 +83,16 @@ class Filter:
         """Returns whether the packet at the start of the bytes, which may be any bytes, meets the condition."""
         view = ffi.from_buffer("uint8_t[]", packet)
         return bool(lib.wolfaren_filter_matches(self._filter, view, len(view)))
+
+    def matches_many(self, buffer: Buffer, offsets: Any, lengths: Any) -> Any:
+        """Returns whether each of many packets in a buffer meets the condition, as a numpy array of type `bool`.
+
+        The packets are given, and errors are raised, as by `dissect_many`.
+        """
+        packets = Packets("Filter.matches_many", buffer, offsets, lengths)
+        matches = packets.numpy.empty(packets.count, bool)
+        packets.pass_to(lib.wolfaren_filter_packets, self._filter, array=ffi.from_buffer("uint8_t[]", matches))
+        return matches
 
     def matches_other_frame(self) -> bool:
         """Returns whether a frame without an IP packet meets the condition, as it meets `not fault`."""

@@ -12,6 +12,7 @@ from typing import TYPE_CHECKING, Any, Generic, TypeVar
 
 from ._dissection import End, FaultKind, Layer
 from ._library import Buffer, captures, ffi, lib
+from ._many import Packets, dtype_of
 from ._optional import import_for
 
 MOST = 2**64 - 1
@@ -71,6 +72,39 @@ def _chain_order(chain: tuple[str, int]) -> tuple[Any, ...]:
     name, count = chain
     numbers = [int(it) for it in re.findall(r"\d+", name)]
     return name == "other", -count, numbers[:1], len(numbers), numbers[-1:], name.split(" -> ")[-1].split(), numbers
+
+
+# How many packets are dissected at a time to name their chains.
+_TOGETHER = 1 << 14
+
+
+def _chains_of(packets: Packets) -> dict[str, int]:
+    """Returns how many of the packets have each chain, in the order in which the chains occur."""
+    numpy, kind = packets.numpy, ffi.typeof("struct wolfaren_dissection")
+    every = numpy.empty(min(packets.count, _TOGETHER), dtype_of(numpy, kind))
+    chains: dict[str, int] = {}
+    for start in range(0, packets.count, _TOGETHER):
+        parts = every[:packets.count - start]
+        packets.pass_to(lib.wolfaren_dissect_packets, array=ffi.from_buffer("struct wolfaren_dissection[]", parts), start=start)
+        for _, name, count in sorted(_chains_in(packets, start, parts)):
+            chains[name] = chains.get(name, 0) + count
+    return chains
+
+
+def _chains_in(packets: Packets, start: int, parts: Any) -> Iterator[tuple[int, str, int]]:
+    """Yields the chains of dissected packets, each with the index of the first one that has it and their number, or with
+    that of one packet. `start` is the index of the first packet."""
+    numpy = packets.numpy
+    keys = parts["version"] << 10 | parts["payload_number"] << 2 | parts["end"]  # each has 8 bits at most, `end` has 2
+    keys[parts["headers"] > 0] = 0
+    counts = numpy.bincount(keys)
+    for key in numpy.flatnonzero(counts).tolist():
+        if version := key >> 10:
+            yield int((keys == key).argmax()), chain_name(version, (), key >> 2 & 255, key & 3), int(counts[key])
+    headers, one = ffi.new("struct wolfaren_header[]", MOST_HEADERS), ffi.new("struct wolfaren_dissection *")
+    for i in numpy.flatnonzero(parts["headers"]).tolist():
+        lib.wolfaren_dissect(*packets.place(start + i), headers, MOST_HEADERS, one)
+        yield i, _chain_of(one, headers), 1
 
 
 # The numbers by which frames say what they carry, in the order of ipcap's table, and how many digits these have.
@@ -188,6 +222,18 @@ class Statistics:
             lib.wolfaren_count_dissection(self._counts, view, len(view), headers, MOST_HEADERS, parts)
             if parts.version:
                 _add_to(self._chains, _chain_of(parts, headers), 1)
+
+    def add_many(self, buffer: Buffer, offsets: Any, lengths: Any) -> None:
+        """Counts many packets in a buffer, each as `add` does.
+
+        The packets are given, and errors are raised, as by `dissect_many`. After an error nothing is counted. Packets without
+        extension headers are counted fastest: the name of any other chain is made in Python.
+        """
+        packets = Packets("Statistics.add_many", buffer, offsets, lengths)
+        counted = Statistics()
+        packets.pass_to(lib.wolfaren_count_packets, counted._counts)
+        counted._chains.update(_chains_of(packets))
+        self += counted
 
     def add_other_frame(self, protocol: str = "other") -> None:
         """Counts a frame without an IP packet, by what it carries, such as `EtherType 0x0806`.

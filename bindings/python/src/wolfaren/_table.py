@@ -11,28 +11,18 @@ from typing import TYPE_CHECKING, Any, NamedTuple
 from ._captures import Path, Reader, link_layer_name
 from ._dissection import DST, FAULTS_AT_END, HOP_LIMIT, SRC
 from ._library import ffi, lib
+from ._many import dtype_of
 from ._optional import import_for
 from ._statistics import MOST_HEADERS, chain_name
 
 if TYPE_CHECKING:
     from pandas import DataFrame
 
-_FORMATS = {"size_t": "u8", "uint64_t": "u8", "int64_t": "i8", "uint32_t": "u4", "int32_t": "i4", "uint16_t": "u2",
-            "uint8_t": "u1", "_Bool": "?"}
-
 # Times have 64 bits of nanoseconds, so they end with this second, in the year 2262.
 _END_OF_TIMES = 2**63 // 10**9
 
 # How many texts of addresses and of chains are kept.
 _TEXTS = 1 << 16
-
-
-def _dtype_of(numpy: Any, kind: Any) -> Any:
-    """Returns numpy's type of a C struct."""
-    names, fields = zip(*kind.fields)
-    formats = [_dtype_of(numpy, it.type) if it.type.kind == "struct" else _FORMATS[it.type.cname] for it in fields]
-    return numpy.dtype({"names": names, "formats": formats, "offsets": [it.offset for it in fields],
-                        "itemsize": ffi.sizeof(kind)})
 
 
 class _Batch:
@@ -46,7 +36,7 @@ class _Batch:
 
     def array(self, structs: Any, kind: Any) -> Any:
         """Returns an array of C structs, one for each packet, as a numpy array."""
-        return self.numpy.frombuffer(ffi.buffer(structs), _dtype_of(self.numpy, kind), self.count)
+        return self.numpy.frombuffer(ffi.buffer(structs), dtype_of(self.numpy, kind), self.count)
 
     @functools.cached_property
     def dissected(self) -> tuple[Any, list[bytes | None]]:

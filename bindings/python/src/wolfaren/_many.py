@@ -1,0 +1,112 @@
+"""Dissects, filters and counts many packets of one buffer in one call of the library. Needs numpy."""
+
+from __future__ import annotations
+
+from typing import Any
+
+from ._library import Buffer, ffi, lib
+from ._optional import import_for
+
+_FORMATS = {"size_t": "u8", "uint64_t": "u8", "int64_t": "i8", "uint32_t": "u4", "int32_t": "i4", "uint16_t": "u2",
+            "uint8_t": "u1", "_Bool": "?"}
+
+
+class SpanError(ValueError):
+    """A packet that doesn't lie within the buffer."""
+
+    def __init__(self, index: int, offset: int, length: int, buffer_length: int) -> None:
+        super().__init__(index, offset, length, buffer_length)
+        self.index = index
+        """The index of the first such packet."""
+        self.offset = offset
+        self.length = length
+        self.buffer_length = buffer_length
+
+    def __str__(self) -> str:
+        return (f"packet {self.index}, {self.length} bytes at offset {self.offset}, doesn't lie within the buffer of "
+                f"{self.buffer_length} bytes")
+
+
+def dtype_of(numpy: Any, kind: Any) -> Any:
+    """Returns numpy's type of a C struct."""
+    names, fields = zip(*kind.fields)
+    formats = [dtype_of(numpy, it.type) if it.type.kind == "struct" else _FORMATS[it.type.cname] for it in fields]
+    return numpy.dtype({"names": names, "formats": formats, "offsets": [it.offset for it in fields],
+                        "itemsize": ffi.sizeof(kind)})
+
+
+class Packets:
+    """Packets at places in a buffer. `call` is the name of the call that needs numpy for them."""
+
+    def __init__(self, call: str, buffer: Buffer, offsets: Any, lengths: Any) -> None:
+        self.numpy = import_for(call, "numpy")
+        self.bytes = ffi.from_buffer("uint8_t[]", buffer)
+        self._columns = [self._column(it) for it in (offsets, lengths)]
+        self.count = len(self._columns[0])
+        if len(self._columns[1]) != self.count:
+            raise ValueError(f"{self.count} offsets, but {len(self._columns[1])} lengths")
+        spans = self.numpy.empty(self.count, dtype_of(self.numpy, ffi.typeof("struct wolfaren_packet_span")))
+        spans["offset"], spans["len"] = self._columns  # a negative number becomes one that no buffer has
+        self.spans = ffi.from_buffer("struct wolfaren_packet_span[]", spans)
+
+    def _column(self, numbers: Any) -> Any:
+        column = self.numpy.asarray(numbers)
+        if column.ndim != 1 or (column.size and column.dtype.kind not in "iu"):
+            raise TypeError("offsets and lengths are one-dimensional arrays of integers")
+        return column
+
+    def place(self, index: int) -> tuple[Any, int]:
+        """Returns where a packet begins, and its length."""
+        span = self.spans[index]
+        return self.bytes + span.offset, span.len
+
+    def pass_to(self, call: Any, *arguments: Any, array: Any = None, start: int = 0) -> None:
+        """Passes the packets to a call of the library, after these arguments. If there is an array to fill, passes as many
+        packets from `start` on as it has room for, and the array after them."""
+        outside = ffi.new("size_t *")
+        count, room = (self.count, ()) if array is None else (len(array), (array, len(array)))
+        if not call(*arguments, self.bytes, len(self.bytes), self.spans + start, count, *room, outside):
+            index = start + outside[0]
+            offset, length = (int(it[index]) for it in self._columns)
+            raise SpanError(index, offset, length, len(self.bytes))
+
+
+def dissect_many(buffer: Buffer, offsets: Any, lengths: Any) -> Any:
+    """Dissects the IP packets at many places in a buffer, each as `dissect` does.
+
+    Packet i has the `lengths[i]` bytes of the buffer from `offsets[i]` on. Both are one-dimensional arrays or sequences of
+    integers. Packets may overlap. Returns a numpy array with an element for each packet, in order, whose fields are the
+    columns:
+
+        base_len                u8   the length of the IP header in bytes, or 0 if there is none
+        stated_len              u8   the packet's length in bytes as the IP header states it, or 0 if it states none
+        headers                 u8   the number of extension headers
+        payload_offset          u8   where the payload begins, in bytes from the start of the packet
+        payload_len             u8   the number of payload bytes that are present
+        missing                 u8   the number of bytes of the stated length that aren't present
+        padding                 u8   the number of bytes after the packet
+        fault.required_len      u8   the number of bytes that a layer needs
+        fault.len               u8   the number of bytes that are available to it
+        fault.offset            u8   where this layer begins, in bytes from the start of the packet
+        fault.kind              u1   the error, a `FaultKind`, or 0
+        fault.header            u1   the faulty extension header, a `Layer`
+        fault.layer             u1   the layer that needs the bytes, a `Layer`
+        fault.len_source        u1   where `fault.len` comes from, a `LenSource`
+        fault.value             u4   the invalid version or internet header length
+        identification          u4   a number that all fragments of a packet share, or 0
+        fragment_offset         u4   where the fragment lies in the payload, in bytes
+        version                 u2   4 or 6, or 0 if there is no IP header
+        payload_number          u2   the protocol number of what follows the headers
+        fragment                u2   which fragment the packet is, a `FragmentKind`
+        end                     u2   why the headers end, an `End`
+
+    The column of a name with a dot is `array["fault"]["kind"]`. Numbers that don't apply are 0.
+
+    Raises `SpanError`, a `ValueError`, with the index of the first packet that doesn't lie within the buffer, and
+    `ImportError` if numpy isn't installed. Python's other threads run meanwhile; none may write to the buffer.
+    """
+    packets = Packets("wolfaren.dissect_many", buffer, offsets, lengths)
+    kind = ffi.typeof("struct wolfaren_dissection")
+    parts = packets.numpy.empty(packets.count, dtype_of(packets.numpy, kind))
+    packets.pass_to(lib.wolfaren_dissect_packets, array=ffi.from_buffer("struct wolfaren_dissection[]", parts))
+    return parts

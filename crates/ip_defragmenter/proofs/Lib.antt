@@ -1,0 +1,2 @@
+pub mod FinderLemmas
+pub mod FragmentLemmas

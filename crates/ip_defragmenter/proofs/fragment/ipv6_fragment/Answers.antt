@@ -1,0 +1,50 @@
+use Rattle.ip_spec.proofs.Common.{◌≡◌, ℕ, ◌+◌, ◌≤◌, List, Option, Some, None, refl, sym, ap, subst, ◌∙◌, arith, length, rules, ◌++◌, ExtHeader, bytes_of, find, option_map, fragment_fields}
+use Rattle.ip_base.specs.Ipv6Header.{ipv6_source_octets, ipv6_destination_octets}
+use Rattle.ip_base.specs.Ipv6HeaderSlice as ipv6_header
+use Rattle.ip_base.specs.declared.ip_number_impl.IpNumber.{IpNumber}
+use Rattle.ip_dissect.specs.Fragment.{fragments}
+use Rattle.ip_dissect.specs.Dissection.{dissected}
+use Rattle.ip_dissect.specs.Outline.{IsBaseOf}
+use Rattle.ip_defragmenter.specs.Split.{before_fragment}
+use Rattle.ip_defragmenter.specs.Finder.{found_at}
+use Rattle.ip_defragmenter.specs.FragmentOf.{FragmentParts, parts_of, ipv6_parts, ipv6_parts_by}
+use Rattle.ip_defragmenter.specs.declared.key.FragmentKey.TheVariants as key
+use Rattle.ip_defragmenter.specs.declared.finder.FoundHeader.{FoundHeader}
+use Rattle.ip_defragmenter.specs.declared.finder.Finder.{Finder}
+use Rattle.ip_defragmenter.proofs.FragmentLemmas.{FragmentLies, fragment_lies, ipv6_headers, ipv6_bytes, same_parts, found_is, none_is}
+use Rattle.ip_defragmenter.proofs.fragment.ipv6_fragment.Goals as goal
+
+same_key : (a b c d : List ℕ) (i j : ℕ) → a ≡ b → c ≡ d → i ≡ j → key.Ipv6 a c i ≡ key.Ipv6 b d j
+same_key a b c d i j e f h = cc
+
+pub front-requires : goal.front-requires
+front-requires c = (fragment_lies c.args.packet.now c.in-Some.header c.args.finder.now c.requires.found c.in-Some.is).start
+
+pub overflow_add-header : goal.overflow_add-header
+overflow_add-header c = let w = (fragment_lies c.args.packet.now c.in-Some.header c.args.finder.now c.requires.found c.in-Some.is).end in search (rules, w)
+
+pub part-requires-clause-ordered : goal.part-requires-clause-ordered
+part-requires-clause-ordered c = omega (arith, (fragment_lies c.args.packet.now c.in-Some.header c.args.finder.now c.requires.found c.in-Some.is).before, c.end_of.ensures.is)
+
+pub part-requires-clause-within : goal.part-requires-clause-within
+part-requires-clause-within c = c.end_of.ensures.within
+
+pub returns-in-Some : goal.returns-in-Some
+returns-in-Some c =
+    let s = c.args.packet.now.bytes.now in
+    let w = fragment_lies c.args.packet.now c.in-Some.header c.args.finder.now c.requires.found c.in-Some.is in
+    let base : ipv6_header.bytes c.args.base ≡ (dissected c.args.packet.now.bytes.now).base = (subst (IsBaseOf c.args.packet.now.bytes.now) c.requires.base c.args.packet.now.base_is).base in
+    ap Some (same_parts _ (ipv6_parts_by (dissected s) w.header)
+    (same_key _ _ _ _ _ _ (c.source.ensures ∙ ap ipv6_source_octets base) (c.destination.ensures ∙ ap ipv6_destination_octets base) (ap (λ (x : FoundHeader). x.identification) w.is))
+    (c.front.ensures ∙ ipv6_headers s c.args.packet.now.base c.args.packet.now.base_is w.header w.found c.in-Some.header.start (ap (λ (x : FoundHeader). x.start) w.is))
+    (ap (λ (f : Finder). f.link) c.requires.found)
+    (ap (λ (x : FoundHeader). x.next_header.0) w.is)
+    (ap (λ (x : FoundHeader). x.offset) w.is)
+    (ap (λ (x : FoundHeader). x.more) w.is)
+    (c.part.ensures ∙ ipv6_bytes s c.args.packet.now.base c.args.packet.now.base_is w.header w.found _ _ (ap (λ (x : FoundHeader). x.start + x.len) w.is) c.end_of.ensures.is))
+    ∙ sym (ap (option_map (ipv6_parts_by (dissected s))) w.found)
+
+pub returns-in-None : goal.returns-in-None
+returns-in-None c =
+    let s = c.args.packet.now.bytes.now in
+    sym (ap (option_map (ipv6_parts_by (dissected s))) (none_is (length (dissected s).base + length (bytes_of (before_fragment (dissected s).headers))) (find fragments (dissected s).headers) (sym c.in-None.is ∙ ap (λ (f : Finder). f.header) c.requires.found)))

@@ -1,0 +1,31 @@
+use Rattle.ip_spec.proofs.Common.{◌≡◌, ℕ, List, Option, Some, None, sym, ap, ◌∙◌, refl, option_map_or}
+use Rattle.std.specs.Prelude.{position}
+use Rattle.std.specs.Option.{option_and_then}
+use Rattle.ip_defragmenter.specs.Slots.{has_key, is_free, is_oldest, own_in, new_place, displaced_in, place_in}
+use Rattle.ip_defragmenter.specs.declared.key.FragmentKey.{FragmentKey}
+use Rattle.ip_defragmenter.specs.declared.pending.Pending.{Pending}
+use Rattle.ip_defragmenter.specs.declared.slots.Placement.{Placement}
+use Rattle.ip_defragmenter.proofs.slots.place_in.Goals as goal
+
+-- The place by what the three searches found.
+placed_by : (s : List (Option Pending)) (k : FragmentKey) (t : ℕ) (o f d : Option ℕ) → o ≡ position (has_key k) s → f ≡ position is_free s → d ≡ position (is_oldest s) s
+    → option_map_or (own_in s t) o (option_map_or (λ (i : ℕ). Some (new_place i t)) f (option_and_then (displaced_in s t) d)) ≡ place_in s k t
+placed_by s k t o f d own free oldest = rw (own, free, oldest) refl
+
+pub returns-in-Some-clause-place : goal.returns-in-Some-clause-place
+returns-in-Some-clause-place c =
+    let s = c.args.slots.now in
+    c.own_in.ensures.place ∙ placed_by s c.args.key.now c.args.time (Some c.in-Some.index) (position is_free s) (position (is_oldest s) s) c.in-Some.ensures.own refl refl
+
+pub returns-in-Some-find_free-clause-place : goal.returns-in-Some-find_free-clause-place
+returns-in-Some-find_free-clause-place c =
+    let s = c.args.slots.now in
+    ap Some c.new_place.ensures ∙ placed_by s c.args.key.now c.args.time None (Some c.in-Some-find_free.index) (position (is_oldest s) s) c.in_default.ensures.own c.in-Some-find_free.ensures.free refl
+
+pub returns-in-Some-find_oldest-clause-place : goal.returns-in-Some-find_oldest-clause-place
+returns-in-Some-find_oldest-clause-place c =
+    let s = c.args.slots.now in
+    c.displaced_in.ensures.place ∙ placed_by s c.args.key.now c.args.time None None (Some c.in-Some-find_oldest.index) c.in_default.ensures.own c.in_default-find_free.ensures.free c.in-Some-find_oldest.ensures.oldest
+
+pub returns-in-None-clause-place : goal.returns-in-None-clause-place
+returns-in-None-clause-place c = placed_by c.args.slots.now c.args.key.now c.args.time None None None c.in_default.ensures.own c.in_default-find_free.ensures.free c.in-None.ensures.oldest

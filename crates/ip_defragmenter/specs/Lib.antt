@@ -1,0 +1,7 @@
+pub mod Split
+pub mod Finder
+pub mod FragmentOf
+pub mod Key
+pub mod Slots
+pub mod Checksum
+pub mod Whole

@@ -1,0 +1,219 @@
+//! The fragment that a packet is.
+ghost use Rattle.std.specs.Prelude.{◌-◌, take, drop, ◌≡◌, ◌+◌, ◌≤◌, ℕ, length, [], Some, None, Ok, Err, true, if◌then◌else◌, is_some, IfSome};
+ghost use Rattle.std.specs.Option.{option_map};
+ghost use Rattle.std.specs.Result.{result_map_both, result_err};
+ghost use Rattle.ip_spec.specs.Chain.{bytes_of};
+ghost use Rattle.ip_dissect.specs.Dissection.{dissected, DissectedParts};
+ghost use Rattle.ip_dissect.specs.declared.dissection.BaseHeader.TheVariants.{Ipv4, Ipv6};
+ghost use Rattle.ip_dissect.specs.Outline.{outline_of};
+ghost use Rattle.ip_base.specs.Ipv4HeaderSlice as ipv4_header;
+ghost use Rattle.ip_base.specs.Ipv6HeaderSlice as ipv6_header;
+ghost use Rattle.ip_defragmenter.specs.Finder.{found_after};
+ghost use Rattle.ip_defragmenter.specs.FragmentOf.{parts_of, fragment_in, ipv4_parts, ipv6_parts, unusable, fragmented};
+
+use crate::finder::Finder;
+use crate::{FragmentError, FragmentKey};
+use ip_base::{IpFragOffset, IpNumber, Ipv4HeaderSlice, Ipv6HeaderSlice};
+use ip_dissect::{BaseHeader, Outline, Packet, PacketStart, PacketVisitor, Visited};
+
+/// A fragment of a packet, borrowed from its bytes.
+#[derive(Clone, Copy, Debug)]
+pub struct IpFragment<'a> {
+    /// What all fragments of the packet have in common.
+    pub key: FragmentKey,
+    /// The base header of IPv4. Of IPv6 the base header and the extension headers before the fragment header, which
+    /// follows them.
+    pub headers: &'a [u8],
+    /// The offset in `headers` of the field with the number of what follows them.
+    pub link: usize,
+    /// The number of what the packet's payload starts with: the protocol of IPv4, the fragment header's next header of
+    /// IPv6.
+    pub next_header: IpNumber,
+    /// The fragment offset.
+    pub offset: IpFragOffset,
+    /// Whether more fragments follow.
+    pub more: bool,
+    /// The fragment's bytes: those after the base header of IPv4, or after the fragment header of IPv6.
+    pub bytes: &'a [u8],
+}
+
+/// Returns the fragment that the packet at the start of `bytes` is, which may be any bytes. Returns `None` if the packet
+/// isn't a fragment, or if it is an atomic fragment, which is a packet by itself (RFC 6946).
+///
+/// Returns an error if the fragment can't be used: its headers are truncated or faulty (RFC 7112), it states no length,
+/// or bytes are missing.
+#[inline(always)]
+pub fn fragment_of(bytes: &[u8]) -> Result<Option<IpFragment<'_>>, FragmentError>
+    ensures { result_map_both (option_map parts_of) (λ e. e) result ≡ fragment_in (dissected bytes.now) }
+{
+    match Packet::visit(bytes, &mut Reading) {
+        Visited::Plain(read) => read,
+        Visited::Slow(read) => read,
+    }
+}
+
+/// A visitor of packets that reads which fragment each is.
+#[derive(Clone, Copy, Debug)]
+struct Reading;
+
+impl<'a> PacketVisitor<'a> for Reading {
+    type Plain = Result<Option<IpFragment<'a>>, FragmentError>;
+
+    type Slow = Result<Option<IpFragment<'a>>, FragmentError>;
+
+    ghost plain = { λ old s new x. result_map_both (option_map parts_of) (λ e. e) x ≡ fragment_in (dissected s) };
+
+    ghost slow = { λ old s new x. result_map_both (option_map parts_of) (λ e. e) x ≡ fragment_in (dissected s) };
+
+    #[inline(always)]
+    fn visit_plain(&mut self, packet: Packet<'a>) -> Result<Option<IpFragment<'a>>, FragmentError> {
+        fragment_by(&packet, &Finder::new())
+    }
+
+    #[inline(always)]
+    fn visit_slow(
+        &mut self,
+        start: PacketStart<'a>,
+    ) -> Result<Option<IpFragment<'a>>, FragmentError> {
+        let mut finder = Finder::new();
+        let packet = start.walk(&mut finder);
+        fragment_by(&packet, &finder)
+    }
+}
+
+/// Returns the fragment that a packet is, by what was found among its headers.
+#[inline(always)]
+fn fragment_by<'a>(
+    packet: &Packet<'a>,
+    finder: &Finder,
+) -> Result<Option<IpFragment<'a>>, FragmentError>
+    requires { finder.now ≡ found_after (length (dissected packet.now.bytes.now).base) (dissected packet.now.bytes.now).headers }
+    ensures { result_map_both (option_map parts_of) (λ e. e) result ≡ fragment_in (dissected packet.now.bytes.now) }
+{
+    let fragment = unchecked(packet, finder);
+    match fragment {
+        Some(fragment) => match test(&packet.outline) {
+            Ok(()) => Ok(Some(fragment)),
+            Err(error) => Err(error),
+        },
+        None => Ok(None),
+    }
+}
+
+/// Returns the fragment that a packet is, even if it can't be used.
+#[inline(always)]
+fn unchecked<'a>(packet: &Packet<'a>, finder: &Finder) -> Option<IpFragment<'a>>
+    requires { finder.now ≡ found_after (length (dissected packet.now.bytes.now).base)
+        (dissected packet.now.bytes.now).headers }
+    ensures { option_map parts_of result ≡ fragmented (dissected packet.now.bytes.now) }
+{
+    match packet.base {
+        Some(BaseHeader::Ipv4(base)) => ipv4_fragment(packet, base),
+        Some(BaseHeader::Ipv6(base)) => ipv6_fragment(packet, base, finder),
+        None => None,
+    }
+}
+
+/// Returns why a fragment can't be used, by the outline of its packet.
+#[inline(always)]
+fn test(outline: &Outline) -> Result<(), FragmentError>
+    ensures { (p : DissectedParts) → outline.now ≡ outline_of p
+        → result_err result ≡ unusable p }
+{
+    if outline.has_error {
+        return Err(FragmentError::Headers);
+    }
+    if outline.stated_len.is_none() {
+        return Err(FragmentError::NoLength);
+    }
+    if outline.missing != 0 {
+        return Err(FragmentError::Missing);
+    }
+    Ok(())
+}
+
+/// Returns the fragment that an IPv4 packet is.
+#[inline(always)]
+fn ipv4_fragment<'a>(packet: &Packet<'a>, base: Ipv4HeaderSlice<'a>) -> Option<IpFragment<'a>>
+    requires { packet.now.base ≡ Some (Ipv4 base) }
+    ensures { option_map parts_of result ≡ ipv4_parts (dissected packet.now.bytes.now) }
+{
+    if !base.is_fragmenting_payload() {
+        return None;
+    }
+    let start = packet.outline.base_len;
+    Some(IpFragment {
+        key: FragmentKey::Ipv4 {
+            source: base.source(),
+            destination: base.destination(),
+            protocol: base.protocol(),
+            identification: base.identification(),
+        },
+        headers: base.slice(),
+        link: 9,
+        next_header: base.protocol(),
+        offset: base.fragments_offset(),
+        more: base.more_fragments(),
+        bytes: part(packet.bytes, start, end_of(packet)),
+    })
+}
+
+/// Returns the fragment that an IPv6 packet is.
+#[inline(always)]
+fn ipv6_fragment<'a>(
+    packet: &Packet<'a>,
+    base: Ipv6HeaderSlice<'a>,
+    finder: &Finder,
+) -> Option<IpFragment<'a>>
+    requires base { packet.now.base ≡ Some (Ipv6 base) }
+    requires found { finder.now ≡ found_after (length (dissected packet.now.bytes.now).base)
+        (dissected packet.now.bytes.now).headers }
+    ensures { option_map parts_of result ≡ ipv6_parts (dissected packet.now.bytes.now) }
+{
+    match finder.header {
+        Some(header) => Some(IpFragment {
+            key: FragmentKey::Ipv6 {
+                source: base.source(),
+                destination: base.destination(),
+                identification: header.identification,
+            },
+            headers: front(packet.bytes, header.start),
+            link: finder.link,
+            next_header: header.next_header,
+            offset: header.offset,
+            more: header.more,
+            bytes: part(packet.bytes, header.start + header.len, end_of(packet)),
+        }),
+        None => None,
+    }
+}
+
+/// Returns the first `len` bytes.
+#[inline(always)]
+fn front(bytes: &[u8], len: usize) -> &[u8]
+    requires { len ≤ length bytes.now }
+    ensures { result.now ≡ take len bytes.now }
+{
+    &bytes[..len]
+}
+
+/// Returns the bytes from `start` to `end`.
+#[inline(always)]
+fn part(bytes: &[u8], start: usize, end: usize) -> &[u8]
+    requires ordered { start ≤ end }
+    requires within { end ≤ length bytes.now }
+    ensures { result.now ≡ take (end - start) (drop start bytes.now) }
+{
+    &bytes[start..end]
+}
+
+/// Returns where the packet ends in its bytes.
+#[inline(always)]
+fn end_of(packet: &Packet<'_>) -> usize
+    ensures is { result ≡ length (dissected packet.now.bytes.now).base
+        + length (bytes_of (dissected packet.now.bytes.now).headers)
+        + length (dissected packet.now.bytes.now).payload }
+    ensures within { result ≤ length packet.now.bytes.now }
+{
+    packet.outline.base_len + packet.outline.extensions_len + packet.outline.payload_len
+}

@@ -1,0 +1,18 @@
+//! Fragments of IP packets, and the packets that they make whole.
+#![tactic(auto)]
+
+mod checksum;
+mod err;
+mod finder;
+mod fragment;
+mod key;
+mod pending;
+mod slots;
+mod whole;
+
+pub use err::{FragmentError, WholeError};
+pub use fragment::{IpFragment, fragment_of};
+pub use key::FragmentKey;
+pub use pending::{Loss, LossReason, Pending};
+pub use slots::{Placement, give_up, place};
+pub use whole::write_packet;

@@ -1,0 +1,30 @@
+//! Packets of which fragments have arrived.
+
+use crate::FragmentKey;
+
+/// A packet that isn't whole yet.
+#[derive(Clone, Copy, Debug)]
+pub struct Pending {
+    /// What its fragments have in common.
+    pub key: FragmentKey,
+    /// When its first fragment arrived, in nanoseconds since any moment.
+    pub since: u64,
+}
+
+/// A packet was given up.
+#[derive(Clone, Copy, Debug)]
+pub struct Loss {
+    /// What its fragments have in common.
+    pub key: FragmentKey,
+    /// Why it was given up.
+    pub reason: LossReason,
+}
+
+/// Why a packet was given up.
+#[derive(Clone, Copy, Debug, PartialEq, Eq)]
+pub enum LossReason {
+    /// It wasn't whole 60 seconds after its first fragment (RFC 8200, section 4.5).
+    TimedOut,
+    /// All slots were in use, and it was the oldest.
+    Displaced,
+}

@@ -1,0 +1,247 @@
+//! Which slot a packet has.
+ghost use Rattle.std.specs.Prelude.{◌≡◌, ◌<◌, ◌≤◌, length, Some, None, IfSome, is_some, if◌then◌else◌, position};
+ghost use Rattle.ip_defragmenter.specs.Slots.{has_key, is_free, is_oldest, is_expired, since_of, own_place, own_in, new_place, displaced_place, displaced_in, place_in, first_of, place_of, slots_after, loss_of};
+
+use crate::{FragmentKey, Loss, LossReason, Pending};
+
+/// After how many nanoseconds a packet that isn't whole is given up: 60 seconds (RFC 8200, section 4.5).
+const TIMEOUT: u64 = 60_000_000_000;
+
+/// The slot of a packet.
+#[derive(Clone, Copy, Debug)]
+pub struct Placement {
+    /// The index of the slot.
+    pub index: usize,
+    /// When the packet's first fragment arrived.
+    pub since: u64,
+    /// Whether the slot has fragments of the packet already. If not, what was received in it is to be forgotten.
+    pub is_known: bool,
+    /// The packet that was given up for it.
+    pub lost: Option<Loss>,
+}
+
+/// Returns whether a slot is that of the packet with this key.
+#[inline(always)]
+fn has_key(slot: &Option<Pending>, key: &FragmentKey) -> bool
+    ensures { result ≡ has_key key.now slot.now }
+{
+    match slot {
+        Some(pending) => pending.key.is_same(key),
+        None => false,
+    }
+}
+
+/// Returns when the first fragment of a slot's packet arrived, or 0 if the slot is free.
+#[inline(always)]
+fn since_of(slot: &Option<Pending>) -> u64
+    ensures { result ≡ since_of slot.now }
+{
+    match slot {
+        Some(pending) => pending.since,
+        None => 0,
+    }
+}
+
+/// Returns whether 60 seconds have passed.
+#[inline(always)]
+fn is_expired(since: u64, time: u64) -> bool
+    ensures { result ≡ is_expired since time }
+{
+    time.saturating_sub(since) > TIMEOUT
+}
+
+/// Returns whether no slot has an older packet.
+#[inline(always)]
+fn is_oldest(slots: &[Option<Pending>], slot: &Option<Pending>) -> bool
+    ensures { result ≡ is_oldest slots.now slot.now }
+{
+    let since = since_of(slot);
+    slots.iter().all(|other| since <= since_of(other))
+}
+
+/// Returns the place of a packet in the slot that has it.
+#[inline(always)]
+fn own_place(index: usize, pending: &Pending, time: u64) -> Placement
+    ensures { result ≡ own_place index pending.now time }
+{
+    if is_expired(pending.since, time) {
+        Placement {
+            index,
+            since: time,
+            is_known: false,
+            lost: Some(Loss {
+                key: pending.key,
+                reason: LossReason::TimedOut,
+            }),
+        }
+    } else {
+        Placement {
+            index,
+            since: pending.since,
+            is_known: true,
+            lost: None,
+        }
+    }
+}
+
+/// Returns the place of a packet in the slot of another one, which is given up.
+#[inline(always)]
+fn displaced_place(index: usize, pending: &Pending, time: u64) -> Placement
+    ensures { result ≡ displaced_place index pending.now time }
+{
+    let reason = if is_expired(pending.since, time) {
+        LossReason::TimedOut
+    } else {
+        LossReason::Displaced
+    };
+    Placement {
+        index,
+        since: time,
+        is_known: false,
+        lost: Some(Loss {
+            key: pending.key,
+            reason,
+        }),
+    }
+}
+
+/// Returns the place of a packet in the slot with this index, which has it.
+#[inline(always)]
+fn own_in(slots: &[Option<Pending>], index: usize, time: u64) -> Option<Placement>
+    requires { index < length slots.now }
+    ensures place { result ≡ own_in slots.now time index }
+    ensures within { IfSome result (λ p. p.index ≡ index) }
+{
+    match &slots[index] {
+        Some(pending) => Some(own_place(index, pending, time)),
+        None => None,
+    }
+}
+
+/// Returns the place of a packet in a free slot.
+#[inline(always)]
+fn new_place(index: usize, time: u64) -> Placement
+    ensures { result ≡ new_place index time }
+{
+    Placement {
+        index,
+        since: time,
+        is_known: false,
+        lost: None,
+    }
+}
+
+/// Returns the place of a packet in the slot with this index, which has another one.
+#[inline(always)]
+fn displaced_in(slots: &[Option<Pending>], index: usize, time: u64) -> Option<Placement>
+    requires { index < length slots.now }
+    ensures place { result ≡ displaced_in slots.now time index }
+    ensures within { IfSome result (λ p. p.index ≡ index) }
+{
+    match &slots[index] {
+        Some(pending) => Some(displaced_place(index, pending, time)),
+        None => None,
+    }
+}
+
+/// Returns the index of the slot that has the packet with this key.
+#[inline(always)]
+fn find_own(slots: &[Option<Pending>], key: &FragmentKey) -> Option<usize>
+    ensures own { result ≡ position (has_key key.now) slots.now }
+    ensures within { IfSome result (λ i. i < length slots.now) }
+{
+    slots.iter().position(|slot| has_key(slot, key))
+}
+
+/// Returns the index of the first free slot.
+#[inline(always)]
+fn find_free(slots: &[Option<Pending>]) -> Option<usize>
+    ensures free { result ≡ position is_free slots.now }
+    ensures within { IfSome result (λ i. i < length slots.now) }
+{
+    slots.iter().position(|slot| slot.is_none())
+}
+
+/// Returns the index of the first slot whose packet is the oldest.
+#[inline(always)]
+fn find_oldest(slots: &[Option<Pending>]) -> Option<usize>
+    ensures oldest { result ≡ position (is_oldest slots.now) slots.now }
+    ensures within { IfSome result (λ i. i < length slots.now) }
+{
+    slots.iter().position(|slot| is_oldest(slots, slot))
+}
+
+/// Returns the place of the packet with this key in a set of slots: its own slot, else a free one, else that of the
+/// oldest packet. Returns `None` if there are no slots.
+fn place_in(slots: &[Option<Pending>], key: &FragmentKey, time: u64) -> Option<Placement>
+    ensures place { result ≡ place_in slots.now key.now time }
+    ensures within { IfSome result (λ p. p.index < length slots.now) }
+{
+    if let Some(index) = find_own(slots, key) {
+        return own_in(slots, index, time);
+    }
+    if let Some(index) = find_free(slots) {
+        return Some(new_place(index, time));
+    }
+    match find_oldest(slots) {
+        Some(index) => displaced_in(slots, index, time),
+        None => None,
+    }
+}
+
+/// Returns the index of the first slot of a packet's set, of at most 8 slots, by the hash of its key.
+#[inline(always)]
+fn first_of(len: usize, factor: u32, key: &FragmentKey) -> usize
+    ensures first { result ≡ first_of len factor key.now }
+    ensures within { result ≤ len }
+{
+    let sets = len.saturating_sub(1) / 8 + 1;
+    8 * (key.hash(factor) % sets as u64) as usize
+}
+
+/// Returns the slot of the packet with this key, to which a fragment arrived at this time, in nanoseconds since any
+/// moment. Makes it the packet's, if it wasn't. Returns `None` if there are no slots.
+///
+/// A packet that isn't whole 60 seconds after its first fragment is given up when the next one arrives, and the fragment
+/// begins a new one. Otherwise a packet that has no slot gets a free one among the 8 that its key's hash selects, by a
+/// factor that only the caller knows. If none of these is free, the oldest packet there is given up.
+pub fn place(
+    slots: &mut [Option<Pending>],
+    factor: u32,
+    key: FragmentKey,
+    time: u64,
+) -> Option<Placement>
+    ensures place { result ≡ place_of slots.old factor key time }
+    ensures slots { slots.new ≡ slots_after slots.old key result }
+{
+    let first = first_of(slots.len(), factor, &key);
+    let end = (first + 8).min(slots.len());
+    match place_in(&slots[first..end], &key, time) {
+        Some(found) => {
+            let index = first + found.index;
+            slots[index] = Some(Pending {
+                key,
+                since: found.since,
+            });
+            Some(Placement { index, ..found })
+        }
+        None => None,
+    }
+}
+
+/// Gives up the packet of a slot if it isn't whole after 60 seconds, and frees the slot.
+pub fn give_up(slot: &mut Option<Pending>, time: u64) -> Option<Loss>
+    ensures lost { result ≡ loss_of slot.old time }
+    ensures slot { slot.new ≡ (if is_some result then None else slot.old) }
+{
+    match *slot {
+        Some(pending) if is_expired(pending.since, time) => {
+            *slot = None;
+            Some(Loss {
+                key: pending.key,
+                reason: LossReason::TimedOut,
+            })
+        }
+        _ => None,
+    }
+}

@@ -373,7 +373,7 @@ fn other_bytes_after_a_packet_change_nothing() {
 
 #[test]
 fn refused_texts() {
-    let header = "a number from 0 to 255, `hopopt`, `route`, `frag`, `ah` or `dstopts`";
+    let header = "a number from 0 to 255, `hop-by-hop`, `routing`, `fragment`, `authentication` or `destination-options`";
     let rows = [
         ("", 0, Expected::Operand, "a term, `not` or `(`"),
         (

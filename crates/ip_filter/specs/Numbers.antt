@@ -1,5 +1,5 @@
 -- How a filter's text writes numbers, protocols, comparisons, kinds of fault and networks.
-use Rattle.std.specs.Prelude.{◌≡◌, ◌≤◌, ℕ, List, [], ◌∷◌, length, take, drop, Bool, false, not, ◌==◌, ◌&&◌, nat_le, nat_lt, bit_and, bit_or, Option, Some, None, codes, if◌then◌else◌}
+use Rattle.std.specs.Prelude.{◌≡◌, ◌≤◌, ℕ, List, [], ◌∷◌, length, take, drop, Bool, false, not, ◌==◌, ◌&&◌, ◌||◌, nat_le, nat_lt, bit_and, bit_or, Option, Some, None, codes, if◌then◌else◌}
 use Rattle.std.specs.List.{list_all, prefix_len}
 use Rattle.std.specs.Option.{option_or, option_and_then}
 use Rattle.std.specs.Char.{is_digit}
@@ -48,15 +48,19 @@ number_up_to most w = limited most (number_of w)
 abbrev pub version_of : Word → Option ℕ
 version_of w = if bytes_eq w (codes "4") then Some 4 else if bytes_eq w (codes "6") then Some 6 else None
 
+-- an extension header, by its name or the short form of it
+abbrev pub header_named : Word → Option ℕ
+header_named w =
+    if bytes_eq w (codes "hop-by-hop") || bytes_eq w (codes "hopopt") then Some 0
+    else if bytes_eq w (codes "routing") || bytes_eq w (codes "route") then Some 43
+    else if bytes_eq w (codes "fragment") || bytes_eq w (codes "frag") then Some 44
+    else if bytes_eq w (codes "authentication") || bytes_eq w (codes "ah") then Some 51
+    else if bytes_eq w (codes "destination-options") || bytes_eq w (codes "dstopts") then Some 60
+    else None
+
 -- an extension header, by its name or number
 abbrev pub header_of : Word → Option ℕ
-header_of w =
-    if bytes_eq w (codes "hopopt") then Some 0
-    else if bytes_eq w (codes "route") then Some 43
-    else if bytes_eq w (codes "frag") then Some 44
-    else if bytes_eq w (codes "ah") then Some 51
-    else if bytes_eq w (codes "dstopts") then Some 60
-    else number_up_to 255 w
+header_of w = option_or (header_named w) (number_up_to 255 w)
 
 -- an upper-layer protocol, or no next header, by its name
 abbrev pub upper_layer_of : Word → Option ℕ

@@ -17,7 +17,7 @@ pub enum Expected {
     #[error("4 or 6")]
     Version,
     /// An extension header.
-    #[error("a number from 0 to 255, `hopopt`, `route`, `frag`, `ah` or `dstopts`")]
+    #[error("a number from 0 to 255, `hop-by-hop`, `routing`, `fragment`, `authentication` or `destination-options`")]
     Header,
     /// A protocol or an extension header.
     #[error("a number from 0 to 255 or the name of a protocol")]

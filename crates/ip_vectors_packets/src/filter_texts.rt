@@ -78,6 +78,12 @@ fn terms(rt: HostRuntime) -> Result<(), Fail> {
     let rows = [
         ("version 4", last(1 << 4)),
         ("version 6", last(1 << 6)),
+        ("header hop-by-hop", last(1)),
+        ("header routing", last(1 << 43)),
+        ("header fragment", last(1 << 44)),
+        ("header authentication", last(1 << 51)),
+        ("header destination-options", last(1 << 60)),
+        ("leads-to routing", number(2, 43, PASSED, REFUSED)),
         ("header hopopt", last(1)),
         ("header route", last(1 << 43)),
         ("header 0x2C", last(1 << 44)),

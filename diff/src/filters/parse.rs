@@ -322,11 +322,11 @@ fn tcp_flags(word: &str) -> Option<TcpFlags> {
 
 fn header(word: &str) -> Option<u64> {
     match word {
-        "hopopt" => Some(0),
-        "route" => Some(43),
-        "frag" => Some(44),
-        "ah" => Some(51),
-        "dstopts" => Some(60),
+        "hop-by-hop" | "hopopt" => Some(0),
+        "routing" | "route" => Some(43),
+        "fragment" | "frag" => Some(44),
+        "authentication" | "ah" => Some(51),
+        "destination-options" | "dstopts" => Some(60),
         _ => number(word, 255),
     }
 }

@@ -118,8 +118,24 @@ fn term(packet: &[u8], random: &mut Random, words: &mut Vec<String>) {
         6 => {
             word(words, "header");
             let numbers = [
-                "hopopt", "route", "frag", "ah", "dstopts", "0", "43", "44", "51", "60", "0x2c",
-                "0X2C", "044",
+                "hop-by-hop",
+                "routing",
+                "fragment",
+                "authentication",
+                "destination-options",
+                "hopopt",
+                "route",
+                "frag",
+                "ah",
+                "dstopts",
+                "0",
+                "43",
+                "44",
+                "51",
+                "60",
+                "0x2c",
+                "0X2C",
+                "044",
             ];
             word(words, one_of(&numbers, random));
         }

@@ -1,2 +1,3 @@
 pub mod FinderLemmas
 pub mod FragmentLemmas
+pub mod MemoryLemmas

@@ -5,3 +5,4 @@ pub mod Key
 pub mod Slots
 pub mod Checksum
 pub mod Whole
+pub mod Memory

@@ -1,5 +1,6 @@
 //! Why fragments are dropped, and whole packets aren't written.
 
+use ip_defrag::AddError;
 use thiserror::Error;
 
 /// A fragment can't be used, whatever other fragments there are.
@@ -29,4 +30,15 @@ pub enum WholeError {
     /// The buffer is too short.
     #[error("the buffer is too short for the packet")]
     NoRoom,
+}
+
+/// A fragment isn't stored.
+#[derive(Clone, Copy, Debug, PartialEq, Eq, Hash, Error)]
+pub enum StoreError {
+    /// The payload refuses it.
+    #[error(transparent)]
+    Payload(AddError),
+    /// It is the first fragment, and its headers are longer than the buffer for them.
+    #[error("the headers of the first fragment are longer than the buffer")]
+    HeadersTooLong,
 }

@@ -6,13 +6,15 @@ mod err;
 mod finder;
 mod fragment;
 mod key;
+mod memory;
 mod pending;
 mod slots;
 mod whole;
 
-pub use err::{FragmentError, WholeError};
+pub use err::{FragmentError, StoreError, WholeError};
 pub use fragment::{IpFragment, fragment_of};
 pub use key::FragmentKey;
+pub use memory::PacketMemory;
 pub use pending::{Loss, LossReason, Pending};
 pub use slots::{Placement, give_up, place};
 pub use whole::write_packet;

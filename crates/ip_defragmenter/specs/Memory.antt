@@ -1,0 +1,64 @@
+-- What the memory of a packet holds.
+use Rattle.std.specs.Prelude.{◌≡◌, ℕ, Bool, true, ◌&&◌, ◌==◌, nat_lt, List, length, take, Option, Some, None, is_some, not, Result, Ok, Err, if◌then◌else◌}
+use Rattle.std.specs.Result.{result_map_both}
+use Rattle.ip_defrag.specs.Fragment.{Fragment, fragment_at}
+use Rattle.ip_defrag.specs.Payload.{payload_of}
+use Rattle.ip_defrag.specs.Received.{Received, outcome_of, received_after}
+use Rattle.ip_defrag.specs.Reassembly.{HasReceived}
+use Rattle.ip_defrag.specs.Split.{WasGiven}
+use Rattle.ip_defrag.specs.declared.progress.Progress.{Progress}
+use Rattle.ip_defragmenter.specs.FragmentOf.{FragmentParts}
+use Rattle.ip_defragmenter.specs.declared.err.StoreError.{StoreError}
+use Rattle.ip_defragmenter.specs.declared.err.StoreError.TheVariants.{Payload, HeadersTooLong}
+use Rattle.ip_defragmenter.specs.declared.memory.PacketMemory.{PacketMemory}
+
+-- The payload has received this.
+abbrev pub HoldsReceived : PacketMemory → Received → Type 0
+HoldsReceived m s = HasReceived m.reassembly s
+
+-- The memory was new, with room for so many bytes of payload, and then these fragments were added, the newest first.
+abbrev pub WasStored : PacketMemory → ℕ → List Fragment → Type 0
+WasStored m limit fs = WasGiven m.reassembly limit true fs
+
+-- what the whole packet takes from its first fragment: its headers, the offset in them of the field with the number of
+-- what follows them, and the number of what the payload starts with
+pub record FirstParts : Type 0 where
+  pub headers : List ℕ
+  pub link : ℕ
+  pub number : ℕ
+
+-- that of a fragment
+abbrev pub first_of : FragmentParts → FirstParts
+first_of f = record { headers = f.headers; link = f.link; number = f.number }
+
+-- that of the first fragment in the memory
+abbrev pub first_in : PacketMemory → Option FirstParts
+first_in m = if m.has_first then Some (record { headers = take m.head_len m.head.now; link = m.link; number = m.next_header.0 }) else None
+
+-- how long the headers of the first fragment can be
+abbrev pub head_room : PacketMemory → ℕ
+head_room m = length m.head.now
+
+-- the fragment of the payload that a packet is
+abbrev pub piece_of : FragmentParts → Fragment
+piece_of f = fragment_at f.offset f.more f.bytes
+
+-- It is the first fragment, and its headers are longer than their buffer.
+abbrev pub is_too_long : ℕ → FragmentParts → Bool
+is_too_long room f = (f.offset == 0) && nat_lt room (length f.headers)
+
+-- what `add` returns for a fragment
+abbrev pub stored_outcome : ℕ → Received → FragmentParts → Result Progress StoreError
+stored_outcome room s f = if is_too_long room f then Err HeadersTooLong else result_map_both (λ p. p) Payload (outcome_of s (piece_of f))
+
+-- what the payload has then received
+abbrev pub stored_after : ℕ → Received → FragmentParts → Received
+stored_after room s f = if is_too_long room f then s else received_after s (piece_of f)
+
+-- what is kept of the first fragment, after this one was accepted or not
+abbrev pub first_after : Option FirstParts → Bool → FragmentParts → Option FirstParts
+first_after o accepted f = if accepted && (f.offset == 0) && not (is_some o) then Some (first_of f) else o
+
+-- the payload, if it is whole and the packet wasn't abandoned
+abbrev pub payload_in : Received → Option (List ℕ)
+payload_in s = if s.abandoned then None else payload_of s.fragments

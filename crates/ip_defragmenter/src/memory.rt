@@ -1,0 +1,149 @@
+//! The fragments of one packet.
+ghost use Rattle.std.specs.Prelude.{◌≡◌, ◌≤◌, length};
+
+use crate::{IpFragment, StoreError, WholeError, write_packet};
+use ip_base::{IpNumber, ip_number};
+use ip_defrag::{Progress, Reassembly};
+
+/// The fragments of one packet, in two buffers of the caller's: the headers of the first fragment, and the payload.
+#[derive(Drop)]
+pub struct PacketMemory<'b> {
+    /// The headers of the first fragment, at the start.
+    head: &'b mut [u8],
+    /// Their length in bytes.
+    head_len: usize,
+    /// Whether the first fragment has arrived.
+    has_first: bool,
+    /// The offset in its headers of the number of what follows them.
+    link: usize,
+    /// The number of what the payload starts with.
+    next_header: IpNumber,
+    /// The payload.
+    reassembly: Reassembly<'b>,
+    ghost fits: { head_len ≤ length head.now },
+}
+
+impl<'b> PacketMemory<'b> {
+    ghost use Rattle.std.specs.Prelude.{◌≡◌, ◌+◌, ◌++◌, ◌≤◌, ℕ, Bool, List, [], ◌∷◌, length, min, true, false, None, Some, Ok, OnOk, OnErr, IfOk, IfErr, IsOk, drop, if◌then◌else◌};
+    ghost use Rattle.ip_defrag.specs.Fragment.{Fragment, fragment_at};
+    ghost use Rattle.ip_defrag.specs.Split.{IsSplit, are_among};
+    ghost use Rattle.ip_defragmenter.specs.Whole.{whole_packet, whole_fault};
+    ghost use Rattle.ip_defragmenter.specs.Memory.{WasStored, HoldsReceived, FirstParts, first_in, first_of, first_after, head_room, is_too_long, piece_of, stored_outcome, stored_after, payload_in};
+    ghost use Rattle.ip_defragmenter.specs.FragmentOf.{parts_of};
+    ghost use Rattle.ip_defrag.specs.Received.{Received};
+    ghost use Rattle.std.specs.Result.{result_err, is_ok};
+
+    /// Returns a memory without fragments. The headers of the first fragment can be as long as `head`, and the payload as
+    /// long as `payload`, and at most 65,535 bytes.
+    pub fn new(head: &'b mut [u8], payload: &'b mut [u8]) -> PacketMemory<'b>
+        ensures given { WasStored result (min (length payload.old) 65535) [] }
+        ensures first { first_in result ≡ None }
+    {
+        PacketMemory {
+            head,
+            head_len: 0,
+            has_first: false,
+            link: 0,
+            next_header: ip_number::IPV6_NO_NEXT_HEADER,
+            reassembly: Reassembly::abandoning(payload),
+        }
+    }
+
+    /// Forgets all fragments.
+    pub fn clear(&mut self)
+        ensures given { (limit : ℕ) (given : List Fragment) → WasStored self.old limit given
+            → WasStored self.new limit [] }
+        ensures first { first_in self.new ≡ None }
+    {
+        self.has_first = false;
+        self.reassembly.clear();
+    }
+
+    /// Adds a fragment of the packet. Returns whether the payload is whole. Keeps the headers of the first fragment when it
+    /// arrives.
+    ///
+    /// Returns an error and stores nothing if the payload refuses the fragment, as `Reassembly::add` does, or if the
+    /// fragment is the first and its headers are longer than their buffer. After a conflict, an overlap or two ends, the
+    /// packet is abandoned (RFC 5722).
+    pub fn add(&mut self, fragment: &IpFragment<'_>) -> Result<Progress, StoreError>
+        ensures outcome { (s : Received) → HoldsReceived self.old s
+            → result ≡ stored_outcome (head_room self.old) s (parts_of fragment.now) }
+        ensures received { (s : Received) → HoldsReceived self.old s
+            → HoldsReceived self.new (stored_after (head_room self.old) s (parts_of fragment.now)) }
+        ensures first { first_in self.new
+            ≡ first_after (first_in self.old) (is_ok result) (parts_of fragment.now) }
+        ensures room { head_room self.new ≡ head_room self.old }
+
+        // The fragments of one payload, in any order and repeated, make it whole once each of them was added.
+        ensures pieces { (payload : List ℕ) (pieces given : List Fragment) (limit : ℕ)
+            → WasStored self.old limit given
+            → IsSplit payload pieces → length payload ≤ limit
+            → are_among (piece_of (parts_of fragment.now) ∷ given) pieces ≡ true
+            → is_too_long (head_room self.old) (parts_of fragment.now) ≡ false
+            → result ≡ Ok (if are_among pieces (piece_of (parts_of fragment.now) ∷ given)
+            then Progress.Whole else Progress.MoreWanted) }
+    {
+        let is_first = fragment.offset.value() == 0;
+        if is_first && fragment.headers.len() > self.head.len() {
+            return Err(StoreError::HeadersTooLong);
+        }
+        match self
+            .reassembly
+            .add(fragment.offset, fragment.more, fragment.bytes)
+        {
+            Ok(progress) => {
+                if is_first && !self.has_first {
+                    self.keep_first(fragment);
+                }
+                Ok(progress)
+            }
+            Err(error) => Err(StoreError::Payload(error)),
+        }
+    }
+
+    /// Keeps the headers of the first fragment.
+    fn keep_first(&mut self, fragment: &IpFragment<'_>)
+        requires { length fragment.now.headers.now ≤ length self.old.head.now }
+        ensures first { first_in self.new ≡ Some (first_of (parts_of fragment.now)) }
+        ensures reassembly { self.new.reassembly ≡ self.old.reassembly }
+        ensures room { head_room self.new ≡ head_room self.old }
+    {
+        let len = fragment.headers.len();
+        self.head[..len].copy_from_slice(fragment.headers);
+        self.head_len = len;
+        self.has_first = true;
+        self.link = fragment.link;
+        self.next_header = fragment.next_header;
+    }
+
+    /// Writes the whole packet to the start of `out`, as `write_packet` does, and returns its length in bytes. Returns
+    /// `None` and leaves `out` as it is if the packet isn't whole, or was abandoned.
+    pub fn write(&self, out: &mut [u8]) -> Result<Option<usize>, WholeError>
+        ensures not_whole { (s : Received) → HoldsReceived self.now s
+            → payload_in s ≡ None → (result ≡ Ok None) × (out.new ≡ out.old) }
+        ensures not_first { first_in self.now ≡ None → (result ≡ Ok None) × (out.new ≡ out.old) }
+        ensures fault { (s : Received) (f : FirstParts) (payload : List ℕ)
+            → HoldsReceived self.now s → payload_in s ≡ Some payload → first_in self.now ≡ Some f
+            → result_err result ≡ whole_fault f.headers f.link (length payload) (length out.old) }
+        ensures written { (s : Received) (f : FirstParts) (payload : List ℕ)
+            → HoldsReceived self.now s → payload_in s ≡ Some payload → first_in self.now ≡ Some f
+            → OnOk result ((result ≡ Ok (Some (length f.headers + length payload)))
+            × (out.new ≡ whole_packet f.headers f.link f.number payload
+            ++ drop (length f.headers + length payload) out.old)) }
+        ensures stays { OnErr result (out.new ≡ out.old) }
+    {
+        if !self.has_first {
+            return Ok(None);
+        }
+        match self.reassembly.payload() {
+            Some(payload) => {
+                let headers = &self.head[..self.head_len];
+                match write_packet(headers, self.link, self.next_header, payload, out) {
+                    Ok(len) => Ok(Some(len)),
+                    Err(error) => Err(error),
+                }
+            }
+            None => Ok(None),
+        }
+    }
+}

@@ -5,6 +5,9 @@ use Rattle.ip_defrag.specs.Fragment.{Fragment}
 use Rattle.ip_defrag.specs.Refusal.{refusal}
 use Rattle.ip_defrag.specs.Received.{Received, received_nothing, received_by, received_after, received_all}
 use Rattle.ip_defrag.specs.declared.err.AddError.{AddError}
+use Rattle.ip_defragmenter.specs.FragmentOf.{FragmentParts}
+use Rattle.ip_defragmenter.specs.Memory.{is_too_long, piece_of, stored_after}
+use Rattle.ip_defragmenter.specs.Memories.{held_after}
 
 pub record KeepsLimit (s t : Received) : Type 0 where
   pub limit : t.limit ≡ s.limit
@@ -27,3 +30,12 @@ keeps_all s (f ∷ fs) =
     let before = keeps_all s fs in
     let after = keeps_after (received_all s fs) f in
     record { limit = after.limit ∙ before.limit; abandons = after.abandons ∙ before.abandons }
+
+-- what the payload has received after a fragment, by the fragments that the memory then holds
+pub stored_is : (room limit : ℕ) (held : List Fragment) (f : FragmentParts) → stored_after room (received_all (received_nothing limit true) held) f ≡ received_all (received_nothing limit true) (held_after room held f)
+stored_is room limit held f =
+    let s : Received = received_all (received_nothing limit true) held in
+    elim (is_too_long room f) as (λ b. cond b s (received_after s (piece_of f)) ≡ received_all (received_nothing limit true) (cond b held (piece_of f ∷ held))) [
+      | true ↦ refl
+      | false ↦ refl
+    ]

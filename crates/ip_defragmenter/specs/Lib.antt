@@ -6,3 +6,5 @@ pub mod Slots
 pub mod Checksum
 pub mod Whole
 pub mod Memory
+pub mod Memories
+pub mod Added

@@ -2,19 +2,24 @@
 #![tactic(auto)]
 
 mod checksum;
+mod defragmenter;
 mod err;
 mod finder;
 mod fragment;
 mod key;
 mod memory;
+mod outcome;
 mod pending;
 mod slots;
+mod store;
 mod whole;
 
+pub use defragmenter::{add_fragment, defragment};
 pub use err::{FragmentError, StoreError, WholeError};
 pub use fragment::{IpFragment, fragment_of};
 pub use key::FragmentKey;
 pub use memory::PacketMemory;
+pub use outcome::{Added, DropReason, Outcome};
 pub use pending::{Loss, LossReason, Pending};
 pub use slots::{Placement, give_up, place};
 pub use whole::write_packet;

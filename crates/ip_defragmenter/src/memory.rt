@@ -54,6 +54,7 @@ impl<'b> PacketMemory<'b> {
         ensures given { (limit : ℕ) (given : List Fragment) → WasStored self.old limit given
             → WasStored self.new limit [] }
         ensures first { first_in self.new ≡ None }
+        ensures room { head_room self.new ≡ head_room self.old }
     {
         self.has_first = false;
         self.reassembly.clear();

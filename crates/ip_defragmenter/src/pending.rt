@@ -3,7 +3,7 @@
 use crate::FragmentKey;
 
 /// A packet that isn't whole yet.
-#[derive(Clone, Copy, Debug)]
+#[derive(Clone, Copy, Debug, PartialEq, Eq)]
 pub struct Pending {
     /// What its fragments have in common.
     pub key: FragmentKey,
@@ -12,7 +12,7 @@ pub struct Pending {
 }
 
 /// A packet was given up.
-#[derive(Clone, Copy, Debug)]
+#[derive(Clone, Copy, Debug, PartialEq, Eq)]
 pub struct Loss {
     /// What its fragments have in common.
     pub key: FragmentKey,

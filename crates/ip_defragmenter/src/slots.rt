@@ -213,6 +213,7 @@ pub fn place(
 ) -> Option<Placement>
     ensures place { result ≡ place_of slots.old factor key time }
     ensures slots { slots.new ≡ slots_after slots.old key result }
+    ensures within { IfSome result (λ p. p.index < length slots.old) }
 {
     let first = first_of(slots.len(), factor, &key);
     let end = (first + 8).min(slots.len());

@@ -1,0 +1,52 @@
+-- What a packet that is added changes.
+use Rattle.std.specs.Prelude.{◌≡◌, ℕ, Bool, true, false, List, Option, Some, None, Result, Ok, Err, slice_get, slice_set, if◌then◌else◌}
+use Rattle.ip_defrag.specs.declared.progress.Progress.{Progress}
+use Rattle.ip_defrag.specs.declared.progress.Progress.TheVariants.{MoreWanted as More, Whole as All}
+use Rattle.ip_defragmenter.specs.FragmentOf.{FragmentParts}
+use Rattle.ip_defragmenter.specs.Slots.{place_of, slots_after}
+use Rattle.ip_defragmenter.specs.Memories.{IsStoredIn}
+use Rattle.ip_defragmenter.specs.declared.err.StoreError.{StoreError}
+use Rattle.ip_defragmenter.specs.declared.memory.PacketMemory.{PacketMemory}
+use Rattle.ip_defragmenter.specs.declared.pending.Pending.{Pending}
+use Rattle.ip_defragmenter.specs.declared.slots.Placement.{Placement}
+use Rattle.ip_defragmenter.specs.declared.outcome.Added.{Added}
+use Rattle.ip_defragmenter.specs.declared.outcome.Outcome.{Outcome}
+use Rattle.ip_defragmenter.specs.declared.outcome.Outcome.TheVariants.{MoreWanted, Whole, Dropped}
+use Rattle.ip_defragmenter.specs.declared.outcome.DropReason.TheVariants.{Refused, NoSlot}
+
+-- what became of a fragment, by what the memory with this index returned
+abbrev pub outcome_of : ℕ → Result Progress StoreError → Outcome
+outcome_of i (Ok More) = MoreWanted
+outcome_of i (Ok All) = Whole i
+outcome_of i (Err e) = Dropped (Refused e)
+
+-- The packet is whole.
+abbrev pub is_whole : Result Progress StoreError → Bool
+is_whole (Ok More) = false
+is_whole (Ok All) = true
+is_whole (Err e) = false
+
+-- the slots, of which this one is free again or not
+abbrev pub freed : Bool → ℕ → List (Option Pending) → List (Option Pending)
+freed b i slots = if b then slice_set slots i None else slots
+
+-- no packet was given up
+abbrev pub added_nothing : Outcome → Added
+added_nothing o = record { outcome = o; lost = None }
+
+-- A fragment was added at this place: the memory there returned r, and no other memory changed. The slot is free again if
+-- the packet is whole, and its packet's otherwise.
+pub record IsAddedAt (slots : List (Option Pending)) (memories : List PacketMemory) (f : FragmentParts) (p : Placement) (slots' : List (Option Pending)) (memories' : List PacketMemory) (a : Added) (r : Result Progress StoreError) : Type 0 where
+  pub lost : a.lost ≡ p.lost
+  pub outcome : a.outcome ≡ outcome_of p.index r
+  pub slot : slots' ≡ freed (is_whole r) p.index (slots_after slots f.key (Some p))
+  pub others : (j : ℕ) → (j ≡ p.index → ⊥) → slice_get memories' j ≡ slice_get memories j
+  pub own : (m : PacketMemory) → slice_get memories p.index ≡ Some m → IsStoredIn m (slice_get memories' p.index) p.is_known f r
+
+-- A fragment was added at its packet's place, if there is one.
+abbrev pub IsAddedBy : List (Option Pending) → List PacketMemory → FragmentParts → Option Placement → List (Option Pending) → List PacketMemory → Added → Type 0
+IsAddedBy slots memories f None slots' memories' a = (a ≡ added_nothing (Dropped NoSlot)) × (slots' ≡ slots) × (memories' ≡ memories)
+IsAddedBy slots memories f (Some p) slots' memories' a = (r : Result Progress StoreError) × IsAddedAt slots memories f p slots' memories' a r
+
+abbrev pub IsAdded : List (Option Pending) → List PacketMemory → ℕ → ℕ → FragmentParts → List (Option Pending) → List PacketMemory → Added → Type 0
+IsAdded slots memories factor time f slots' memories' a = IsAddedBy slots memories f (place_of slots factor f.key time) slots' memories' a

@@ -1,0 +1,36 @@
+//! What becomes of a packet that is added.
+
+use crate::{FragmentError, Loss, StoreError};
+
+/// What became of a packet that was added, and the packet that was given up for it.
+#[derive(Clone, Copy, Debug, PartialEq, Eq)]
+pub struct Added {
+    /// What became of the packet.
+    pub outcome: Outcome,
+    /// The packet that was given up for it, if any.
+    pub lost: Option<Loss>,
+}
+
+/// What became of a packet that was added.
+#[derive(Clone, Copy, Debug, PartialEq, Eq)]
+pub enum Outcome {
+    /// It isn't a fragment, or it is an atomic fragment, which is a packet by itself (RFC 6946).
+    NotFragment,
+    /// Fragments of its packet are missing.
+    MoreWanted,
+    /// Its packet is whole: the memory with this index has it until another packet is stored there.
+    Whole(usize),
+    /// It is a fragment, and was dropped.
+    Dropped(DropReason),
+}
+
+/// Why a fragment was dropped.
+#[derive(Clone, Copy, Debug, PartialEq, Eq)]
+pub enum DropReason {
+    /// It can't be used.
+    Unusable(FragmentError),
+    /// Its packet's memory refuses it.
+    Refused(StoreError),
+    /// There are no slots.
+    NoSlot,
+}

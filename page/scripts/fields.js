@@ -8,7 +8,7 @@ Wolfaren.fields = (function () {
         return bytes.length > most ? `${hex(bytes.subarray(0, most))}…` : hex(bytes);
     }
     function named(number) {
-        return `${number} ${Wolfaren.names.ofNumber(number)}`;
+        return `${number} ${Wolfaren.names.ofNumber(number)}`.trim();
     }
     function of(part, bytes) {
         const b = bytes.subarray(part.offset, part.offset + part.len);
@@ -30,6 +30,11 @@ Wolfaren.fields = (function () {
         const groups = Array.from({ length: 8 }, (_, i) => half(b, 2 * i).toString(16));
         return new URL(`http://[${groups.join(":")}]/`).hostname.slice(1, -1);
     }
+    // Returns the source and the destination address of an IP header.
+    function addresses(part, bytes) {
+        const b = bytes.subarray(part.offset, part.offset + part.len);
+        return part.version === 6 ? [address6(b.subarray(8, 24)), address6(b.subarray(24, 40))] : [b.subarray(12, 16).join("."), b.subarray(16, 20).join(".")];
+    }
     // RFC 8200, section 3.
     function ipv6(b) {
         return [["Version", 4, b[0] >> 4], ["Traffic Class", 8, "0x" + ((b[0] & 15) << 4 | b[1] >> 4).toString(16)], ["Flow Label", 20, "0x" + (word(b, 0) & 0xfffff).toString(16)],
@@ -39,7 +44,7 @@ Wolfaren.fields = (function () {
     // RFC 791, section 3.1.
     function ipv4(b) {
         const found = [["Version", 4, b[0] >> 4], ["IHL", 4, b[0] & 15], ["Type of Service", 8, "0x" + b[1].toString(16)], ["Total Length", 16, half(b, 2)],
-            ["Identification", 16, "0x" + half(b, 4).toString(16)], ["Flags", 3, b[6] >> 5], ["Fragment Offset", 13, half(b, 6) & 0x1fff],
+            ["Identification", 16, "0x" + half(b, 4).toString(16).padStart(4, "0")], ["Flags", 3, b[6] >> 5], ["Fragment Offset", 13, half(b, 6) & 0x1fff],
             ["Time to Live", 8, b[8]], ["Protocol", 8, named(b[9])], ["Header Checksum", 16, "0x" + half(b, 10).toString(16)],
             ["Source Address", 32, b.subarray(12, 16).join(".")], ["Destination Address", 32, b.subarray(16, 20).join(".")]];
         if (b.length > 20) found.push(["Options", (b.length - 20) * 8, shown(b.subarray(20), 20)]);
@@ -65,5 +70,5 @@ Wolfaren.fields = (function () {
     function options(b) {
         return [["Next Header", 8, named(b[0])], ["Hdr Ext Len", 8, b[1]], ["Options", (b.length - 2) * 8, shown(b.subarray(2), 24)]];
     }
-    return { of };
+    return { of, addresses };
 })();

@@ -1,12 +1,12 @@
 // Calls the library. Its structs have the layout of include/wolfaren.h, with a 64-bit size_t.
 "use strict";
 Wolfaren.library = (function () {
-    const HEADER = 24, DISSECTION = 104, BYTES = 16, TEXT = 256;
+    const HEADER = 24, DISSECTION = 104, BYTES = 16;
     // A struct wolfaren_dissection and the slice of bytes; a struct wolfaren_chain has 56 bytes.
     const ANSWER = DISSECTION + BYTES;
     // The smallest module with a memory of 64-bit addresses.
     const WIDE = new Uint8Array([0, 97, 115, 109, 1, 0, 0, 0, 5, 3, 1, 4, 1]);
-    let calls = null, memory = null, room = 0, start = 0, words = 0;
+    let calls = null, memory = null, room = 0, start = 0;
 
     function isSupported() {
         return typeof WebAssembly === "object" && WebAssembly.validate(WIDE);
@@ -21,26 +21,21 @@ Wolfaren.library = (function () {
     // Copies the bytes into memory after the part that the module itself uses, with room after them for the results.
     function place(bytes) {
         const most = Math.floor(bytes.length / 8) + 1;
-        const needed = bytes.length + 8 + ANSWER + TEXT + most * HEADER;
+        const needed = bytes.length + 8 + ANSWER + most * HEADER;
         while (room < needed) {
             memory.grow(16n);
             room = memory.buffer.byteLength - start;
         }
         new Uint8Array(memory.buffer, start, bytes.length).set(bytes);
         const answer = start + Math.ceil(bytes.length / 8) * 8;
-        words = answer + ANSWER;
-        return { answer, headers: words + TEXT, most };
+        return { answer, headers: answer + ANSWER, most };
     }
     function size(view, at) {
         return Number(view.getBigUint64(at, true));
     }
     function faultAt(view, at) {
         return { requiredLen: size(view, at), len: size(view, at + 8), offset: size(view, at + 16), kind: view.getUint8(at + 24), header: view.getUint8(at + 25),
-            layer: view.getUint8(at + 26), lenSource: view.getUint8(at + 27), value: view.getUint32(at + 28, true), text: textAt(at) };
-    }
-    function textAt(fault) {
-        const len = Number(calls.wolfaren_fault_text(BigInt(fault), BigInt(words), BigInt(TEXT)));
-        return new TextDecoder().decode(new Uint8Array(memory.buffer, words, len));
+            layer: view.getUint8(at + 26), lenSource: view.getUint8(at + 27), value: view.getUint32(at + 28, true) };
     }
     function headersAt(view, at, count) {
         const headers = [];

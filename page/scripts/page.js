@@ -1,31 +1,67 @@
 // Connects the controls to the rest.
 "use strict";
 Wolfaren.page = (function () {
-    const KINDS = ["packet", "ethernet", "chain6", "chain4"];
+    const LINK = /^#(packet|ethernet|cooked|cooked2|loopback|ppp|chain6|chain4)(?::(\d{1,3}))?(:places)?:([0-9a-f]*)$/i;
     const EXAMPLE = "6000000000202b40 20010db8000000000000000000000001 20010db8000000000000000000000002\n3c00000000000000 2c00010400000000 1100000100000007 0035303900080000";
     const STYLES = ["fill", "stroke", "stroke-width", "stroke-dasharray", "font-family", "font-size", "font-weight", "text-anchor", "dominant-baseline", "text-decoration"];
-    const MOST_LISTED = 10000;
+    const EMPTY = { bytes: new Uint8Array(0) };
     const at = (id) => document.getElementById(id);
-    let model = null, drawn = null, packets = [];
+    // The packets of the list, the one that is drawn, and what was read from the text.
+    let packets = [], packet = EMPTY, reading = null, isFromFile = false, model = null, drawn = null, width = 0;
 
-    function state() {
-        const { bytes, unread } = Wolfaren.input.read(at("text").value);
-        const first = Math.min(255, Math.max(0, Math.trunc(Number(at("first").value)) || 0));
-        return { kind: at("kind").value, first, bytes, unread };
+    function firstNumber() {
+        return Math.min(255, Math.max(0, Math.trunc(Number(at("first").value)) || 0));
+    }
+    // Returns the kind of a packet: the chosen one, that of the capture, or what the bytes look like.
+    function kindOf(it) {
+        if (at("kind").value !== "auto") return { kind: at("kind").value, why: "" };
+        return it.kind === undefined ? Wolfaren.kind.find(it.bytes) : { kind: it.kind, why: it.why };
+    }
+    function parse(it) {
+        const { kind, why } = kindOf(it);
+        if (kind === null) return Wolfaren.parse.unparsed(it.bytes, why);
+        const parsed = Wolfaren.parse.parse(kind === "capture" ? "packet" : kind, firstNumber(), it.bytes);
+        return Object.assign(parsed, { hint: hintOf(kind, it.bytes, parsed) });
+    }
+    // Returns the kind that the bytes look like if another one was chosen, and says so in place of the error in the IP version.
+    function hintOf(kind, bytes, parsed) {
+        const found = Wolfaren.kind.find(bytes);
+        if (at("kind").value === "auto" || kind.startsWith("chain") || found.why === "" || found.kind === kind || !parsed.fault && !parsed.note) return "";
+        if (parsed.fault && parsed.fault.kind === Wolfaren.faults.UNSUPPORTED_IP_VERSION) parsed.fault.text = `these bytes look like ${Wolfaren.kind.NAMES[found.kind]}`;
+        return found.kind;
     }
     function show() {
-        const { kind, first, bytes, unread } = state();
-        at("first-label").hidden = !kind.startsWith("chain");
-        model = Wolfaren.parse.parse(kind, first, bytes);
+        model = parse(packet);
         addPlaces(model);
-        drawn = Wolfaren.picture.draw(model, at("places").checked);
-        at("picture").replaceChildren(drawn);
+        at("first-label").hidden = !model.kind.startsWith("chain");
         at("summary").textContent = Wolfaren.table.sentence(model);
-        at("summary").classList.toggle("faulty", model.fault !== null);
+        at("summary").className = `summary ${model.fault ? Wolfaren.table.endWord(model.fault) : ""}`;
+        at("link").href = linkTo(model);
+        at("nothing").hidden = packet.bytes.length > 0;
+        at("something").hidden = packet.bytes.length === 0;
+        showKind();
+        drawAgain();
         Wolfaren.table.show(at("table"), model, at("places").checked);
-        at("link").href = linkTo(kind, first, bytes);
-        showUnread(unread);
+    }
+    function showKind() {
+        const { kind, why } = kindOf(packet), isFound = at("kind").value === "auto" && packet.bytes.length > 0;
+        at("found").textContent = !isFound ? "" : why === "" ? "Nothing was recognized: taken as an IP packet." : kind === null ? `${why}.` : `This is ${Wolfaren.kind.NAMES[kind]}, ${why}.`;
+        at("hint").hidden = !model.hint;
+        if (!model.hint) return;
+        at("hint").querySelector("span").textContent = `These bytes look like ${Wolfaren.kind.NAMES[model.hint]}.`;
+        at("take-hint").textContent = `Read them as ${Wolfaren.kind.NAMES[model.hint]}`;
+    }
+    function widthOfPage() {
+        return Math.floor(at("main").getBoundingClientRect().width);
+    }
+    // Draws the packet for the width of the window.
+    function drawAgain() {
+        width = widthOfPage();
+        const isFocused = drawn !== null && drawn.contains(document.activeElement);
+        drawn = Wolfaren.picture.draw(model, at("places").checked, width);
+        at("picture").replaceChildren(drawn);
         showFields(Math.max(0, model.parts.findIndex((it) => it.next !== undefined)));
+        if (isFocused) drawn.querySelector("[data-part]").focus();
     }
     function addPlaces(model) {
         const headers = model.parts.filter((it) => it.isHeader);
@@ -35,8 +71,8 @@ Wolfaren.page = (function () {
     function hexOf(bytes) {
         return Array.from(bytes, (it) => it.toString(16).padStart(2, "0")).join("");
     }
-    function linkTo(kind, first, bytes) {
-        return `#${kind}${kind.startsWith("chain") ? `:${first}` : ""}${at("places").checked ? ":places" : ""}:${hexOf(bytes)}`;
+    function linkTo({ kind, first, bytes }) {
+        return `#${kind === "other" ? "packet" : kind}${kind.startsWith("chain") ? `:${first}` : ""}${at("places").checked ? ":places" : ""}:${hexOf(bytes)}`;
     }
     // Marks the unread parts of the text. A transparent copy of the text lies below the text field; only its marks show.
     function markUnread(text, unread) {
@@ -64,12 +100,18 @@ Wolfaren.page = (function () {
         at("unread").append(`Can't read line ${line}: ${where.why}${more}: … ${text.slice(from, where.start)}`, mark, text.slice(where.end, where.end + 24));
         at("text").setAttribute("aria-describedby", "unread");
     }
+    function showReading() {
+        const count = reading ? reading.packets.reduce((sum, it) => sum + it.length, 0) : 0, isRead = count > 0 && !isFromFile;
+        const several = isRead && reading.packets.length > 1 ? ` in ${reading.packets.length} packets` : "";
+        const leftOut = isRead && reading.leftOut.length > 0 ? ` Left out: ${reading.leftOut.join(", ")}.` : "";
+        at("reading").textContent = isRead ? `Read as ${reading.format}: ${Wolfaren.names.bytes(count)}${several}.${leftOut}` : "";
+    }
     function showFields(index) {
         const part = model.parts[index];
         const fields = part ? Wolfaren.fields.of(part, model.bytes) : [];
         at("fields").replaceChildren();
         if (fields.length === 0) return;
-        at("fields").append(Object.assign(document.createElement("h2"), { textContent: `${part.name}, ${Wolfaren.names.bytes(part.len)} at ${part.offset}` }), Wolfaren.picture.drawFields(part, fields));
+        at("fields").append(Object.assign(document.createElement("h2"), { textContent: `${part.name}, ${Wolfaren.names.bytes(part.len)} at ${part.offset}` }), Wolfaren.figure.draw(part, fields, width));
     }
     function partOf(event) {
         const group = event.target.closest ? event.target.closest("[data-part]") : null;
@@ -77,14 +119,18 @@ Wolfaren.page = (function () {
     }
     function onPoint(event) {
         const index = partOf(event);
-        if (index >= 0 && model.parts[index].style !== "rest") showFields(index);
+        if (index >= 0 && !/^(?:rest|missing|beyond)/.test(model.parts[index].style)) showFields(index);
     }
+    // Moves the focus within the picture, which is one stop for the Tab key.
     function onKey(event) {
-        const step = { ArrowRight: 1, ArrowDown: 1, ArrowLeft: -1, ArrowUp: -1 }[event.key];
-        if (!step || partOf(event) < 0) return;
-        const group = at("picture").querySelector(`[data-part="${partOf(event) + step}"]`);
-        if (group) group.focus();
+        const groups = Array.from(at("picture").querySelectorAll("[data-part]")), from = groups.findIndex((it) => Number(it.dataset.part) === partOf(event));
+        const to = { ArrowRight: from + 1, ArrowDown: from + 1, ArrowLeft: from - 1, ArrowUp: from - 1, Home: 0, End: groups.length - 1 }[event.key];
+        if (to === undefined || from < 0) return;
         event.preventDefault();
+        if (!groups[to]) return;
+        groups[from].setAttribute("tabindex", -1);
+        groups[to].setAttribute("tabindex", 0);
+        groups[to].focus();
     }
     // Copies the page's styles into each element, since the file is displayed without the style sheet.
     function svgText() {
@@ -106,51 +152,119 @@ Wolfaren.page = (function () {
         link.click();
         setTimeout(() => URL.revokeObjectURL(link.href), 1000);
     }
+    // Shows the packets of a file. What was shown before goes, even if the file has none.
     function take(buffer) {
-        const found = Wolfaren.capture.read(buffer);
-        packets = found.packets || [];
-        at("packets").hidden = packets.length === 0;
-        at("packet-list").replaceChildren(...packets.slice(0, MOST_LISTED).map((it, i) => new Option(`${i + 1}   ${it.seconds.toFixed(6)} s   ${it.bytes.length} of ${it.wire} bytes`, i)));
-        if (packets.length > 0) pick(0);
-        const left = packets.length > MOST_LISTED ? [`Only the first ${MOST_LISTED} of ${packets.length} packets are listed.`] : [];
-        if (found.error || left.length > 0) tell([...left, found.error || ""].join(" "));
+        isFromFile = true;
+        at("text").value = "";
+        showUnread([]);
+        showCapture(Wolfaren.capture.read(buffer));
+    }
+    function showCapture(found) {
+        const text = list(found.packets);
+        tell([found.packets.length === 0 && !found.error ? "The capture has no packets." : text, found.error].filter((it) => it !== "").join(" "));
+        if (found.packets.length > 0) return Wolfaren.packets.choose(0);
+        packet = EMPTY;
+        show();
+        showReading();
+    }
+    // Shows the list of packets. Returns what isn't listed.
+    function list(all) {
+        packets = all;
+        const { fault, truncated, left } = Wolfaren.packets.show(packets, parse);
+        const said = [[fault, "with a fault"], [truncated, "truncated"]].filter((it) => it[0] > 0).map((it) => it.join(" "));
+        at("packets-head").textContent = `${packets.length === 1 ? "1 packet" : `${packets.length} packets`}${said.length > 0 ? `, ${said.join(", ")}` : ""}`;
+        return left > 0 ? `Only the first ${packets.length - left} of ${packets.length} packets are listed.` : "";
     }
     function tell(text) {
-        at("unread").hidden = false;
-        at("unread").textContent = text;
+        at("told").hidden = text === "";
+        at("told").textContent = text;
     }
     function pick(index) {
-        at("packet-list").value = index;
-        at("kind").value = packets[index].kind;
-        at("text").value = hexOf(packets[index].bytes);
+        packet = packets[index];
+        if (isFromFile) at("text").value = hexOf(packet.bytes);
+        if (isFromFile) showUnread([]);
         show();
+        showReading();
+    }
+    // Reads the text. Bytes that are a capture are listed as one. The packets of a file stay listed while one is edited.
+    function takeText() {
+        reading = Wolfaren.input.read(at("text").value);
+        tell("");
+        showUnread(reading.unread);
+        const { packets: found } = reading, isOne = found.length < 2, isCapture = isOne && found.length > 0 && kindOf({ bytes: found[0] }).kind === "capture";
+        if (isCapture || !isOne) isFromFile = false;
+        if (isCapture) return showCapture(Wolfaren.capture.read(Uint8Array.from(found[0]).buffer));
+        if (!isOne) {
+            tell(list(found.map((bytes) => ({ bytes }))));
+            return Wolfaren.packets.choose(0);
+        }
+        if (!isFromFile) list([]);
+        packet = found.length > 0 ? { bytes: found[0] } : EMPTY;
+        show();
+        showReading();
+    }
+    // Returns the choice for a link, which leaves the kind to be found out if that finds the kind of the link.
+    function kindOfLink([, kind, , , digits]) {
+        const bytes = [];
+        Wolfaren.digits.pushHex(bytes, digits);
+        return Wolfaren.kind.find(Uint8Array.from(bytes)).kind === kind.toLowerCase() ? "auto" : kind.toLowerCase();
     }
     function takeLink() {
-        const found = /^#(packet|ethernet|chain6|chain4)(?::(\d{1,3}))?(:places)?:([0-9a-f]*)$/i.exec(location.hash);
-        if (!found || !KINDS.includes(found[1])) return false;
-        at("kind").value = found[1];
+        const found = LINK.exec(location.hash);
+        if (!found) return false;
+        at("kind").value = kindOfLink(found);
         if (found[2] !== undefined) at("first").value = found[2];
         at("places").checked = found[3] !== undefined;
         at("text").value = found[4];
-        show();
+        isFromFile = false;
+        takeText();
         return true;
     }
+    function takeHint() {
+        if (model.hint === "capture") at("kind").value = "auto";
+        else at("kind").value = model.hint;
+        changeKind();
+    }
+    // Parses all packets again by another kind.
+    function changeKind() {
+        if (packets.length === 0) return takeText();
+        const index = packets.indexOf(packet);
+        tell(list(packets));
+        if (index >= 0) Wolfaren.packets.choose(index);
+        else show();
+    }
+    function onInput(event) {
+        if (event.target.id === "file") return;
+        if (event.target.id === "kind" || event.target.id === "first") changeKind();
+        else if (event.target.id === "places") show();
+        else takeText();
+    }
+    function listenToFiles() {
+        at("file").addEventListener("change", async (event) => event.target.files[0] && take(await event.target.files[0].arrayBuffer()));
+        addEventListener("dragover", (event) => {
+            event.preventDefault();
+            at("drop").classList.add("over");
+        });
+        addEventListener("dragleave", (event) => event.relatedTarget === null && at("drop").classList.remove("over"));
+        addEventListener("drop", async (event) => {
+            event.preventDefault();
+            at("drop").classList.remove("over");
+            if (event.dataTransfer.files[0]) take(await event.dataTransfer.files[0].arrayBuffer());
+        });
+    }
     function listen() {
-        at("form").addEventListener("input", (event) => event.target.id !== "file" && show());
+        at("form").addEventListener("input", onInput);
         at("form").addEventListener("submit", (event) => event.preventDefault());
         at("text").addEventListener("scroll", scrollMarks);
-        at("file").addEventListener("change", async (event) => event.target.files[0] && take(await event.target.files[0].arrayBuffer()));
-        at("packet-list").addEventListener("change", (event) => pick(Number(event.target.value)));
+        at("take-hint").addEventListener("click", takeHint);
+        Wolfaren.packets.listen(pick);
         at("picture").addEventListener("pointerover", onPoint);
         at("picture").addEventListener("focusin", onPoint);
         at("picture").addEventListener("keydown", onKey);
         at("save").addEventListener("click", save);
         addEventListener("hashchange", takeLink);
-        addEventListener("dragover", (event) => event.preventDefault());
-        addEventListener("drop", async (event) => {
-            event.preventDefault();
-            if (event.dataTransfer.files[0]) take(await event.dataTransfer.files[0].arrayBuffer());
-        });
+        addEventListener("resize", () => widthOfPage() !== width && drawAgain());
+        listenToFiles();
     }
     async function begin() {
         if (!Wolfaren.library.isSupported()) {
@@ -159,11 +273,12 @@ Wolfaren.page = (function () {
         }
         await Wolfaren.library.load();
         listen();
+        Wolfaren.examples.show(at("examples"));
         if (takeLink()) return;
         at("text").value = EXAMPLE;
-        show();
+        takeText();
         if (location.hash.length > 1) tell("The link has no packet that this page can read, so an example is shown.");
     }
     const ready = begin();
-    return { ready, show, take, svgText };
+    return { ready, show, take, takeText, svgText };
 })();

@@ -1,64 +1,81 @@
 // Parses bytes into parts: { parts, fault, ... }. Headers lie where the library says they do.
 "use strict";
 Wolfaren.parse = (function () {
-    const VLANS = [0x8100, 0x88a8], TYPES = [0x0800, 0x86dd];
     // The codes of include/wolfaren.h.
-    const TOO_SHORT = 1, ATOMIC = 1, AT_TRUNCATED_HEADER = 2;
+    const ATOMIC = 1, AT_TRUNCATED_HEADER = 2;
     const PLACES = { 0: 0, 60: 1, 43: 2, 44: 3, 51: 4 };
 
-    // Parses the bytes. `kind` is `packet`, `ethernet`, `chain6` or `chain4`.
+    // Parses the bytes. `kind` is one of those in kind.js, except for a capture.
     function parse(kind, first, bytes) {
-        const model = { kind, first, bytes, parts: [], fault: null, headers: [], packet: null };
+        const model = { kind, first, bytes, parts: [], fault: null, headers: [], packet: null, note: "" };
         if (kind === "chain6" || kind === "chain4") return parseChain(model, kind === "chain6" ? 6 : 4);
-        const base = kind === "ethernet" ? pushLink(model) : 0;
-        return model.fault ? model : parsePacket(model, base);
+        const base = kind === "packet" ? 0 : pushLink(model);
+        return base < 0 ? model : parsePacket(model, base);
     }
     function push(model, style, name, offset, len, more) {
         if (len > 0) model.parts.push({ style, name, offset, len, ...more });
     }
-    // Adds the Ethernet header with its VLAN tags. Returns its length in bytes.
+    // Adds the headers before the IP packet. Returns their length in bytes, or -1 if there is no IP packet.
     function pushLink(model) {
-        const type = (at) => model.bytes[at] * 256 + model.bytes[at + 1];
-        let len = 14;
-        while (len <= model.bytes.length && VLANS.includes(type(len - 2))) len += 4;
-        const has = len <= model.bytes.length;
-        push(model, "link", "Ethernet", 0, Math.min(len, model.bytes.length), {});
-        if (has && TYPES.includes(type(len - 2))) return len;
-        const text = has ? `EtherType 0x${type(len - 2).toString(16).padStart(4, "0")} is neither IPv4 nor IPv6` : "the Ethernet header is truncated";
-        model.fault = { offset: has ? len - 2 : model.bytes.length, text, isPages: true };
-        if (has) push(model, "rest", "payload of the frame", len, model.bytes.length - len, {});
-        return len;
+        const link = Wolfaren.link.find(model.kind, model.bytes), all = model.bytes.length;
+        push(model, "link", link.name, 0, link.isTruncated ? all : link.offset, {});
+        if (link.isIp) return link.offset;
+        if (link.isTruncated) model.fault = { offset: all, isTruncated: true, name: `${link.name} header`, text: `the ${link.name} header is incomplete` };
+        else push(model, "rest", "payload of the frame", link.offset, all - link.offset, {});
+        model.note = link.isTruncated ? "" : `${link.said ? `${link.said}, ` : ""}not IP`;
+        return -1;
+    }
+    // Takes bytes whose link layer isn't supported as they are.
+    function unparsed(bytes, why) {
+        const model = { kind: "other", bytes, parts: [], fault: null, headers: [], packet: null, note: why };
+        push(model, "rest", "not parsed", 0, bytes.length, {});
+        return model;
     }
     function parseChain(model, version) {
         const chain = Wolfaren.library.parseChain(version, model.first, model.bytes);
         pushHeaders(model, chain.headers, 0);
         pushRest(model, chain.next, chain.fragmented, chain.len, model.bytes.length - chain.len);
-        if (chain.fault.kind !== 0) model.fault = { ...chain.fault, offset: chain.len };
+        if (chain.fault.kind !== 0) model.fault = faultAt(chain.fault, chain.len, false);
         return model;
+    }
+    function faultAt(fault, offset, isTruncated) {
+        return { kind: fault.kind, offset, isTruncated, requiredLen: fault.requiredLen, len: fault.len, name: Wolfaren.faults.nameOf(fault, isTruncated), text: Wolfaren.faults.textOf(fault, offset) };
     }
     function pushHeaders(model, headers, base) {
         model.headers = headers.map((it) => ({ ...it, offset: it.offset + base }));
         for (const it of model.headers) push(model, Wolfaren.names.styles[it.number], Wolfaren.names.ofNumber(it.number), it.offset, it.len, { ...it, isHeader: true });
     }
-    function pushRest(model, next, fragmented, at, len) {
-        Object.assign(model, { next, fragmented, restLen: len });
-        push(model, "rest", Wolfaren.names.ofNumber(next), at, len, { isRest: true, number: next });
+    // Adds the payload. That of a fragment is part of one, in the colour of the fragment header.
+    function pushRest(model, next, isFragment, at, len) {
+        const name = isFragment ? "part of payload" : Wolfaren.names.ofNumber(next) || "payload";
+        Object.assign(model, { next, isFragment, restLen: len });
+        push(model, isFragment ? "rest of-fragment" : "rest", name, at, len, { isRest: true, number: next });
     }
     function parsePacket(model, base) {
         const packet = Wolfaren.library.dissect(model.bytes.subarray(base)), fault = packet.fault;
         model.packet = packet;
         if (packet.version === 0) push(model, "rest", "not parsed", base, packet.padding, {});
         else pushPacket(model, base, packet);
-        const offset = base + (fault.kind === TOO_SHORT ? fault.offset : packet.payloadOffset);
-        if (fault.kind !== 0) model.fault = { ...fault, offset, isTruncated: packet.end === AT_TRUNCATED_HEADER };
+        const offset = base + (fault.kind === Wolfaren.faults.TOO_SHORT ? fault.offset : packet.payloadOffset);
+        if (fault.kind !== 0) model.fault = faultAt(fault, offset, packet.end === AT_TRUNCATED_HEADER);
         return model;
     }
     function pushPacket(model, base, packet) {
-        const version = packet.version, nextAt = version === 6 ? 6 : 9, at = base + packet.payloadOffset;
+        const version = packet.version, nextAt = version === 6 ? 6 : 9, at = base + packet.payloadOffset, isFragment = packet.fragment > ATOMIC;
         push(model, "base", `IPv${version}`, base, packet.baseLen, { version, next: model.bytes[base + nextAt], nextAt });
         pushHeaders(model, packet.headers, base);
-        pushRest(model, packet.number, packet.fragment > ATOMIC, at, packet.payloadLen);
-        push(model, "beyond", "beyond the packet", at + packet.payloadLen, packet.padding, {});
+        pushRest(model, packet.number, isFragment && packet.fault.kind === 0, at, packet.payloadLen);
+        push(model, isFragment && packet.fault.kind === 0 ? "missing of-fragment" : "missing", "missing", at + packet.payloadLen, packet.missing, { isMissing: true });
+        push(model, "beyond", "padding", at + packet.payloadLen, packet.padding, {});
+        const holder = fragmentHolder(model, version);
+        if (packet.fragment !== 0 && holder) holder.fragment = packet;
+    }
+    // Returns the header that says which fragment the packet is: of IPv6, the first fragment header with an offset or more
+    // fragments, or else the first one.
+    function fragmentHolder(model, version) {
+        if (version === 4) return model.parts.find((it) => it.version);
+        const all = model.parts.filter((it) => it.style === "fragment");
+        return all.find((it) => ((model.bytes[it.offset + 2] << 8 | model.bytes[it.offset + 3]) & 0xfff9) !== 0) || all[0];
     }
     // Returns, for each header, the struct of six places that it goes into, by the library, and its place there.
     function placesOf(headers) {
@@ -70,5 +87,5 @@ Wolfaren.parse = (function () {
             return { struct: it.struct, place };
         });
     }
-    return { parse, placesOf };
+    return { parse, unparsed, placesOf };
 })();

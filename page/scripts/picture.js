@@ -1,10 +1,11 @@
-// Draws the picture: rows of 16 bytes in the colours of their headers, with an arrow from each next header field to what
-// it names.
+// Draws the picture: rows of bytes in the colours of their headers, with an arrow from each next header field to what it
+// names. A row has 16 bytes, or 8 where there is little room.
 "use strict";
 Wolfaren.picture = (function () {
     const SPACE = "http://www.w3.org/2000/svg";
-    const CELL = 34, HIGH = 26, GAP = 36, LEFT = 64, TOP = 8, RIGHT = 40, ROW = HIGH + GAP, LINE = 16;
-    const MOST_ROWS = 512, SHOWN_OF_PART = 6;
+    const CELL = 34, HIGH = 26, GAP = 36, TOP = 8, TEXT_HIGH = 14;
+    const WIDE = { line: 16, left: 64, right: 40 }, NARROW = { line: 8, left: 52, right: 28 }, LEAST_WIDE = 560;
+    const MOST_ROWS = 512, SHOWN_OF_PART = 6, SHOWN_OF_REST = 3;
 
     function make(name, attributes, text) {
         const made = document.createElementNS(SPACE, name);
@@ -14,104 +15,122 @@ Wolfaren.picture = (function () {
     }
     // Returns the rows to draw: for a long part, only the first rows and the last. Each is { line, skipped }: the line, and
     // how many lines are left out in its place.
-    function rowsOf(model, last) {
-        const isKept = keptLines(model, last), rows = [];
-        for (let line = 0; line <= last && rows.length < MOST_ROWS; line++) {
-            if (isKept.has(line)) rows.push({ line, skipped: 0 });
+    function rowsOf(model, line, last) {
+        const isKept = keptLines(model, line, last), rows = [];
+        for (let at = 0; at <= last && rows.length < MOST_ROWS; at++) {
+            if (isKept.has(at)) rows.push({ line: at, skipped: 0 });
             else if (rows.length > 0 && rows[rows.length - 1].skipped > 0) rows[rows.length - 1].skipped += 1;
-            else rows.push({ line, skipped: 1 });
+            else rows.push({ line: at, skipped: 1 });
         }
         const drawn = rows.reduce((sum, it) => sum + Math.max(it.skipped, 1), 0);
         if (drawn <= last) rows.push({ line: drawn, skipped: last + 1 - drawn });
         return rows;
     }
-    function keptLines(model, last) {
+    function keptLines(model, line, last) {
         const kept = new Set([last]);
         for (const part of model.parts) {
-            const from = Math.floor(part.offset / LINE), to = Math.floor((part.offset + part.len - 1) / LINE);
-            const most = part.style === "rest" || part.style === "beyond" ? 3 : SHOWN_OF_PART;
-            for (let line = from; line <= Math.min(to, from + most); line++) kept.add(line);
+            const from = Math.floor(part.offset / line), to = Math.floor((part.offset + part.len - 1) / line);
+            const most = part.isRest || part.isMissing || part.style === "beyond" ? SHOWN_OF_REST : SHOWN_OF_PART;
+            for (let at = from; at <= Math.min(to, from + most); at++) kept.add(at);
             kept.add(to);
         }
-        if (model.fault) kept.add(Math.floor(model.fault.offset / LINE));
+        if (model.fault) kept.add(Math.floor(model.fault.offset / line));
         return kept;
     }
-    function draw(model, withPlaces) {
-        const faultAt = model.fault ? model.fault.offset : -1;
-        const last = Math.floor(Math.max(model.bytes.length - 1, faultAt, 0) / LINE);
-        const rows = rowsOf(model, last), rowOfLine = new Map();
-        rows.forEach((it, i) => it.skipped || rowOfLine.set(it.line, i));
-        const why = model.fault ? linesOf(model.fault.text, 84) : [], extra = why.length * 14;
-        const wide = LEFT + LINE * CELL + RIGHT, high = TOP + rows.length * ROW + GAP + extra;
-        const svg = make("svg", { viewBox: `0 0 ${wide} ${high}`, role: "group", "aria-label": "The bytes, with their headers", xmlns: SPACE });
-        svg.style.setProperty("max-width", `${wide * 1.25}px`);
-        const targets = new Set(model.parts.filter((it) => it.next !== undefined).map((it) => it.offset + it.len));
-        const sheet = { svg, model, rows, rowOfLine, withPlaces, targets, why, extra, faultRow: rowOfLine.get(Math.floor(faultAt / LINE)) };
+    // Draws the picture for a width in pixels.
+    function draw(model, withPlaces, width) {
+        const sheet = layOut(model, withPlaces, width < LEAST_WIDE ? NARROW : WIDE);
+        const svg = make("svg", { viewBox: `0 0 ${sheet.wide} ${sheet.high}`, role: "group", "aria-label": "The bytes, with their headers", xmlns: SPACE });
+        svg.style.setProperty("max-width", `${sheet.wide * 1.25}px`);
+        sheet.svg = svg;
         drawOffsets(sheet);
         model.parts.forEach((part, i) => drawPart(sheet, part, i));
         model.parts.forEach((part) => drawArrow(sheet, part));
         if (model.fault) drawFault(sheet);
+        const first = svg.querySelector("[data-part]");
+        if (first) first.setAttribute("tabindex", 0);
         return svg;
+    }
+    function layOut(model, withPlaces, { line, left, right }) {
+        const faultAt = model.fault ? model.fault.offset : -1, ends = model.parts.map((it) => it.offset + it.len - 1);
+        const rows = rowsOf(model, line, Math.floor(Math.max(model.bytes.length - 1, faultAt, 0, ...ends) / line)), rowOfLine = new Map();
+        rows.forEach((it, i) => it.skipped || rowOfLine.set(it.line, i));
+        const wide = left + line * CELL + right, targets = new Set(model.parts.filter((it) => it.next !== undefined).map((it) => it.offset + it.len));
+        const why = model.fault ? Wolfaren.letters.linesOf(`${model.fault.isTruncated ? "truncated: " : ""}${model.fault.text}`, "name", wide - left) : [];
+        const sheet = { model, withPlaces, line, left, wide, rows, rowOfLine, targets, why, labels: new Map() };
+        placeLabels(sheet);
+        placeRows(sheet, rowOfLine.get(Math.floor(faultAt / line)));
+        return sheet;
+    }
+    // Places the names of the parts that begin in a row above it, each on a line of its own if there is no room beside.
+    function placeLabels(sheet) {
+        for (const part of sheet.model.parts.slice().reverse()) {
+            const row = sheet.rowOfLine.get(Math.floor(part.offset / sheet.line));
+            if (row === undefined) continue;
+            const text = labelOf(sheet, part), begin = xOf(sheet, part.offset) + (sheet.targets.has(part.offset) ? CELL / 2 : 2);
+            const wide = Wolfaren.letters.widthOf(text, "name"), x = Math.max(sheet.left, Math.min(begin, sheet.wide - wide)), end = x + wide;
+            const taken = sheet.rows[row].labels || [], level = taken.filter((it) => it.x < end + 4 && x < it.end + 4).reduce((most, it) => Math.max(most, it.level + 1), 0);
+            sheet.rows[row].labels = [...taken, { x, end, level }];
+            sheet.labels.set(part, { text, x, level });
+        }
+    }
+    // Returns the position of each row. Below the row with the error, there is room for its text.
+    function placeRows(sheet, faultRow) {
+        let y = TOP;
+        sheet.rows.forEach((it, row) => {
+            it.gap = GAP + TEXT_HIGH * Math.max(0, ...(it.labels || []).map((label) => label.level));
+            it.y = y + it.gap;
+            y = it.y + HIGH + (row === faultRow ? sheet.why.length * TEXT_HIGH : 0);
+        });
+        sheet.high = y + GAP;
+    }
+    function xOf(sheet, at) {
+        return sheet.left + at % sheet.line * CELL;
     }
     // Returns the position of a byte in the picture, or null if its row isn't drawn.
     function spot(sheet, at) {
-        const row = sheet.rowOfLine.get(Math.floor(at / LINE));
-        return row === undefined ? null : { row, x: LEFT + at % LINE * CELL, y: topOf(sheet, row) };
-    }
-    // Returns the top of a row. There is extra room for the error text below its row.
-    function topOf(sheet, row) {
-        return TOP + row * ROW + GAP + (row > sheet.faultRow ? sheet.extra : 0);
+        const row = sheet.rowOfLine.get(Math.floor(at / sheet.line));
+        return row === undefined ? null : { row, x: xOf(sheet, at), y: sheet.rows[row].y };
     }
     function drawOffsets(sheet) {
-        sheet.rows.forEach((it, row) => {
-            const y = topOf(sheet, row) + HIGH / 2;
-            if (it.skipped === 0) {
-                sheet.svg.append(make("text", { x: LEFT - 10, y, class: "offset" }, (it.line * LINE).toString(16).padStart(4, "0")));
-                return;
-            }
-            const from = it.line * LINE, to = (it.line + it.skipped) * LINE;
-            sheet.svg.append(make("text", { x: LEFT + LINE * CELL / 2, y, class: "skipped" }, `${Wolfaren.names.bytes(to - from)} left out, from 0x${from.toString(16)}`));
-        });
+        for (const it of sheet.rows) {
+            const y = it.y + HIGH / 2, from = it.line * sheet.line, to = (it.line + it.skipped) * sheet.line;
+            if (it.skipped === 0) sheet.svg.append(make("text", { x: sheet.left - 10, y, class: "offset" }, from.toString(16).padStart(4, "0")));
+            else sheet.svg.append(make("text", { x: sheet.left + sheet.line * CELL / 2, y, class: "skipped" }, `${Wolfaren.names.bytes(to - from)} left out, from 0x${from.toString(16)}`));
+        }
     }
     function drawPart(sheet, part, index) {
-        const group = make("g", { class: `part ${part.style}`, tabindex: 0, "data-part": index, role: "img", "aria-label": `${part.name}, ${Wolfaren.names.bytes(part.len)} at ${part.offset}` });
+        const group = make("g", { class: `part ${part.style}`, tabindex: -1, "data-part": index, role: "img", "aria-label": `${part.name}, ${Wolfaren.names.bytes(part.len)} at ${part.offset}` });
         const stop = part.offset + part.len;
-        for (let line = Math.floor(part.offset / LINE); line * LINE < stop; line++) {
-            if (sheet.rowOfLine.has(line)) drawRun(sheet, group, Math.max(part.offset, line * LINE), Math.min(stop, (line + 1) * LINE), part);
+        for (let line = Math.floor(part.offset / sheet.line); line * sheet.line < stop; line++) {
+            if (sheet.rowOfLine.has(line)) drawRun(sheet, group, Math.max(part.offset, line * sheet.line), Math.min(stop, (line + 1) * sheet.line), part);
         }
         const at = spot(sheet, part.offset);
         if (at) nameGroup(sheet, group, part, at);
         if (group.childElementCount > 0) sheet.svg.append(group);
     }
     function nameGroup(sheet, group, part, at) {
-        const x = at.x + (isTarget(sheet, part) ? CELL / 2 : 2);
-        group.append(make("text", { x, y: at.y - 6, class: "name" }, labelOf(sheet, part, x)));
+        const { text, x, level } = sheet.labels.get(part);
+        group.append(make("text", { x, y: at.y - 6 - level * TEXT_HIGH, class: "name" }, text));
         if (sheet.withPlaces && part.isStructStart) group.append(make("path", { d: `M${at.x} ${at.y - 16}v${HIGH + 22}`, class: "struct" }));
     }
     function drawRun(sheet, group, from, to, part) {
         const at = spot(sheet, from);
         group.append(make("rect", { x: at.x, y: at.y, width: (to - from) * CELL, height: HIGH, class: "run" }));
-        for (let i = from; i < to; i++) {
+        for (let i = from; i < Math.min(to, sheet.model.bytes.length); i++) {
             const isNext = i === nextAt(part);
             const text = sheet.model.bytes[i].toString(16).padStart(2, "0");
-            group.append(make("text", { x: LEFT + i % LINE * CELL + CELL / 2, y: at.y + HIGH / 2, class: isNext ? "byte next" : "byte" }, text));
+            group.append(make("text", { x: xOf(sheet, i) + CELL / 2, y: at.y + HIGH / 2, class: isNext ? "byte next" : "byte" }, text));
         }
     }
-    // Returns the name of a part, shortened to the room before the next part in its row.
-    function labelOf(sheet, part, x) {
-        const lineEnd = (Math.floor(part.offset / LINE) + 1) * LINE, stop = part.offset + part.len;
-        const isLast = stop >= lineEnd || stop >= sheet.model.bytes.length;
-        const few = Math.max(1, Math.floor(((isLast ? LEFT + LINE * CELL + RIGHT : LEFT + stop % LINE * CELL) - x) / 7));
+    function labelOf(sheet, part) {
+        if (part.isMissing) return `${Wolfaren.names.bytes(part.len)} missing`;
         const isPlaced = sheet.withPlaces && part.place !== undefined;
-        let text = isPlaced ? `${part.isStructStart ? `struct ${part.struct} ▸ ` : ""}${Wolfaren.names.places[part.place]}` : part.name;
-        if (part.number !== undefined) text += ` ${part.number}`;
-        return text.length > few ? `${text.slice(0, few - 1)}…` : text;
+        const text = isPlaced ? `${part.isStructStart ? `struct ${part.struct} ▸ ` : ""}${Wolfaren.names.places[part.place]}` : part.name;
+        return part.number === undefined ? text : `${text} ${part.number}`;
     }
     function nextAt(part) {
         return part.next === undefined ? -1 : part.offset + (part.nextAt || 0);
-    }
-    function isTarget(sheet, part) {
-        return sheet.targets.has(part.offset);
     }
     // Draws an arrow from a next header byte through the gap below its row to what follows the header.
     function drawArrow(sheet, part) {
@@ -123,51 +142,22 @@ Wolfaren.picture = (function () {
         let path = `M${x} ${below}V${lane}H${end}`;
         if (isSameRow) path += `V${below + 3}`;
         else if (to.row === from.row + 1) path += `V${to.y - 3}`;
-        else path = `M${x} ${below}V${lane}H${LEFT + LINE * CELL + 14}V${to.y - GAP + 13}H${end}V${to.y - 3}`;
+        else path = `M${x} ${below}V${lane}H${sheet.left + sheet.line * CELL + 14}V${to.y - sheet.rows[to.row].gap + 13}H${end}V${to.y - 3}`;
         const tip = isSameRow ? [below + 1, 6] : [to.y - 1, -6];
         const group = make("g", { class: `arrow ${part.style}` });
         group.append(make("path", { d: path, class: "line" }), make("circle", { cx: x, cy: below, r: 2.5, class: "tip" }));
         group.append(make("path", { d: `M${end} ${tip[0]}l-4.5 ${tip[1]}h9z`, class: "tip" }));
         sheet.svg.append(group);
     }
+    // Marks the byte with the error, or the first one of a truncated header, in another colour.
     function drawFault(sheet) {
-        const at = spot(sheet, sheet.model.fault.offset);
+        const fault = sheet.model.fault, at = spot(sheet, fault.offset);
         if (!at) return;
-        const group = make("g", { class: "fault", role: "img", "aria-label": `Error at ${sheet.model.fault.offset}: ${sheet.model.fault.text}` });
+        const group = make("g", { class: fault.isTruncated ? "truncated" : "fault", role: "img", "aria-label": `${fault.isTruncated ? "Truncated" : "Error"} at ${fault.offset}: ${fault.text}` });
         group.append(make("rect", { x: at.x + 1, y: at.y + 1, width: CELL - 2, height: HIGH - 2, class: "mark" }));
-        if (sheet.model.fault.offset >= sheet.model.bytes.length) group.append(make("text", { x: at.x + CELL / 2, y: at.y + HIGH / 2, class: "byte" }, "×"));
-        sheet.why.forEach((it, i) => group.append(make("text", { x: LEFT, y: at.y + HIGH + 22 + i * 14, class: "why" }, it)));
+        if (!fault.isTruncated && fault.offset >= sheet.model.bytes.length) group.append(make("text", { x: at.x + CELL / 2, y: at.y + HIGH / 2, class: "byte" }, "×"));
+        sheet.why.forEach((it, i) => group.append(make("text", { x: sheet.left, y: at.y + HIGH + 22 + i * TEXT_HIGH, class: "why" }, it)));
         sheet.svg.append(group);
     }
-    function linesOf(text, most) {
-        const lines = [""];
-        for (const word of text.split(" ")) {
-            if ((lines[lines.length - 1] + word).length > most) lines.push("");
-            lines[lines.length - 1] += (lines[lines.length - 1] ? " " : "") + word;
-        }
-        return lines;
-    }
-    // Draws a header as the RFCs do, 32 bits per row. A field of more than 32 bits has a row of its own.
-    function drawFields(part, fields) {
-        const BIT = 19, TALL = 34, rows = [];
-        let bit = 0, row = 0;
-        for (const [name, bits, value] of fields) {
-            const isTall = bits > 32;
-            rows.push({ name, value, x: isTall ? bit % 32 : bit, bits: isTall ? 32 - bit % 32 : bits, row });
-            bit = (bit + (isTall ? 32 - bit % 32 : bits)) % 32;
-            if (bit === 0) row += 1;
-        }
-        const svg = make("svg", { viewBox: `0 0 ${32 * BIT + 2} ${(row + (bit > 0)) * TALL + 20}`, class: part.style, role: "img", "aria-label": fields.map((it) => `${it[0]} ${it[2]}`).join(", ") });
-        for (let i = 0; i < 32; i++) svg.append(make("text", { x: 1 + (i + 0.5) * BIT, y: 12, class: "bit" }, i % 10));
-        for (const it of rows) {
-            const x = 1 + it.x * BIT, y = 18 + it.row * TALL, wide = it.bits * BIT, few = Math.floor(wide / 6.4);
-            const shorten = (text) => (text.length > few ? text.slice(0, Math.max(few - 1, 1)) + "…" : text);
-            const box = make("g", {});
-            box.append(make("title", {}, `${it.name}: ${it.value}`), make("rect", { x, y, width: wide, height: TALL, class: "box" }));
-            box.append(make("text", { x: x + wide / 2, y: y + 12, class: "field" }, shorten(it.name)), make("text", { x: x + wide / 2, y: y + 26, class: "value" }, shorten(String(it.value))));
-            svg.append(box);
-        }
-        return svg;
-    }
-    return { draw, drawFields };
+    return { make, draw };
 })();

@@ -2,6 +2,7 @@
 "use strict";
 Wolfaren.table = (function () {
     const HEAD = ["Offset", "Bytes", "Number", "What", "Next", "Remark"];
+    const WHATS = { packet: "A packet", chain6: "An IPv6 chain", chain4: "An IPv4 chain" };
 
     function element(name, text, more) {
         return Object.assign(document.createElement(name), { textContent: text, ...more });
@@ -12,7 +13,10 @@ Wolfaren.table = (function () {
         for (const it of HEAD) head.append(element("th", it, { scope: "col" }));
         const body = table.createTBody();
         for (const part of model.parts) addRow(body, cellsOf(part, model, withPlaces), part.style);
-        if (model.fault) addRow(body, [model.fault.offset, "", "", model.fault.isTruncated ? "truncated" : "fault", "", faultText(model.fault)], "fault");
+        if (model.fault) addRow(body, [model.fault.offset, "", "", endWord(model.fault), "", model.fault.name], endWord(model.fault));
+    }
+    function endWord(fault) {
+        return fault.isTruncated ? "truncated" : "fault";
     }
     function cellsOf(part, model, withPlaces) {
         const number = part.number === undefined ? "" : part.number;
@@ -20,48 +24,39 @@ Wolfaren.table = (function () {
         return [part.offset, part.len, number, part.name, next, remarkOf(part, model, withPlaces)];
     }
     function remarkOf(part, model, withPlaces) {
-        if (part.isRest) return model.fragmented ? "a fragment" : "";
-        if (part.version) return packetText(model.packet);
-        if (withPlaces && part.place !== undefined) return `struct ${part.struct}, ${Wolfaren.names.places[part.place]}`;
-        return "";
-    }
-    // Returns what a packet states about its length and its fragmentation, and how many bytes are missing.
-    function packetText(packet) {
-        const said = [packet.statedLen === 0 ? "no stated length" : `stated length ${packet.statedLen}`];
-        if (packet.fragment !== 0) said.push(`${Wolfaren.names.fragments[packet.fragment]} fragment, identification ${packet.identification}, offset ${packet.fragmentOffset}`);
-        if (packet.missing > 0) said.push(`${packet.missing} missing`);
+        const said = [];
+        if (part.version) said.push(model.packet.statedLen === 0 ? "no stated length" : `stated length ${model.packet.statedLen}`);
+        if (part.fragment) said.push(fragmentText(part.fragment, part.version === 4 ? 4 : 8));
+        if (withPlaces && part.place !== undefined) said.push(`struct ${part.struct}, ${Wolfaren.names.places[part.place]}`);
         return said.join("; ");
+    }
+    function fragmentText(packet, digits) {
+        return `${Wolfaren.names.fragments[packet.fragment]} fragment, identification 0x${packet.identification.toString(16).padStart(digits, "0")}, offset ${packet.fragmentOffset}`;
     }
     function addRow(body, cells, style) {
         const row = body.insertRow();
         row.className = style;
         cells.forEach((it, i) => (i === 3 ? row.append(element("th", it, { scope: "row" })) : (row.insertCell().textContent = it)));
     }
-    // Returns the text of an error, followed by the fields of the error in words.
-    function faultText(fault) {
-        const at = fault.header ? ` at the ${Wolfaren.names.layers[fault.header]}` : "";
-        if (fault.isPages || fault.kind !== 1) return fault.text + at;
-        return `${fault.text}${at} (${fault.requiredLen} needed for the ${Wolfaren.names.layers[fault.layer]}, ${fault.len} available by ${Wolfaren.names.lengthSources[fault.lenSource]})`;
-    }
     function sentence(model) {
-        if (model.bytes.length === 0 && !model.fault) return "No bytes yet.";
-        const headers = model.headers.map((it) => `${Wolfaren.names.ofNumber(it.number)} (${it.len})`);
-        const what = { packet: "A packet", ethernet: "A frame", chain6: `An IPv6 chain from ${model.first}`, chain4: `An IPv4 chain from ${model.first}` }[model.kind];
-        const version = model.parts.find((it) => it.version);
-        const start = `${what} of ${Wolfaren.names.bytes(model.bytes.length)}${version ? `: IPv${version.version}` : ""}`;
-        const chain = headers.length === 0 ? ", no extension headers" : `${version ? ", " : ": "}${few(headers)}`;
-        return start + (model.next === undefined ? "" : chain + restText(model)) + faultEnd(model);
+        if (model.bytes.length === 0) return "No bytes yet.";
+        const version = model.parts.find((it) => it.version), link = model.parts.find((it) => it.style === "link");
+        const what = WHATS[model.kind] || "A frame", start = `${what} of ${Wolfaren.names.bytes(model.bytes.length)}`;
+        const said = [...(link ? [link.name] : []), ...(version ? [`IPv${version.version}`] : []), ...headersText(model.headers), ...(model.note ? [model.note] : [])];
+        return `${start}${said.length > 0 ? `: ${said.join(", ")}` : ""}${restText(model)}${endText(model)}.`;
     }
-    function few(headers) {
-        return headers.length > 8 ? `${headers.slice(0, 6).join(", ")} and ${headers.length - 6} more headers` : headers.join(", ");
+    function headersText(headers) {
+        const all = headers.map((it) => `${Wolfaren.names.ofNumber(it.number)} (${it.len})`);
+        return all.length > 8 ? [...all.slice(0, 6), `${all.length - 6} more headers`] : all;
     }
     function restText(model) {
-        const kind = model.fragmented ? "a fragment of " : "";
-        return `; then ${kind}${Wolfaren.names.ofNumber(model.next)} (${model.next}) with ${Wolfaren.names.bytes(model.restLen)}`;
+        if (model.next === undefined || model.fault) return "";
+        const name = Wolfaren.names.ofNumber(model.next), missing = model.packet ? model.packet.missing : 0;
+        return `; then ${model.isFragment ? `part of a payload${name ? ` of ${name}` : ""}` : name || "a payload"} (${model.next}) with ${Wolfaren.names.bytes(model.restLen)}${missing > 0 ? `, ${missing} missing` : ""}`;
     }
-    function faultEnd(model) {
-        if (!model.fault) return ".";
-        return `. At byte ${model.fault.offset}: ${model.fault.isTruncated ? "truncated: " : ""}${model.fault.text.replace(/\.$/, "")}.`;
+    function endText(model) {
+        if (!model.fault) return "";
+        return model.fault.isTruncated ? `; then a truncated header at byte ${model.fault.offset}: ${model.fault.name}` : `; then a fault at byte ${model.fault.offset}: ${model.fault.name}`;
     }
-    return { show, sentence };
+    return { show, sentence, endWord };
 })();

@@ -5,16 +5,27 @@
     const violations = [];
     addEventListener("securitypolicyviolation", (event) => violations.push(event.effectiveDirective));
 
+    function shown(id) {
+        return at(id).hidden ? "" : at(id).textContent;
+    }
     function rows() {
         return Array.from(at("table").tBodies[0].rows, (row) => Array.from(row.cells, (it) => it.textContent));
     }
-    function hex() {
-        return at("link").getAttribute("href").split(":").pop();
+    function link() {
+        return at("link").getAttribute("href").split(":");
+    }
+    function texts(query) {
+        return Array.from(at("picture").querySelectorAll(query), (it) => it.textContent);
+    }
+    function list() {
+        return Array.from(at("packet-list").children, (it) => [it.textContent, it.className]);
     }
     function answer() {
-        return { rows: rows(), hex: hex(), unread: at("unread").hidden ? "" : at("unread").textContent, summary: at("summary").textContent,
-            marks: Array.from(at("marks").querySelectorAll("mark"), (it) => it.textContent), marked: at("marks").textContent,
-            parts: at("picture").querySelectorAll("[data-part]").length, arrows: at("picture").querySelectorAll(".arrow").length };
+        const why = at("picture").querySelector(".why");
+        return { rows: rows(), hex: link().pop(), kind: link()[0].slice(1), unread: shown("unread"), told: shown("told"), summary: at("summary").textContent, reading: at("reading").textContent,
+            found: at("found").textContent, hint: shown("hint"), marks: Array.from(at("marks").querySelectorAll("mark"), (it) => it.textContent), marked: at("marks").textContent,
+            parts: texts("[data-part]").length, arrows: texts(".arrow").length, names: texts(".name"), why: texts(".why").join(" "), colour: why ? getComputedStyle(why).fill : "",
+            list: at("packets").hidden ? [] : list(), isEmpty: at("something").hidden, said: at("main").textContent, text: at("text").value };
     }
     // Waits until a condition holds. Counts turns, since with --virtual-time-budget the clock runs ahead of file reads.
     async function until(isThere) {
@@ -22,19 +33,23 @@
     }
     async function ask(it) {
         if (it.drop !== undefined) return drop(it);
-        if (it.hash !== undefined) {
-            at("table").replaceChildren();
-            location.hash = it.hash;
-            await until(() => at("table").tBodies.length > 0);
-            return answer();
-        }
-        if (it.use !== undefined) return { save: save(), keys: keys() };
+        if (it.hash !== undefined) return follow(it.hash);
+        if (it.use !== undefined) return { save: save(), keys: keys(), stops: stops() };
+        if (it.names !== undefined) return Array.from({ length: 256 }, (_, i) => Wolfaren.names.ofNumber(i));
+        if (it.gallery !== undefined) return gallery();
         at("kind").value = it.kind;
         at("first").value = it.first || 0;
         at("places").checked = it.places === true;
         at("text").value = it.text;
         at("form").dispatchEvent(new Event("input"));
-        return it.fields ? fields() : answer();
+        if (it.press) at(it.press).click();
+        return it.fields ? fields() : it.each ? each() : answer();
+    }
+    async function follow(hash) {
+        at("table").replaceChildren();
+        location.hash = hash;
+        await until(() => at("table").tBodies.length > 0);
+        return answer();
     }
     // Returns the fields of each part, as displayed when it has the focus.
     function fields() {
@@ -43,20 +58,24 @@
             return at("fields").querySelector("svg").getAttribute("aria-label");
         });
     }
+    // Chooses each packet of the list. Returns the kind and the bytes of each, after what the page says.
+    function each() {
+        const found = Array.from(at("packet-list").children, (it) => {
+            it.click();
+            const [kind, ...rest] = link();
+            return [kind.slice(1), rest.pop()];
+        });
+        return { ...answer(), each: at("packets").hidden ? [[link()[0].slice(1), link().pop()]] : found };
+    }
     async function drop(it) {
         const transfer = new DataTransfer();
         transfer.items.add(new File([Uint8Array.from(atob(it.drop), (letter) => letter.charCodeAt(0))], "some.pcap"));
+        at("kind").value = it.kind || "auto";
         at("packet-list").replaceChildren();
-        at("unread").hidden = true;
+        at("told").hidden = true;
         dispatchEvent(new DragEvent("drop", { dataTransfer: transfer, cancelable: true }));
-        await until(() => at("packet-list").length > 0 || !at("unread").hidden);
-        const packets = Array.from(at("packet-list").options, (option) => option.textContent), found = [];
-        for (let i = 0; i < packets.length; i++) {
-            at("packet-list").value = i;
-            at("packet-list").dispatchEvent(new Event("change"));
-            found.push([at("kind").value, hex()]);
-        }
-        return { packets, found, unread: at("unread").hidden ? "" : at("unread").textContent };
+        await until(() => at("packet-list").children.length > 0 || !at("told").hidden);
+        return each();
     }
     // Checks that a saved picture is self-contained: XML whose shapes have colours of their own.
     function save() {
@@ -64,12 +83,41 @@
         const runs = Array.from(saved.querySelectorAll("rect.run"), (it) => it.getAttribute("fill"));
         return { root: saved.documentElement.nodeName, runs: runs.length, coloured: runs.filter((it) => it.startsWith("rgb")).length, colours: new Set(runs).size };
     }
+    function press(key) {
+        document.activeElement.dispatchEvent(new KeyboardEvent("keydown", { key, bubbles: true, cancelable: true }));
+        return document.activeElement.dataset.part;
+    }
     function keys() {
-        const group = at("picture").querySelector("[data-part]");
-        group.focus();
+        at("picture").querySelector("[data-part]").focus();
         const before = at("fields").querySelector("h2").textContent;
-        group.dispatchEvent(new KeyboardEvent("keydown", { key: "ArrowRight", bubbles: true }));
-        return [before, document.activeElement.dataset.part, at("fields").querySelector("h2").textContent];
+        const right = press("ArrowRight"), after = at("fields").querySelector("h2").textContent;
+        return [before, right, after, press("End"), press("ArrowDown"), press("Home"), press("ArrowUp")];
+    }
+    // Returns how many elements of the picture the Tab key stops at.
+    function stops() {
+        return Array.from(at("picture").querySelectorAll("*")).filter((it) => it.tabIndex >= 0).length;
+    }
+    async function gallery() {
+        const links = Array.from(at("examples").querySelectorAll("a"), (it) => it.getAttribute("href")), found = [];
+        for (const it of links) found.push([it, (await follow(it)).summary]);
+        const box = at("drop").getBoundingClientRect();
+        return { found, drop: box.width > 200 && box.height > 30 && at("drop").textContent.includes("Drop") };
+    }
+    // Returns what is cut or too small: texts that leave the window or their picture, and letters below 11 pixels.
+    function size() {
+        const wrong = [], wide = document.documentElement.clientWidth;
+        for (const it of document.querySelectorAll("main *")) {
+            const box = it.getBoundingClientRect();
+            if (box.width > 0 && it.id !== "text" && (box.right > wide + 0.5 || box.left < 0)) wrong.push(`${it.nodeName} ${it.className.baseVal || it.className} ${it.textContent.slice(0, 40)} at ${box.left} to ${box.right}`);
+        }
+        for (const it of document.querySelectorAll("#picture text, #fields text")) {
+            const drawn = it.ownerSVGElement, scale = drawn.getBoundingClientRect().width / drawn.viewBox.baseVal.width;
+            if (parseFloat(getComputedStyle(it).fontSize) * scale < 11) wrong.push(`${it.textContent} has ${parseFloat(getComputedStyle(it).fontSize) * scale} pixels`);
+            const box = it.getBoundingClientRect(), inner = /field|value/.test(it.getAttribute("class")) ? it.parentNode.querySelector(".box") : drawn, room = inner.getBoundingClientRect();
+            if (box.left < room.left - 0.5 || box.right > room.right + 0.5) wrong.push(`${it.textContent} is wider than its box`);
+        }
+        const rows = new Set(Array.from(at("picture").querySelectorAll(".offset"), (it) => it.textContent));
+        return { wide, wrong, rows: Array.from(rows), scrolls: document.documentElement.scrollWidth > wide, said: Array.from(document.querySelectorAll("#picture text, #fields text"), (it) => it.textContent).join(" ") };
     }
     async function violate() {
         const image = new Image();
@@ -78,15 +126,23 @@
         await until(() => violations.length >= 2);
         return violations;
     }
-    const answers = [];
+    async function askEach() {
+        const answers = [];
+        for (const it of Wolfaren.asked) answers.push(it.size === undefined ? await ask(it) : [await ask(it.size), size()][1]);
+        return answers;
+    }
+    let answers = [];
     try {
         await Wolfaren.page.ready;
         if (Wolfaren.asked === undefined) return;
-        for (const it of Wolfaren.asked) answers.push(await ask(it));
+        answers = await askEach();
         answers.push(await violate());
     } catch (error) {
         answers.push(String(error.stack));
     }
-    at("summary").textContent = btoa(unescape(encodeURIComponent(JSON.stringify(answers))));
+    const said = btoa(unescape(encodeURIComponent(JSON.stringify(answers))));
+    // In a frame, the document around it keeps the replies.
+    if (parent !== window) return parent.postMessage(said, "*");
+    at("summary").textContent = said;
     at("summary").id = "answers";
 })();

@@ -1,0 +1,187 @@
+// Reads dumps, whose rows begin with an offset: those of tcpdump, xxd, hexdump, od and Wireshark.
+"use strict";
+Wolfaren.dump = (function () {
+    const ROW = /^(\s*(?:0x)?)([0-9a-f]{4,16})(:?)([ \t]+)(?=[0-9a-f]{2})/i;
+    const END = /^\s*(?:0x)?([0-9a-f]{4,16})\s*$/i;
+    const RADIXES = [16, 8, 10], MOST_BYTES = 1 << 20;
+    const USE = "use hexdump -C, xxd, or od -t x1";
+    const { note, refuse } = Wolfaren.input;
+
+    function read(text) {
+        const lines = linesOf(text), rows = lines.filter((it) => it.kind === "row");
+        const radix = radixOf(rows);
+        if (!isDump(rows, radix)) return null;
+        const style = styleOf(rows);
+        if (style.why) return refuse(text, style.format, style.why);
+        return readLines(lines, radix, style);
+    }
+    function linesOf(text) {
+        let at = 0;
+        return text.split("\n").map((whole) => {
+            const line = whole.replace(/\r$/, ""), start = at;
+            at += whole.length + 1;
+            return { line, start, ...kindOf(line) };
+        });
+    }
+    function kindOf(line) {
+        const row = ROW.exec(line), end = row ? null : END.exec(line);
+        if (row) return { kind: "row", offset: row[2], isMarked: row[3] === ":" || /0x$/i.test(row[1]) || row[4].length > 1 || row[4] === "\t", head: row[0].length, ...columnsOf(line.slice(row[0].length)) };
+        if (end) return { kind: "end", offset: end[1] };
+        return { kind: line.trim() === "" ? "blank" : line.trim() === "*" ? "star" : "other" };
+    }
+    // Splits a row into its digits and a column of text, which two or more spaces separate; in the middle of 16 bytes there
+    // may be two spaces, too.
+    function columnsOf(rest) {
+        const group = /([0-9a-f]+)(\s*)/iy, groups = [];
+        let len = 0, count = 0;
+        for (let found = group.exec(rest); found; found = group.exec(rest)) {
+            if (found[1].length % 2 === 1 && found[1].length !== 3) return { groups, len, why: "an odd number of digits" };
+            groups.push(found[1]);
+            len += found[0].length;
+            count += found[1].length;
+            if (found[2] === "" && len < rest.length) return { groups, len, why: "not a hexadecimal digit" };
+            if (found[2].length > 1 && !(count === 16 && found[2].length === 2)) break;
+        }
+        return { groups, len, why: "" };
+    }
+    function byteCount(row) {
+        return row.groups.every((it) => it.length === 3) ? row.groups.length : Math.ceil(row.groups.join("").length / 2);
+    }
+    // Returns the radix of the offsets that fits most rows. od writes octal ones.
+    function radixOf(rows) {
+        const fits = RADIXES.map((radix) => rows.filter((it, i) => i > 0 && follows(rows[i - 1], it, radix)).length);
+        return RADIXES[fits.indexOf(Math.max(...fits))];
+    }
+    function follows(row, next, radix) {
+        return valueOf(next.offset, radix) === valueOf(row.offset, radix) + byteCount(row);
+    }
+    function valueOf(digits, radix) {
+        return radix === 16 || /^[0-9]+$/.test(digits) ? Number.parseInt(digits, radix) : NaN;
+    }
+    // The first offset is 0, or the second one fits. What looks like an offset might be the first word of several.
+    function isDump(rows, radix) {
+        if (rows.length === 0) return false;
+        const [first, second] = rows;
+        if (second && follows(first, second, radix)) return true;
+        return valueOf(first.offset, 16) === 0 && (first.isMarked || first.groups.length === 0 || first.groups[0].length !== first.offset.length);
+    }
+    // Returns the format: how bytes are made of groups of digits, or why that isn't known.
+    function styleOf(rows) {
+        const groups = rows.flatMap((it) => it.groups), isAll = (test) => groups.every((it) => test.test(it));
+        const isPlain = rows.every((it) => /^[0-9a-f]{6,7}$/i.test(it.offset) && !/[x:]/i.test(it.line.slice(0, it.head)));
+        const hasColumns = rows.some((it) => it.line.slice(it.head + it.len).trim() !== "");
+        if (groups.some((it) => it.length === 3)) return octalStyle(isAll, groups);
+        if (isPlain && hasColumns && rows.some(hasNumbers)) return spacedStyle(rows);
+        if (isPlain) return plainStyle(isAll, groups);
+        if (groups.some((it) => it.length === 8)) return longStyle(rows);
+        return { format: "a dump with offsets" };
+    }
+    // hexdump and od write words of two bytes in the byte order of the machine, which is nearly always little-endian.
+    function plainStyle(isAll, groups) {
+        if (groups.length > 0 && isAll(/^[0-9a-f]{2}$/i)) return { format: "a dump with offsets" };
+        if (groups.length > 0 && isAll(/^[0-9a-f]{4}$/i)) return { format: "a dump of hexdump or od: words of two bytes, which are swapped", isSwapped: true };
+        return { format: "a dump", why: `these numbers aren't hexadecimal bytes: ${USE}` };
+    }
+    function hasNumbers(row) {
+        return /^[0-9a-f]+(?:\s+[0-9a-f]+)*$/i.test(row.line.slice(row.head + row.len).trim());
+    }
+    function octalStyle(isAll, groups) {
+        const isOctal = isAll(/^[0-3][0-7]{2}$/) && groups.some((it) => it.startsWith("0"));
+        return isOctal ? { format: "a dump with octal bytes", isOctal } : { format: "a dump", why: `these numbers aren't hexadecimal bytes: ${USE}` };
+    }
+    // hexdump -x writes words far apart, as od writes decimal numbers.
+    function spacedStyle(rows) {
+        const texts = rows.map((it) => it.line.slice(it.head).trim().split(/\s+/));
+        if (!texts.flat().every((it) => /^[0-9a-f]{4}$/i.test(it))) return { format: "a dump", why: `these numbers aren't hexadecimal bytes: ${USE}` };
+        rows.forEach((it, i) => Object.assign(it, { groups: texts[i], len: it.line.length - it.head }));
+        return { format: "a dump of hexdump: words of two bytes, which are swapped", isSwapped: true };
+    }
+    // Groups of four bytes may be swapped, as xxd -e writes them, or not. The column of text decides.
+    function longStyle(rows) {
+        const format = "a dump with groups of four bytes", isSwapped = rows.every((it) => hasText(it, swapped(it.groups)));
+        const isWritten = rows.every((it) => hasText(it, it.groups.join("")));
+        if (isSwapped === isWritten) return { format, why: "groups of four bytes may be swapped (xxd -e) or not (xxd -g 4): use xxd alone" };
+        return isSwapped ? { format: `${format}, which are swapped`, isSwapped } : { format };
+    }
+    function hasText(row, digits) {
+        const text = row.line.slice(row.head + row.len).trimEnd();
+        if (text.length !== digits.length / 2) return false;
+        return Array.from(text).every((it, i) => it === "." || it.charCodeAt(0) === Number.parseInt(digits.slice(2 * i, 2 * i + 2), 16));
+    }
+    function swapped(groups) {
+        return groups.map((it) => it.match(/../g).reverse().join("")).join("");
+    }
+    function bytesOf(row, style) {
+        if (style.isOctal) return row.groups.map((it) => Number.parseInt(it, 8));
+        const bytes = [];
+        Wolfaren.digits.pushHex(bytes, style.isSwapped ? swapped(row.groups) : row.groups.join(""));
+        return bytes;
+    }
+    function readLines(lines, radix, style) {
+        const dump = { packets: [], unread: [], radix, style, pending: [], headings: 0, isRepeated: false, hasText: false, base: 0, row: [] };
+        for (const it of lines) TAKE[it.kind](dump, it);
+        if (dump.isRepeated) note(dump.unread, dump.star.start, dump.star.start + dump.star.line.length, "no offset after the repeated rows");
+        for (const it of dump.pending) note(dump.unread, it.start, it.start + it.line.length, "no offset");
+        const leftOut = dump.headings > 0 ? [dump.headings === 1 ? "1 line of headings" : `${dump.headings} lines of headings`] : [];
+        if (dump.hasText) leftOut.push("the column of text");
+        return { packets: dump.packets, unread: dump.unread, format: style.format, leftOut };
+    }
+    const TAKE = { row: takeRow, end: takeEnd, star: takeStar, blank: () => {}, other: (dump, it) => dump.pending.push(it) };
+
+    function current(dump) {
+        return dump.packets[dump.packets.length - 1];
+    }
+    function endOf(dump) {
+        return dump.base + current(dump).length;
+    }
+    function takeRow(dump, it) {
+        const offset = valueOf(it.offset, dump.radix), isFirst = dump.packets.length === 0 || offset === 0;
+        if (isFirst) begin(dump, offset);
+        else repeat(dump, offset, it);
+        if (offset !== endOf(dump)) return note(dump.unread, it.start, it.start + it.line.length, `offset ${it.offset}, where ${endOf(dump).toString(dump.radix).padStart(it.offset.length, "0")} was expected`);
+        settle(dump, isFirst);
+        dump.row = bytesOf(it, dump.style);
+        current(dump).push(...dump.row);
+        checkColumn(dump, it);
+    }
+    function begin(dump, offset) {
+        Object.assign(dump, { base: offset, row: [], isRepeated: false });
+        dump.packets.push([]);
+    }
+    // Lines before the first row of a packet are headings, unless they have nothing but digits.
+    function settle(dump, isFirst) {
+        for (const it of dump.pending) {
+            if (isFirst && !/^[0-9a-f\s]*$/i.test(it.line)) dump.headings += 1;
+            else note(dump.unread, it.start, it.start + it.line.length, "no offset");
+        }
+        dump.pending = [];
+    }
+    function checkColumn(dump, it) {
+        const start = it.start + it.head + it.len, text = it.line.slice(it.head + it.len).trim();
+        if (it.why) return note(dump.unread, start, it.start + it.line.length, it.why);
+        if (text.length > dump.row.length + 3) return note(dump.unread, start, it.start + it.line.length, "more than the text of the row");
+        dump.hasText = dump.hasText || text !== "";
+    }
+    function takeStar(dump, it) {
+        if (dump.row.length > 0) Object.assign(dump, { isRepeated: true, star: it });
+        else note(dump.unread, it.start, it.start + it.line.length, "no row to repeat");
+    }
+    // After a line with an asterisk, the row before it is repeated up to the next offset.
+    function repeat(dump, offset, it) {
+        const missing = offset - endOf(dump);
+        if (!dump.isRepeated) return;
+        dump.isRepeated = false;
+        if (missing % dump.row.length !== 0 || missing < 0 || offset > MOST_BYTES) return note(dump.unread, dump.star.start, dump.star.start + dump.star.line.length, `no whole rows up to offset ${it.offset}`);
+        for (let left = missing; left > 0; left -= dump.row.length) current(dump).push(...dump.row);
+    }
+    // The last line of hexdump and od is the length. Of a last word with one byte, the other is 0.
+    function takeEnd(dump, it) {
+        const offset = valueOf(it.offset, dump.radix);
+        if (dump.packets.length === 0) return dump.pending.push(it);
+        repeat(dump, offset, it);
+        const isOdd = dump.style.isSwapped && offset === endOf(dump) - 1 && current(dump)[offset - dump.base] === 0;
+        if (isOdd) current(dump).pop();
+        else if (offset !== endOf(dump)) note(dump.unread, it.start, it.start + it.line.length, `the bytes end at offset ${endOf(dump).toString(dump.radix)}`);
+    }
+    return { read };
+})();

@@ -1,0 +1,32 @@
+// Measures texts, and breaks them into lines. The fonts are those of style.css.
+"use strict";
+Wolfaren.letters = (function () {
+    const FONTS = { name: '600 11.5px system-ui, "DejaVu Sans", sans-serif', field: '11px system-ui, "DejaVu Sans", sans-serif', value: '11px "DejaVu Sans Mono", ui-monospace, monospace' };
+    const context = document.createElement("canvas").getContext("2d");
+
+    // Returns the width of a text in pixels.
+    function widthOf(text, font) {
+        context.font = FONTS[font];
+        return context.measureText(text).width;
+    }
+    // Breaks a text into lines of at most this width. A word that is wider is broken, too.
+    function linesOf(text, font, most) {
+        const lines = [""];
+        for (const word of text.split(" ").flatMap((it) => piecesOf(it, font, most))) {
+            const last = lines[lines.length - 1], joined = last === "" ? word : `${last} ${word}`;
+            if (last !== "" && widthOf(joined, font) > most) lines.push(word);
+            else lines[lines.length - 1] = joined;
+        }
+        return lines;
+    }
+    function piecesOf(word, font, most) {
+        const pieces = [""];
+        for (const letter of word) {
+            const last = pieces[pieces.length - 1];
+            if (last !== "" && widthOf(last + letter, font) > most) pieces.push(letter);
+            else pieces[pieces.length - 1] += letter;
+        }
+        return pieces;
+    }
+    return { widthOf, linesOf };
+})();

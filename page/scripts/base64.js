@@ -3,11 +3,11 @@
 Wolfaren.base64 = (function () {
     const LEAST = 16, LEAST_OTHERS = 3;
 
-    // Text is base64 if it decodes, is encoded in the one way that RFC 4648 allows, and has letters that no hexadecimal
-    // digits with a slip of the keyboard have.
+    // Text is base64 if it decodes, is encoded in the one way that RFC 4648 allows, and has letters that neither base32 has
+    // nor hexadecimal digits with a slip of the keyboard.
     function isBase64(text) {
         const compact = text.replace(/\s/g, ""), others = new Set(compact.replace(/[0-9a-f]/gi, ""));
-        if (compact.length < LEAST || others.size < LEAST_OTHERS) return false;
+        if (compact.length < LEAST || others.size < LEAST_OTHERS || !/[a-z]/.test(compact)) return false;
         if (!/^(?:[a-z0-9+/]+|[a-z0-9_-]+)={0,2}$/i.test(compact)) return false;
         const bytes = decode(compact);
         return bytes !== null && encode(bytes) === standard(compact);

@@ -3,17 +3,23 @@
 Wolfaren.dump = (function () {
     const ROW = /^(\s*(?:0x)?)([0-9a-f]{4,16})(:?)([ \t]+)(?=[0-9a-f]{2})/i;
     const END = /^\s*(?:0x)?([0-9a-f]{4,16})\s*$/i;
-    const RADIXES = [16, 8, 10], MOST_BYTES = 1 << 20;
+    const MOST_BYTES = 1 << 20;
     const USE = "use hexdump -C, xxd, or od -t x1";
     const { note, refuse } = Wolfaren.input;
 
     function read(text) {
         const lines = linesOf(text), rows = lines.filter((it) => it.kind === "row");
-        const radix = radixOf(rows);
-        if (!isDump(rows, radix)) return null;
+        for (const it of rows) Object.assign(it, columnsOf(it.line.slice(it.head), hasMiddle(it, rows)));
+        if (!isDump(rows)) return null;
         const style = styleOf(rows);
-        if (style.why) return refuse(text, style.format, style.why);
-        return readLines(lines, radix, style);
+        return style.why ? refuse(text, style.format, style.why) : readBest(text, lines, style);
+    }
+    // Reads the lines by each possible radix of their offsets, and returns the result in which most of them fit.
+    function readBest(text, lines, style) {
+        const all = radixesOf(lines.filter((it) => it.kind === "row")).map((radix) => readLines(lines, radix, style));
+        const least = Math.min(...all.map((it) => it.unread.length)), best = all.filter((it) => it.unread.length === least);
+        const isOne = best.every((it) => JSON.stringify(it.packets) === JSON.stringify(best[0].packets));
+        return isOne ? best[0] : refuse(text, style.format, "after the repeated rows, offsets may be octal or hexadecimal: use hexdump -C, xxd, or od -v");
     }
     function linesOf(text) {
         let at = 0;
@@ -25,13 +31,18 @@ Wolfaren.dump = (function () {
     }
     function kindOf(line) {
         const row = ROW.exec(line), end = row ? null : END.exec(line);
-        if (row) return { kind: "row", offset: row[2], isMarked: row[3] === ":" || /0x$/i.test(row[1]) || row[4].length > 1 || row[4] === "\t", head: row[0].length, ...columnsOf(line.slice(row[0].length)) };
+        if (row) return { kind: "row", offset: row[2], isMarked: row[3] === ":" || /0x$/i.test(row[1]) || row[4].length > 1 || row[4] === "\t", hasColon: row[3] === ":", isIndented: /^\s*[0-9a-f]{8}: {2}/i.test(line), head: row[0].length };
         if (end) return { kind: "end", offset: end[1] };
         return { kind: line.trim() === "" ? "blank" : line.trim() === "*" ? "star" : "other" };
     }
-    // Splits a row into its digits and a column of text, which two or more spaces separate; in the middle of 16 bytes there
-    // may be two spaces, too.
-    function columnsOf(rest) {
+    // Whether two spaces may be in the middle of the 16 bytes of a row, and don't yet separate the column of text.
+    function hasMiddle(row, rows) {
+        const at = rows.indexOf(row), next = rows[at + 1] || row, former = rows[at + 1] ? row : rows[at - 1] || row;
+        const len = valueOf(next.offset, 16) - valueOf(former.offset, 16);
+        return len > 0 ? len !== 8 : !row.hasColon;
+    }
+    // Splits a row into its digits and a column of text, which two or more spaces separate.
+    function columnsOf(rest, isMiddleKept) {
         const group = /([0-9a-f]+)(\s*)/iy, groups = [];
         let len = 0, count = 0;
         for (let found = group.exec(rest); found; found = group.exec(rest)) {
@@ -40,29 +51,30 @@ Wolfaren.dump = (function () {
             len += found[0].length;
             count += found[1].length;
             if (found[2] === "" && len < rest.length) return { groups, len, why: "not a hexadecimal digit" };
-            if (found[2].length > 1 && !(count === 16 && found[2].length === 2)) break;
+            if (found[2].length > 1 && !(isMiddleKept && groups.length === 8 && count === 16 && found[2].length === 2)) break;
         }
         return { groups, len, why: "" };
     }
     function byteCount(row) {
         return row.groups.every((it) => it.length === 3) ? row.groups.length : Math.ceil(row.groups.join("").length / 2);
     }
-    // Returns the radix of the offsets that fits most rows. od writes octal ones.
-    function radixOf(rows) {
-        const fits = RADIXES.map((radix) => rows.filter((it, i) => i > 0 && follows(rows[i - 1], it, radix)).length);
-        return RADIXES[fits.indexOf(Math.max(...fits))];
+    // od writes octal offsets of 7 digits, or decimal ones with -A d, and hexdump hexadecimal ones, but not with single bytes.
+    function radixesOf(rows) {
+        const isOpen = rows.every((it) => /^[0-9a-f]{7}$/i.test(it.offset) && !it.hasColon);
+        if (!isOpen) return [16];
+        return rows.every((it) => it.groups.every((group) => group.length === 2)) ? [8, 10] : [16, 8, 10];
     }
     function follows(row, next, radix) {
         return valueOf(next.offset, radix) === valueOf(row.offset, radix) + byteCount(row);
     }
     function valueOf(digits, radix) {
-        return radix === 16 || /^[0-9]+$/.test(digits) ? Number.parseInt(digits, radix) : NaN;
+        return (radix === 8 ? /^[0-7]+$/ : radix === 10 ? /^[0-9]+$/ : /^[0-9a-f]+$/i).test(digits) ? Number.parseInt(digits, radix) : NaN;
     }
     // The first offset is 0, or the second one fits. What looks like an offset might be the first word of several.
-    function isDump(rows, radix) {
+    function isDump(rows) {
         if (rows.length === 0) return false;
         const [first, second] = rows;
-        if (second && follows(first, second, radix)) return true;
+        if (second && radixesOf(rows).some((radix) => follows(first, second, radix))) return true;
         return valueOf(first.offset, 16) === 0 && (first.isMarked || first.groups.length === 0 || first.groups[0].length !== first.offset.length);
     }
     // Returns the format: how bytes are made of groups of digits, or why that isn't known.
@@ -73,7 +85,7 @@ Wolfaren.dump = (function () {
         if (groups.some((it) => it.length === 3)) return octalStyle(isAll, groups);
         if (isPlain && hasColumns && rows.some(hasNumbers)) return spacedStyle(rows);
         if (isPlain) return plainStyle(isAll, groups);
-        if (groups.some((it) => it.length === 8)) return longStyle(rows);
+        if (groups.some((it) => it.length > 4) || rows.some((it) => it.isIndented)) return longStyle(rows);
         return { format: "a dump with offsets" };
     }
     // hexdump and od write words of two bytes in the byte order of the machine, which is nearly always little-endian.
@@ -96,7 +108,8 @@ Wolfaren.dump = (function () {
         rows.forEach((it, i) => Object.assign(it, { groups: texts[i], len: it.line.length - it.head }));
         return { format: "a dump of hexdump: words of two bytes, which are swapped", isSwapped: true };
     }
-    // Groups of four bytes may be swapped, as xxd -e writes them, or not. The column of text decides.
+    // Groups of four bytes may be swapped, as xxd -e writes them, or not. The column of text decides. xxd -e indents a last
+    // group with fewer bytes.
     function longStyle(rows) {
         const format = "a dump with groups of four bytes", isSwapped = rows.every((it) => hasText(it, swapped(it.groups)));
         const isWritten = rows.every((it) => hasText(it, it.groups.join("")));

@@ -51,8 +51,13 @@ Wolfaren.packets = (function () {
         chosen = index;
         list.children[chosen].setAttribute("aria-selected", "true");
         list.setAttribute("aria-activedescendant", `packet-${chosen}`);
-        list.children[chosen].scrollIntoView({ block: "nearest" });
+        reveal(list, list.children[chosen]);
         onChoose(index);
+    }
+    // Scrolls the list, but not the page.
+    function reveal(list, it) {
+        if (it.offsetTop < list.scrollTop) list.scrollTop = it.offsetTop;
+        else if (it.offsetTop + it.offsetHeight > list.scrollTop + list.clientHeight) list.scrollTop = it.offsetTop + it.offsetHeight - list.clientHeight;
     }
     function onKey(event) {
         const to = { ArrowDown: chosen + 1, ArrowUp: chosen - 1, Home: 0, End: count - 1 }[event.key];

@@ -23,11 +23,12 @@ Wolfaren.page = (function () {
         const parsed = Wolfaren.parse.parse(kind === "capture" ? "packet" : kind, firstNumber(), it.bytes);
         return Object.assign(parsed, { hint: hintOf(kind, it.bytes, parsed) });
     }
-    // Returns the kind that the bytes look like if another one was chosen, and says so in place of the error in the IP version.
+    // Returns the kind that the bytes look like if another one was chosen. It explains an error in the IP version better than
+    // the number there.
     function hintOf(kind, bytes, parsed) {
         const found = Wolfaren.kind.find(bytes);
         if (at("kind").value === "auto" || kind.startsWith("chain") || found.why === "" || found.kind === kind || !parsed.fault && !parsed.note) return "";
-        if (parsed.fault && parsed.fault.kind === Wolfaren.faults.UNSUPPORTED_IP_VERSION) parsed.fault.text = `these bytes look like ${Wolfaren.kind.NAMES[found.kind]}`;
+        if (parsed.fault && parsed.fault.kind === Wolfaren.faults.UNSUPPORTED_IP_VERSION) parsed.fault.text = "no IP header begins here";
         return found.kind;
     }
     function show() {
@@ -119,7 +120,7 @@ Wolfaren.page = (function () {
     }
     function onPoint(event) {
         const index = partOf(event);
-        if (index >= 0 && !/^(?:rest|missing|beyond)/.test(model.parts[index].style)) showFields(index);
+        if (index >= 0 && Wolfaren.fields.of(model.parts[index], model.bytes).length > 0) showFields(index);
     }
     // Moves the focus within the picture, which is one stop for the Tab key.
     function onKey(event) {
@@ -194,10 +195,7 @@ Wolfaren.page = (function () {
         const { packets: found } = reading, isOne = found.length < 2, isCapture = isOne && found.length > 0 && kindOf({ bytes: found[0] }).kind === "capture";
         if (isCapture || !isOne) isFromFile = false;
         if (isCapture) return showCapture(Wolfaren.capture.read(Uint8Array.from(found[0]).buffer));
-        if (!isOne) {
-            tell(list(found.map((bytes) => ({ bytes }))));
-            return Wolfaren.packets.choose(0);
-        }
+        if (!isOne) return showSeveral(found);
         if (!isFromFile) list([]);
         packet = found.length > 0 ? { bytes: found[0] } : EMPTY;
         show();
@@ -208,6 +206,12 @@ Wolfaren.page = (function () {
         const bytes = [];
         Wolfaren.digits.pushHex(bytes, digits);
         return Wolfaren.kind.find(Uint8Array.from(bytes)).kind === kind.toLowerCase() ? "auto" : kind.toLowerCase();
+    }
+    // Lists the packets of a text, and draws the one with the number of that before.
+    function showSeveral(found) {
+        const index = Math.max(0, packets.indexOf(packet));
+        tell(list(found.map((bytes) => ({ bytes }))));
+        Wolfaren.packets.choose(Math.min(index, packets.length - 1));
     }
     function takeLink() {
         const found = LINK.exec(location.hash);

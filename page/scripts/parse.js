@@ -34,22 +34,24 @@ Wolfaren.parse = (function () {
     function parseChain(model, version) {
         const chain = Wolfaren.library.parseChain(version, model.first, model.bytes);
         pushHeaders(model, chain.headers, 0);
-        pushRest(model, chain.next, chain.fragmented, chain.len, model.bytes.length - chain.len);
+        pushRest(model, chain.next, chain.fragmented && chain.fault.kind === 0, chain.len, model.bytes.length - chain.len, false);
         if (chain.fault.kind !== 0) model.fault = faultAt(chain.fault, chain.len, false);
         return model;
     }
     function faultAt(fault, offset, isTruncated) {
-        return { kind: fault.kind, offset, isTruncated, requiredLen: fault.requiredLen, len: fault.len, name: Wolfaren.faults.nameOf(fault, isTruncated), text: Wolfaren.faults.textOf(fault, offset) };
+        return { kind: fault.kind, offset, isTruncated, name: Wolfaren.faults.nameOf(fault, isTruncated), text: Wolfaren.faults.textOf(fault, offset) };
     }
     function pushHeaders(model, headers, base) {
         model.headers = headers.map((it) => ({ ...it, offset: it.offset + base }));
         for (const it of model.headers) push(model, Wolfaren.names.styles[it.number], Wolfaren.names.ofNumber(it.number), it.offset, it.len, { ...it, isHeader: true });
     }
-    // Adds the payload. That of a fragment is part of one, in the colour of the fragment header.
-    function pushRest(model, next, isFragment, at, len) {
+    // Adds the payload. That of a fragment is part of one, in the colour of the fragment header. A truncated header is in the
+    // colour of its kind.
+    function pushRest(model, next, isFragment, at, len, isTruncated) {
         const name = isFragment ? "part of payload" : Wolfaren.names.ofNumber(next) || "payload";
+        const style = isTruncated ? `${Wolfaren.names.styles[next]} incomplete` : isFragment ? "rest of-fragment" : "rest";
         Object.assign(model, { next, isFragment, restLen: len });
-        push(model, isFragment ? "rest of-fragment" : "rest", name, at, len, { isRest: true, number: next });
+        push(model, style, name, at, len, { isRest: true, number: next });
     }
     function parsePacket(model, base) {
         const packet = Wolfaren.library.dissect(model.bytes.subarray(base)), fault = packet.fault;
@@ -61,11 +63,12 @@ Wolfaren.parse = (function () {
         return model;
     }
     function pushPacket(model, base, packet) {
-        const version = packet.version, nextAt = version === 6 ? 6 : 9, at = base + packet.payloadOffset, isFragment = packet.fragment > ATOMIC;
+        const version = packet.version, nextAt = version === 6 ? 6 : 9, at = base + packet.payloadOffset;
+        const isFragment = packet.fragment > ATOMIC && packet.fault.kind === 0;
         push(model, "base", `IPv${version}`, base, packet.baseLen, { version, next: model.bytes[base + nextAt], nextAt });
         pushHeaders(model, packet.headers, base);
-        pushRest(model, packet.number, isFragment && packet.fault.kind === 0, at, packet.payloadLen);
-        push(model, isFragment && packet.fault.kind === 0 ? "missing of-fragment" : "missing", "missing", at + packet.payloadLen, packet.missing, { isMissing: true });
+        pushRest(model, packet.number, isFragment, at, packet.payloadLen, packet.end === AT_TRUNCATED_HEADER);
+        push(model, isFragment ? "missing of-fragment" : "missing", "missing", at + packet.payloadLen, packet.missing, { isMissing: true });
         push(model, "beyond", "padding", at + packet.payloadLen, packet.padding, {});
         const holder = fragmentHolder(model, version);
         if (packet.fragment !== 0 && holder) holder.fragment = packet;

@@ -24,7 +24,7 @@
         const why = at("picture").querySelector(".why");
         return { rows: rows(), hex: link().pop(), kind: link()[0].slice(1), unread: shown("unread"), told: shown("told"), summary: at("summary").textContent, reading: at("reading").textContent,
             found: at("found").textContent, hint: shown("hint"), marks: Array.from(at("marks").querySelectorAll("mark"), (it) => it.textContent), marked: at("marks").textContent,
-            parts: texts("[data-part]").length, arrows: texts(".arrow").length, names: texts(".name"), why: texts(".why").join(" "), colour: why ? getComputedStyle(why).fill : "",
+            parts: texts("[data-part]").length, arrows: texts(".arrow").length, names: texts(".name"), styles: Array.from(at("picture").querySelectorAll("[data-part]"), (it) => it.getAttribute("class").slice("part ".length)), why: texts(".why").join(" "), colour: why ? getComputedStyle(why).fill : "",
             list: at("packets").hidden ? [] : list(), isEmpty: at("something").hidden, said: at("main").textContent, text: at("text").value };
     }
     // Waits until a condition holds. Counts turns, since with --virtual-time-budget the clock runs ahead of file reads.

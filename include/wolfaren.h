@@ -52,7 +52,7 @@
 #define WOLFAREN_VERSION (10000 * WOLFAREN_VERSION_MAJOR + 100 * WOLFAREN_VERSION_MINOR + WOLFAREN_VERSION_PATCH)
 
 /* A checksum of the structs, numbers and calls in this header, made by scripts/abi of the repository. */
-#define WOLFAREN_ABI 0x950f67aau
+#define WOLFAREN_ABI 0x712ee9dbu
 
 #if !(defined(__x86_64__) && !defined(__ILP32__)) && !defined(_M_X64) && !defined(__aarch64__) && !defined(_M_ARM64)
 #error "libwolfaren needs a 64-bit machine: x86-64 or ARM64"
@@ -561,7 +561,8 @@ enum wolfaren_test {
     WOLFAREN_TEST_ICMP_CODE = 21,          /* its code is `number` */
     WOLFAREN_TEST_TCP_FLAGS = 22,          /* of the flags of TCP in `address_low`, exactly those in `number` are set */
     WOLFAREN_TEST_ROUTING_TYPE = 23,       /* a routing header has the type `number` */
-    WOLFAREN_TEST_SEGMENTS_LEFT = 24       /* the segments left of a routing header compare so with `number` */
+    WOLFAREN_TEST_SEGMENTS_LEFT = 24,      /* the segments left of a routing header compare so with `number` */
+    WOLFAREN_TEST_OPTION = 25              /* hop-by-hop or destination options have one of type `number` */
 };
 
 /*
@@ -669,6 +670,8 @@ struct wolfaren_filter_error {
  *   spi N, id N
  *   routing-type N                       a routing header of the packet has this type
  *   segments-left OP N                   the segments left of a routing header of the packet
+ *   option N                             hop-by-hop or destination options have one of this type, and no malformed one
+ *                                        before it
  *   src NET, dst NET, net NET            NET is an IPv4 or IPv6 address, alone or with a slash and a number of bits
  *   host A                               A is an IPv4 or IPv6 address
  *   src port P, dst port P, port P       P is a port or a range such as 1024-65535

@@ -143,6 +143,7 @@ static const struct {
     [WOLFAREN_TEST_TCP_FLAGS] = {print_tcp_flags, "tcp-flags"},
     [WOLFAREN_TEST_ROUTING_TYPE] = {print_number, "routing-type"},
     [WOLFAREN_TEST_SEGMENTS_LEFT] = {print_count, "segments-left"},
+    [WOLFAREN_TEST_OPTION] = {print_number, "option"},
 };
 
 /* Prints a test, and returns the length. No packet meets a test of an unknown kind. */

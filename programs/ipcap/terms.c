@@ -34,6 +34,7 @@ static const struct {
     {"id N", "the identification of the fragment", "id 7"},
     {"routing-type N", "the type of a routing header", "routing-type 4"},
     {"segments-left OP N", "the segments left of a routing header", "segments-left > 0"},
+    {"option N", "a hop-by-hop or destination option", "option 5"},
     {"src NETWORK", "the source address is in the network", "src 2001:db8::/32"},
     {"dst NETWORK", "the destination address is in the network", "dst 192.0.2.1"},
     {"net NETWORK", "either address is in the network", "net 10.0.0.0/8"},

@@ -34,7 +34,7 @@ GROUPS = [("link layers", test_link_layers.link_layers), ("short frames", test_l
           ("bounds of tables", test_sum.bounds), ("conditions", test_filter.conditions),
           ("chains without an end in libpcap", test_filter.endless_chains),
           ("conditions on upper layers", test_filter.upper_layers),
-          ("conditions on flags of TCP, routing and fragment headers", test_filter.flags),
+          ("conditions on flags of TCP and fields of extension headers", test_filter.flags),
           ("programs of conditions", test_filter.programs), ("lists of terms", test_filter.help_terms),
           ("forms of what is written", test_filter.forms_of_files), ("between programs", test_filter.between_programs),
           ("several files", test_filter.several_files), ("numbers of packets to write", test_filter.counts),

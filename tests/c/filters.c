@@ -55,6 +55,7 @@ static void texts(void)
     check_matches("flow >= 0", false, false);
     check_matches("src port 2313 and port 0-0x909 and no-transport", true, false);
     check_matches("dst port 0-65535 or port 2314-65535 or icmp-type 9 or icmp-code 9", false, false);
+    check_matches("option 0 or option 1", false, false);
     check_matches("routing-type 0 or segments-left >= 0", false, false);
     check_matches("tcp-flags fin or not tcp-flags syn,ack/syn,ack,rst", true, true);
 }
@@ -134,7 +135,7 @@ static void any_contents(void)
         for (size_t i = 0; i < sizeof filter; i++) ((uint8_t *)&filter)[i] = next_byte();
         for (size_t i = 0; i < WOLFAREN_FILTER_TESTS; i++) {
             struct wolfaren_filter_test *test = &filter.tests[i];
-            test->kind %= WOLFAREN_TEST_SEGMENTS_LEFT + 2;
+            test->kind %= WOLFAREN_TEST_OPTION + 2;
             if (round % 3 == 0) continue;
             test->if_met = (uint8_t)(i + test->if_met % 16);
             test->if_not = (uint8_t)(i + test->if_not % 16);
@@ -170,7 +171,7 @@ static void programs(void)
         {"a jump past the end", false, {2, {{MET, .if_met = 2}, {MET, .if_met = 64}, {MET, .if_met = 64}}}},
         {"a jump to index 255", false, {1, {{MET, .if_met = 255, .if_not = 64}}}},
         {"the unknown kind 0", true, {1, {{.if_met = 65, .if_not = 64}}}},
-        {"the unknown kind 25", true, {1, {{.kind = 25, .if_met = 65, .if_not = 64}}}},
+        {"the unknown kind 26", true, {1, {{.kind = 26, .if_met = 65, .if_not = 64}}}},
         {"an unknown comparison", true, {1, {{.kind = WOLFAREN_TEST_PAYLOAD, .comparison = 7, .if_not = 64}}}},
         {"an unknown version", true, {1, {{.kind = WOLFAREN_TEST_EITHER, .version = 5, .if_not = 64}}}},
         {"one of two flags", true,
@@ -273,6 +274,7 @@ static void parsed_tests(void)
         {"no-transport", WOLFAREN_TEST_NO_TRANSPORT, 0, 0},
         {"icmp-type 128", WOLFAREN_TEST_ICMP_TYPE, 128, 0},
         {"icmp-code 255", WOLFAREN_TEST_ICMP_CODE, 255, 0},
+        {"option 0xc2", WOLFAREN_TEST_OPTION, 0xc2, 0},
         {"routing-type 4", WOLFAREN_TEST_ROUTING_TYPE, 4, 0},
         {"segments-left > 3", WOLFAREN_TEST_SEGMENTS_LEFT, 3, 0},
         {"tcp-flags cwr,fin", WOLFAREN_TEST_TCP_FLAGS, 0x81, 0x81},
@@ -320,6 +322,28 @@ static void routing(void)
         struct wolfaren_filter_error error;
         check(parse(rows[i].text, &filter, &error), rows[i].text);
         check(wolfaren_filter_matches(&filter, ROUTED, sizeof ROUTED) == rows[i].matches, rows[i].text);
+    }
+}
+
+/* Hop-by-hop options: Pad1, router alert, Pad1; and destination options: of type 30, and a malformed one before Pad1. */
+static const uint8_t OPTIONS[] = {IPV6(16, 0), 60, 0, 0, 5, 2, 0, 9, 0, 59, 0, 30, 0, 31, 3, 0, 0};
+
+/* Options up to a malformed one. */
+static void options(void)
+{
+    static const struct {
+        const char *text;
+        bool matches;
+    } rows[] = {
+        {"option 0 and option 5 and option 30", true},
+        {"option 31 or option 2 or option 9", false},
+        {"option 1 or option 3 or option 59", false},
+    };
+    for (size_t i = 0; i < sizeof rows / sizeof *rows; i++) {
+        struct wolfaren_filter filter;
+        struct wolfaren_filter_error error;
+        check(parse(rows[i].text, &filter, &error), rows[i].text);
+        check(wolfaren_filter_matches(&filter, OPTIONS, sizeof OPTIONS) == rows[i].matches, rows[i].text);
     }
 }
 
@@ -402,5 +426,6 @@ int main(void)
     tcp_flags();
     routing();
     two_fragment_headers();
+    options();
     return 0;
 }

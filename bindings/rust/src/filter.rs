@@ -53,6 +53,7 @@ impl Filter {
     /// | `id N` | the fragment has this identification |
     /// | `routing-type N` | a routing header has this type |
     /// | `segments-left OP N` | the segments left of a routing header compare so |
+    /// | `option N` | hop-by-hop or destination options have one of this type, and no malformed one before it |
     /// | `src NET`, `dst NET`, `net NET` | the source, the destination or one of them is in this network: an address, or a prefix such as `2001:db8::/32` |
     /// | `host A` | the source or the destination is this address |
     /// | `src port P`, `dst port P`, `port P` | the source port, the destination port or one of them is in this range: a port, or a range such as `1024-65535` |

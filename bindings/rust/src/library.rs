@@ -146,7 +146,7 @@ const _: () = {
 
 /// `WOLFAREN_ABI`: the checksum of the header that this file was written for (`scripts/abi` of the repository).
 #[cfg(all(test, not(miri)))]
-pub(crate) const ABI: u32 = 0x950f_67aa;
+pub(crate) const ABI: u32 = 0x712e_e9db;
 
 unsafe extern "C" {
     fn wolfaren_parse_chain(

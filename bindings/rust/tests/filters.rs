@@ -134,6 +134,20 @@ fn messages_of_icmp() {
 }
 
 #[test]
+fn options() {
+    let headers = [60, 0, 0, 5, 2, 0, 9, 0, 59, 0, 30, 0, 31, 3, 0, 0];
+    let matching = ["option 0 and option 5", "option 30"];
+    let others = ["option 31", "option 2", "option 9", "option 3"];
+    check(&ipv6(16, 0, &headers), &matching, &others);
+    let routing = [59, 0, 5, 0, 5, 0, 5, 0];
+    check(
+        &ipv6(8, 43, &routing),
+        &["header 43"],
+        &["option 5", "option 0"],
+    );
+}
+
+#[test]
 fn two_fragment_headers() {
     let headers = [44, 0, 0, 1, 0, 0, 0, 7, 17, 0, 3, 0x20, 0, 0, 0, 9];
     let matching = [
@@ -323,6 +337,7 @@ fn different_filters() {
         "icmp-type",
         "icmp-code",
         "routing-type",
+        "option",
     ] {
         terms.push(format!("{name} 6"));
     }

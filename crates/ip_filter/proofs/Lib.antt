@@ -20,6 +20,7 @@ mod ReadFormulaLemmas
 mod ParseLemmas
 mod FactsLemmas
 mod FragmentLemmas
+mod OptionLemmas
 mod FlagLemmas
 mod MaskLemmas
 mod TestLemmas

@@ -153,6 +153,18 @@ module _ (s : List ℕ) where
   pub header_mask : (n : ℕ) → IsExtensionNumber n → any_flag 64 (1 * 2 ^ n % 2 ^ 64) p ≡ list_any (λ h. h.number == n) p.headers
   header_mask n is = shifted_flag p n (search (rules, is)) ∙ header_flag n is
 
+  either_number : (a b : ℕ) (c : List ExtHeader) → (list_any (λ h. h.number == a) c || list_any (λ h. h.number == b) c) ≡ list_any (λ h. (h.number == a) || (h.number == b)) c
+  either_number a b [] = refl
+  either_number a b (h ∷ c) = grind (arith, common_steps, either_number a b c)
+
+  -- hop-by-hop or destination options
+  pub options_mask : any_flag 64 (bit_or 1 (2 ^ 60)) p ≡ list_any (λ h. (h.number == 0) || (h.number == 60)) p.headers
+  options_mask =
+      either_flag p 64 1 (2 ^ 60)
+      ∙ ap (λ x. x || any_flag 64 (2 ^ 60) p) (header_mask 0 (search rules))
+      ∙ ap (λ x. list_any (λ h. h.number == 0) p.headers || x) (header_mask 60 (search rules))
+      ∙ either_number 0 60 p.headers
+
   pub other_header : (n : ℕ) → (IsExtensionNumber n → ⊥) → any_flag 64 0 p ≡ list_any (λ h. h.number == n) p.headers
   other_header n none = no_flag p 64 ∙ sym (no_number n none)
 

@@ -55,6 +55,7 @@ number_keyword_of w =
     else if bytes_eq w (codes "spi") then Some number.SecurityParameters
     else if bytes_eq w (codes "id") then Some number.Identification
     else if bytes_eq w (codes "routing-type") then Some number.RoutingType
+    else if bytes_eq w (codes "option") then Some number.Option
     else if bytes_eq w (codes "icmp-type") then Some number.IcmpType
     else if bytes_eq w (codes "icmp-code") then Some number.IcmpCode
     else if bytes_eq w (codes "tcp-flags") then Some number.TcpFlags
@@ -118,6 +119,7 @@ AreNumberArguments number.LeadsTo args t = Make (IsOne (Finds protocol_of)) term
 AreNumberArguments number.SecurityParameters args t = Make (IsOne (Finds (number_up_to 4294967295))) term.SecurityParameters args t
 AreNumberArguments number.Identification args t = Make (IsOne (Finds (number_up_to 4294967295))) term.Identification args t
 AreNumberArguments number.RoutingType args t = Make (IsOne (Finds (number_up_to 255))) term.RoutingType args t
+AreNumberArguments number.Option args t = Make (IsOne (Finds (number_up_to 255))) term.Option args t
 AreNumberArguments number.IcmpType args t = Make (IsOne (Finds (number_up_to 255))) term.IcmpType args t
 AreNumberArguments number.IcmpCode args t = Make (IsOne (Finds (number_up_to 255))) term.IcmpCode args t
 AreNumberArguments number.TcpFlags args t = Make (IsOne (Finds tcp_flags_of)) term.TcpFlags args t

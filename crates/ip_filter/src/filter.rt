@@ -21,7 +21,8 @@ pub struct Test {
     /// identification of a fragment, 8 the source, 9 the destination, 10 either address, 11 the stated length, 12 the hop
     /// limit, 13 the code point of differentiated services, 14 explicit congestion notification, 15 the flow label, 16 the
     /// source, 17 the destination, 18 either port, 19 whether ports should be there but aren't, 20 the type, 21 the code of
-    /// ICMP, 22 flags of TCP, 23 the type, 24 the segments left of a routing header.
+    /// ICMP, 22 flags of TCP, 23 the type, 24 the segments left of a routing header, 25 the type of
+    /// an option.
     pub kind: u8,
     /// How a quantity is compared: 1 equal, 2 not equal, 3 less, 4 at most, 5 greater, 6 at least.
     pub comparison: u8,

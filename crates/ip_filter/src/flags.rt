@@ -53,6 +53,9 @@ pub(crate) mod mask {
 
     pub const FRAGMENT: u64 = 1 << ip_number::IPV6_FRAG.0;
 
+    pub const OPTIONS: u64 = 1 << ip_number::IPV6_HOP_BY_HOP.0
+        | 1 << ip_number::IPV6_DEST_OPTIONS.0;
+
     pub const AUTHENTICATION: u64 = 1 << ip_number::AUTH.0;
 
     /// All kinds of faults.

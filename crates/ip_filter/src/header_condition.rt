@@ -6,11 +6,12 @@ ghost use Rattle.ip_ext_slices.specs.Ipv6ExtensionSlice.{header_of};
 ghost use Rattle.ip_dissect.specs.Dissection.{dissected};
 ghost use Rattle.ip_filter.specs.Flags.{any_flag};
 ghost use Rattle.ip_filter.specs.Truth.{compares, says_fragment};
-ghost use Rattle.ip_filter.specs.HeaderFields.{has_spi, has_routing_type, has_segments_left};
+ghost use Rattle.ip_filter.specs.HeaderFields.{has_option, has_spi, has_routing_type, has_segments_left};
 ghost use Rattle.ip_filter.specs.HeaderConditions.{is_asked, meets_condition};
 
 use crate::Comparison;
 use crate::flags::mask;
+use crate::options::has_option_among;
 use ip_base::IpNumber;
 use ip_ext_slices::{Ipv6ExtensionSlice, Ipv6ExtensionsCursor};
 
@@ -25,6 +26,8 @@ pub(crate) enum HeaderCondition {
     SegmentsLeft(Comparison, u64),
     /// A fragment header with this identification.
     Identification(u64),
+    /// Hop-by-hop or destination options, of which one has this type.
+    Option(u64),
 }
 
 impl HeaderCondition {
@@ -39,6 +42,7 @@ impl HeaderCondition {
             HeaderCondition::RoutingType(_) => mask::ROUTING,
             HeaderCondition::SegmentsLeft(_, _) => mask::ROUTING,
             HeaderCondition::Identification(_) => mask::FRAGMENT,
+            HeaderCondition::Option(_) => mask::OPTIONS,
         }
     }
 
@@ -53,6 +57,7 @@ impl HeaderCondition {
                 has_segments_left(header, comparison, number)
             }
             HeaderCondition::Identification(number) => has_identification(header, number),
+            HeaderCondition::Option(number) => has_option(header, number),
         }
     }
 }
@@ -85,6 +90,19 @@ fn has_identification(header: &Ipv6ExtensionSlice<'_>, number: u64) -> bool
 {
     match header {
         Ipv6ExtensionSlice::Fragment(header) => u64::from(header.identification()) == number,
+        _ => false,
+    }
+}
+
+/// Returns whether the header has options, of which one has this type.
+fn has_option(header: &Ipv6ExtensionSlice<'_>, number: u64) -> bool
+    ensures { result ≡ has_option number (header_of header.now) }
+{
+    match header {
+        Ipv6ExtensionSlice::HopByHop(header) => has_option_among(number, header.payload()),
+        Ipv6ExtensionSlice::DestinationOptions(header) => {
+            has_option_among(number, header.payload())
+        }
         _ => false,
     }
 }

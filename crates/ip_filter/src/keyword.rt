@@ -37,6 +37,8 @@ pub(crate) enum NumberKeyword {
     Identification,
     /// A type of routing.
     RoutingType,
+    /// A type of option.
+    Option,
     /// A type of ICMP.
     IcmpType,
     /// A code of ICMP.
@@ -171,6 +173,9 @@ fn number_keyword_of(word: &[u8]) -> Option<NumberKeyword>
     }
     if word == b"routing-type".as_slice() {
         return Some(NumberKeyword::RoutingType);
+    }
+    if word == b"option".as_slice() {
+        return Some(NumberKeyword::Option);
     }
     if word == b"icmp-type".as_slice() {
         return Some(NumberKeyword::IcmpType);

@@ -15,6 +15,7 @@ mod meets;
 mod network;
 mod networks;
 mod numbers;
+mod options;
 mod parse;
 mod parse_error;
 mod parse_term;

@@ -58,6 +58,8 @@ pub(crate) mod kind {
     pub const ROUTING_TYPE: u8 = 23;
 
     pub const SEGMENTS_LEFT: u8 = 24;
+
+    pub const OPTION: u8 = 25;
 }
 
 impl Test {
@@ -83,6 +85,7 @@ impl Test {
             kind::SECURITY_PARAMETERS => {
                 facts.has_header(HeaderCondition::SecurityParameters(self.number))
             }
+            kind::OPTION => facts.has_header(HeaderCondition::Option(self.number)),
             kind::ROUTING_TYPE => facts.has_header(HeaderCondition::RoutingType(self.number)),
             kind::SEGMENTS_LEFT => match comparison_of(self.comparison) {
                 Some(comparison) => {

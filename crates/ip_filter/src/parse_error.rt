@@ -34,7 +34,7 @@ pub enum Expected {
     /// A network.
     #[error("an address or a prefix")]
     Network,
-    /// A type or code of ICMP, or a type of routing.
+    /// A type or code of ICMP, a type of routing, or a type of option.
     #[error("a number from 0 to 255")]
     Byte,
     /// A network, or the ports of one side.

@@ -89,6 +89,10 @@ fn read_number_term(keyword: NumberKeyword, text: &[u8]) -> ReadTerm<'_>
             let (number, rest) = read_number(text, 255, Expected::Byte)?;
             Ok((Term::RoutingType(number as u8), rest))
         }
+        NumberKeyword::Option => {
+            let (number, rest) = read_number(text, 255, Expected::Byte)?;
+            Ok((Term::Option(number as u8), rest))
+        }
         NumberKeyword::IcmpType => {
             let (number, rest) = read_number(text, 255, Expected::Byte)?;
             Ok((Term::IcmpType(number as u8), rest))

@@ -105,6 +105,9 @@ pub enum Term {
     RoutingType(u8),
     /// The segments left field of a routing header compares so (RFC 8200, section 4.4).
     SegmentsLeft(Comparison, u64),
+    /// A header of hop-by-hop or destination options has an option of this type, and well-formed options before it
+    /// (RFC 8200, section 4.2).
+    Option(u8),
     /// A fragment header of an IPv6 packet has this identification, or an IPv4 packet, which is a fragment.
     Identification(u32),
     /// The source address lies in the network.

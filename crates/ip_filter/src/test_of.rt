@@ -42,6 +42,7 @@ impl Test {
             Term::SecurityParameters(spi) => {
                 Test::of_number(kind::SECURITY_PARAMETERS, u64::from(spi))
             }
+            Term::Option(number) => Test::of_number(kind::OPTION, u64::from(number)),
             Term::RoutingType(number) => Test::of_number(kind::ROUTING_TYPE, u64::from(number)),
             Term::SegmentsLeft(comparison, number) => Test::of_segments_left(comparison, number),
             Term::Identification(identification) => {

@@ -16,6 +16,8 @@ mod lengths_that_lie;
 #[cfg(test)]
 mod long_formulas;
 #[cfg(test)]
+mod options;
+#[cfg(test)]
 mod packets;
 #[cfg(test)]
 mod plain_outline;

@@ -193,6 +193,7 @@ impl Parser {
             "host" => Term::Either(self.take(host, Expected::Address)?),
             "port" => Term::Port(self.take(ports, Expected::Ports)?),
             "no-transport" => Term::NoTransport,
+            "option" => Term::Option(self.take(byte, Expected::Byte)?),
             "routing-type" => Term::RoutingType(self.take(byte, Expected::Byte)?),
             "segments-left" => Term::SegmentsLeft(self.comparison()?),
             "icmp-type" => Term::IcmpType(self.take(byte, Expected::Byte)?),

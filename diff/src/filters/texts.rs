@@ -168,13 +168,18 @@ fn term(packet: &[u8], random: &mut Random, words: &mut Vec<String>) {
             word(words, ports(packet, random));
         }
         18 if random.percent(30) => {
+            word(words, "option");
+            let at = 2 + random.below(6);
+            word(words, field_of_header(packet, random, at));
+        }
+        18 if random.percent(30) => {
             word(words, "routing-type");
-            word(words, routing_field(packet, random, 2));
+            word(words, field_of_header(packet, random, 2));
         }
         18 if random.percent(30) => {
             word(words, "segments-left");
             word(words, comparison(random));
-            word(words, routing_field(packet, random, 3));
+            word(words, field_of_header(packet, random, 3));
         }
         18 if random.percent(50) => {
             word(words, "tcp-flags");
@@ -257,8 +262,8 @@ fn byte(packet: &[u8], random: &mut Random) -> String {
     }
 }
 
-/// Makes a byte of the packet that may be this byte of a routing header, or any number of about 8 bits.
-fn routing_field(packet: &[u8], random: &mut Random, byte: usize) -> String {
+/// Makes a byte of the packet that may be this byte of an extension header, or any number of about 8 bits.
+fn field_of_header(packet: &[u8], random: &mut Random, byte: usize) -> String {
     let most = if random.percent(50) { 5 } else { 260 };
     match packet.get(40 + 8 * random.below(4) + byte) {
         Some(byte) if random.percent(70) => byte.to_string(),

@@ -3,6 +3,9 @@ use super::{Comparison, FaultKind, Formula, Network, Ports, Quantity, Term};
 use crate::dissections::{Dissected, End};
 use etherparse::err::{ip, ipv6_exts};
 
+/// Hop-by-hop options and destination options.
+const OPTIONS: [u8; 2] = [0, 60];
+
 const ROUTING: u8 = 43;
 
 const FRAGMENT: u8 = 44;
@@ -53,6 +56,10 @@ fn is_met(term: &Term, packet: &Dissected<'_>) -> bool {
             *number == AUTH
                 && u64::from(u32::from_be_bytes([bytes[4], bytes[5], bytes[6], bytes[7]])) == *index
         }),
+        Term::Option(number) => packet
+            .headers
+            .iter()
+            .any(|(it, bytes)| OPTIONS.contains(it) && has_option(&bytes[2..], *number)),
         Term::RoutingType(number) => packet
             .headers
             .iter()
@@ -76,6 +83,22 @@ fn is_met(term: &Term, packet: &Dissected<'_>) -> bool {
         Term::TcpFlags(flags) => upper_layer(packet, &[TCP])
             .and_then(|bytes| bytes.get(13))
             .is_some_and(|found| found & flags.mask == flags.set),
+    }
+}
+
+/// Returns whether an option has this type, none before it being malformed.
+fn has_option(options: &[u8], number: u64) -> bool {
+    let Some(option) = options.first() else {
+        return false;
+    };
+    let len = match (option, options.get(1)) {
+        (0, _) => 1,
+        (_, Some(len)) => 2 + usize::from(*len),
+        (_, None) => return false,
+    };
+    match options.get(len..) {
+        Some(after) => u64::from(*option) == number || has_option(after, number),
+        None => false,
     }
 }
 

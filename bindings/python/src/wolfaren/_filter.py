@@ -51,6 +51,8 @@ class Filter:
         spi N, id N
         routing-type N                       a routing header of the packet has this type
         segments-left OP N                   the segments left of a routing header of the packet
+        option N                             hop-by-hop or destination options have one of this type, and no malformed one
+                                             before it
         src NET, dst NET, net NET            NET is an IPv4 or IPv6 address, alone or with a slash and a number of bits
         host A                               A is an IPv4 or IPv6 address
         src port P, dst port P, port P       P is a port or a range such as 1024-65535

@@ -1,8 +1,9 @@
 // Looks at the program text around the strings and lists of bytes in a paste.
 "use strict";
 Wolfaren.code = (function () {
-    // Names, calls, declarations, operators and comments.
-    const SKIPPED = /^(?:\s+|\\\r?\n|\[\s*[a-z]\w*\s*;\s*\w+\s*\]|\/\*[^]*?\*\/|\/\/[^\n]*|#[^\n]*|>>>|\.{3}|->|-[a-z]+\b|[-+=(){}[\],;:.*&|!<>$]|[a-z_$][\w.$]*(?:[ \t]*\[\w*\])*)/i;
+    // White space and continued lines, a type of an array in Rust, comments, operators, options of commands, and names.
+    const SKIPPED = new RegExp([/\s+|\\\r?\n/, /\[\s*[a-z]\w*\s*;\s*\w+\s*\]/, /\/\*[^]*?\*\/|\/\/[^\n]*|#[^\n]*/, />>>|\.{3}|->|-[a-z]+\b|[-+=(){}[\],;:.*&|!<>$]/,
+        /[a-z_$][\w.$]*(?:[ \t]*\[\w*\])*/].map((it) => `^(?:${it.source})`).join("|"), "i");
 
     // Notes what isn't program text in a range. Digits there might be bytes that lost their quotes or brackets.
     function check(text, from, to, unread, why) {

@@ -31,9 +31,14 @@ Wolfaren.dump = (function () {
     }
     function kindOf(line) {
         const row = ROW.exec(line), end = row ? null : END.exec(line);
-        if (row) return { kind: "row", offset: row[2], isMarked: row[3] === ":" || /0x$/i.test(row[1]) || row[4].length > 1 || row[4] === "\t", hasColon: row[3] === ":", isIndented: /^\s*[0-9a-f]{8}: {2}/i.test(line), head: row[0].length };
+        if (row) return rowOf(line, row);
         if (end) return { kind: "end", offset: end[1] };
         return { kind: line.trim() === "" ? "blank" : line.trim() === "*" ? "star" : "other" };
+    }
+    // A marked row can't be a line of digits without an offset.
+    function rowOf(line, [head, before, offset, colon, spaces]) {
+        const hasColon = colon === ":", isMarked = hasColon || /0x$/i.test(before) || spaces.length > 1 || spaces === "\t";
+        return { kind: "row", offset, isMarked, hasColon, isIndented: /^\s*[0-9a-f]{8}: {2}/i.test(line), head: head.length };
     }
     // Whether two spaces may be in the middle of the 16 bytes of a row, and don't yet separate the column of text.
     function hasMiddle(row, rows) {
@@ -133,14 +138,17 @@ Wolfaren.dump = (function () {
     function readLines(lines, radix, style) {
         const dump = { packets: [], unread: [], radix, style, pending: [], headings: 0, isRepeated: false, hasText: false, base: 0, row: [] };
         for (const it of lines) TAKE[it.kind](dump, it);
-        if (dump.isRepeated) note(dump.unread, dump.star.start, dump.star.start + dump.star.line.length, "no offset after the repeated rows");
-        for (const it of dump.pending) note(dump.unread, it.start, it.start + it.line.length, "no offset");
+        if (dump.isRepeated) noteLine(dump, dump.star, "no offset after the repeated rows");
+        for (const it of dump.pending) noteLine(dump, it, "no offset");
         const leftOut = dump.headings > 0 ? [dump.headings === 1 ? "1 line of headings" : `${dump.headings} lines of headings`] : [];
         if (dump.hasText) leftOut.push("the column of text");
         return { packets: dump.packets, unread: dump.unread, format: style.format, leftOut };
     }
     const TAKE = { row: takeRow, end: takeEnd, star: takeStar, blank: () => {}, other: (dump, it) => dump.pending.push(it) };
 
+    function noteLine(dump, it, why) {
+        note(dump.unread, it.start, it.start + it.line.length, why);
+    }
     function current(dump) {
         return dump.packets[dump.packets.length - 1];
     }
@@ -151,7 +159,8 @@ Wolfaren.dump = (function () {
         const offset = valueOf(it.offset, dump.radix), isFirst = dump.packets.length === 0 || offset === 0;
         if (isFirst) begin(dump, offset);
         else repeat(dump, offset, it);
-        if (offset !== endOf(dump)) return note(dump.unread, it.start, it.start + it.line.length, `offset ${it.offset}, where ${endOf(dump).toString(dump.radix).padStart(it.offset.length, "0")} was expected`);
+        const expected = endOf(dump).toString(dump.radix).padStart(it.offset.length, "0");
+        if (offset !== endOf(dump)) return noteLine(dump, it, `offset ${it.offset}, where ${expected} was expected`);
         settle(dump, isFirst);
         dump.row = bytesOf(it, dump.style);
         current(dump).push(...dump.row);
@@ -165,7 +174,7 @@ Wolfaren.dump = (function () {
     function settle(dump, isFirst) {
         for (const it of dump.pending) {
             if (isFirst && !/^[0-9a-f\s]*$/i.test(it.line)) dump.headings += 1;
-            else note(dump.unread, it.start, it.start + it.line.length, "no offset");
+            else noteLine(dump, it, "no offset");
         }
         dump.pending = [];
     }
@@ -177,14 +186,15 @@ Wolfaren.dump = (function () {
     }
     function takeStar(dump, it) {
         if (dump.row.length > 0) Object.assign(dump, { isRepeated: true, star: it });
-        else note(dump.unread, it.start, it.start + it.line.length, "no row to repeat");
+        else noteLine(dump, it, "no row to repeat");
     }
     // After a line with an asterisk, the row before it is repeated up to the next offset.
     function repeat(dump, offset, it) {
         const missing = offset - endOf(dump);
         if (!dump.isRepeated) return;
         dump.isRepeated = false;
-        if (missing % dump.row.length !== 0 || missing < 0 || offset > MOST_BYTES) return note(dump.unread, dump.star.start, dump.star.start + dump.star.line.length, `no whole rows up to offset ${it.offset}`);
+        const isWhole = missing >= 0 && missing % dump.row.length === 0 && offset <= MOST_BYTES;
+        if (!isWhole) return noteLine(dump, dump.star, `no whole rows up to offset ${it.offset}`);
         for (let left = missing; left > 0; left -= dump.row.length) current(dump).push(...dump.row);
     }
     // The last line of hexdump and od is the length. Of a last word with one byte, the other is 0.
@@ -194,7 +204,7 @@ Wolfaren.dump = (function () {
         repeat(dump, offset, it);
         const isOdd = dump.style.isSwapped && offset === endOf(dump) - 1 && current(dump)[offset - dump.base] === 0;
         if (isOdd) current(dump).pop();
-        else if (offset !== endOf(dump)) note(dump.unread, it.start, it.start + it.line.length, `the bytes end at offset ${endOf(dump).toString(dump.radix)}`);
+        else if (offset !== endOf(dump)) noteLine(dump, it, `the bytes end at offset ${endOf(dump).toString(dump.radix)}`);
     }
     return { read };
 })();

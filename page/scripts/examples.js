@@ -26,8 +26,9 @@ Wolfaren.examples = (function () {
         Wolfaren.digits.pushHex(bytes, rest[rest.length - 1]);
         const model = Wolfaren.parse.parse(kind, 0, Uint8Array.from(bytes)), end = Math.max(...model.parts.map((it) => it.offset + it.len));
         const svg = Wolfaren.picture.make("svg", { viewBox: `0 0 ${end} 10`, preserveAspectRatio: "none", "aria-hidden": "true", class: "strip" });
-        for (const it of model.parts) svg.append(Wolfaren.picture.make("rect", { x: it.offset, y: 1, width: it.len, height: 8, class: `run ${it.style}` }));
-        if (model.fault) svg.append(Wolfaren.picture.make("rect", { x: Math.min(model.fault.offset, end - 2), y: 1, width: 2, height: 8, class: Wolfaren.table.endWord(model.fault) }));
+        const bar = (x, width, style) => svg.append(Wolfaren.picture.make("rect", { x, y: 1, width, height: 8, class: style }));
+        for (const it of model.parts) bar(it.offset, it.len, `run ${it.style}`);
+        if (model.fault) bar(Math.min(model.fault.offset, end - 2), 2, Wolfaren.table.endWord(model.fault));
         return svg;
     }
     return { ALL, show };

@@ -17,7 +17,8 @@ Wolfaren.faults = (function () {
     // Returns a sentence. `offset` counts from the start of the bytes on the page.
     function textOf(fault, offset) {
         const layer = Wolfaren.names.layerWords[layerOf(fault)], source = Wolfaren.names.lengthSources[fault.lenSource];
-        if (fault.kind === TOO_SHORT) return `not enough bytes for ${layer} at offset ${offset}: ${fault.requiredLen} needed, ${fault.len} there${source ? ` by ${source}` : ""}`;
+        const lengths = `${fault.requiredLen} needed, ${fault.len} there${source ? ` by ${source}` : ""}`;
+        if (fault.kind === TOO_SHORT) return `not enough bytes for ${layer} at offset ${offset}: ${lengths}`;
         if (fault.kind === HOP_BY_HOP_NOT_AT_START) return `${layer} at offset ${offset} doesn't follow the IPv6 header directly`;
         if (fault.kind === ZERO_PAYLOAD_LEN) return `the length field of ${layer} at offset ${offset} is 0`;
         if (fault.kind === UNSUPPORTED_IP_VERSION) return `the IP version is ${fault.value}, where 4 or 6 is required`;

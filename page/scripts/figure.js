@@ -21,7 +21,8 @@ Wolfaren.figure = (function () {
         const bitWide = Math.min(MOST_BIT, Math.max(LEAST_BIT, (width - 2) / 32)), scale = bitWide >= LARGE_FROM ? LARGE : 1;
         const boxes = boxesOf(fields, bitWide, scale), tops = topsOf(boxes, TEXT_HIGH * scale), wide = 32 * bitWide + 2, high = tops[tops.length - 1] + 2;
         const said = fields.map((it) => `${it[0]} ${it[2]}`).join(", ");
-        const svg = make("svg", { viewBox: `0 0 ${wide} ${high}`, width: wide, height: high, class: `${part.style}${scale > 1 ? " large" : ""}`, role: "img", "aria-label": said });
+        const style = scale > 1 ? `${part.style} large` : part.style;
+        const svg = make("svg", { viewBox: `0 0 ${wide} ${high}`, width: wide, height: high, class: style, role: "img", "aria-label": said });
         for (let i = 0; i < 32; i++) svg.append(make("text", { x: 1 + (i + 0.5) * bitWide, y: 10, class: "bit" }, i % 10));
         for (const it of boxes) svg.append(drawBox(it, tops[it.row], tops[it.row + 1] - tops[it.row], TEXT_HIGH * scale));
         return svg;

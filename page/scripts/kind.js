@@ -1,8 +1,8 @@
 // Finds out what kind of bytes a packet is: a capture, an IP packet, or a frame of a link layer.
 "use strict";
 Wolfaren.kind = (function () {
-    const NAMES = { packet: "an IP packet", ethernet: "an Ethernet frame", cooked: "a Linux cooked frame", cooked2: "a Linux cooked frame, version 2", loopback: "a loopback frame",
-        ppp: "a PPP frame", chain6: "an IPv6 chain of headers", chain4: "an IPv4 chain of headers", capture: "a capture" };
+    const NAMES = { packet: "an IP packet", ethernet: "an Ethernet frame", cooked: "a Linux cooked frame", cooked2: "a Linux cooked frame, version 2",
+        loopback: "a loopback frame", ppp: "a PPP frame", chain6: "an IPv6 chain of headers", chain4: "an IPv4 chain of headers", capture: "a capture" };
     const MAGICS = ["a1b2c3d4", "d4c3b2a1", "a1b23c4d", "4d3cb2a1", "0a0d0d0a"];
     // EtherTypes of frames without an IP packet: ARP, MPLS, PPPoE, LLDP and others.
     const OTHER_TYPES = [0x0806, 0x8035, 0x8847, 0x8848, 0x8863, 0x8864, 0x88cc, 0x888e, 0x88f7];

@@ -1,7 +1,8 @@
 // Measures texts, and breaks them into lines. The fonts are those of style.css.
 "use strict";
 Wolfaren.letters = (function () {
-    const FONTS = { name: '600 11.5px system-ui, "DejaVu Sans", sans-serif', field: '11px system-ui, "DejaVu Sans", sans-serif', value: '11px "DejaVu Sans Mono", ui-monospace, monospace' };
+    const SANS = 'system-ui, "DejaVu Sans", sans-serif', MONO = '"DejaVu Sans Mono", ui-monospace, monospace';
+    const FONTS = { name: `600 11.5px ${SANS}`, field: `11px ${SANS}`, value: `11px ${MONO}` };
     const context = document.createElement("canvas").getContext("2d");
 
     // Returns the width of a text in pixels.

@@ -3,7 +3,8 @@
 "use strict";
 Wolfaren.link = (function () {
     // Link types of captures, with the kind of their frames.
-    const KINDS = { 0: "loopback", 1: "ethernet", 9: "ppp", 12: "packet", 14: "packet", 101: "packet", 108: "loopback", 113: "cooked", 228: "packet", 229: "packet", 276: "cooked2" };
+    const KINDS = { 0: "loopback", 1: "ethernet", 9: "ppp", 12: "packet", 14: "packet", 101: "packet", 108: "loopback", 113: "cooked",
+        228: "packet", 229: "packet", 276: "cooked2" };
     const NAMES = { ethernet: "Ethernet", cooked: "Linux cooked", cooked2: "Linux cooked", loopback: "loopback", ppp: "PPP" };
     const ETHERTYPES = { 0x0800: "ip", 0x86dd: "ip", 0x8100: "vlan", 0x88a8: "vlan", 0x9100: "vlan", 0x8847: "mpls", 0x8848: "mpls", 0x8864: "pppoe", 0x0004: "llc" };
     const PPP_PROTOCOLS = { 0x21: "ip", 0x57: "ip", 0x281: "mpls", 0x283: "mpls" };
@@ -12,12 +13,19 @@ Wolfaren.link = (function () {
     const MOST_LENGTH = 1500;
     // For each header, its length in bytes and a function of its bytes that returns what follows.
     const LAYERS = {
-        ethernet: { len: 14, next: (b) => byTypeOrLength(half(b, 12)) }, vlan: { len: 4, next: (b) => byTypeOrLength(half(b, 2)) },
-        cooked: { len: 16, next: (b) => byType(half(b, 14)) }, cooked2: { len: 20, next: (b) => byType(half(b, 0)) },
-        loopback: { len: 4, next: byFamily }, llc: { len: 3, next: byServiceAccessPoint }, snap: { len: 5, next: (b) => (b[0] + b[1] + b[2] === 0 ? byType(half(b, 3)) : OTHER) },
-        mpls: { len: 4, next: (b) => ({ layer: b[2] & 1 ? "version" : "mpls" }) }, version: { len: 0, next: (b) => ({ layer: [4, 6].includes(b[0] >> 4) ? "ip" : "other" }) },
-        pppoe: { len: 6, next: (b) => (half(b, 0) === 0x1100 ? { layer: "ppp" } : OTHER) }, ppp: { len: 0, next: (b) => ({ layer: half(b, 0) === 0xff03 ? "address" : "protocol" }) },
-        address: { len: 2, next: () => ({ layer: "protocol" }) }, protocol: { len: 1, next: (b) => (b[0] & 1 ? byProtocol(b[0]) : { layer: "wide" }) },
+        ethernet: { len: 14, next: (b) => byTypeOrLength(half(b, 12)) },
+        vlan: { len: 4, next: (b) => byTypeOrLength(half(b, 2)) },
+        cooked: { len: 16, next: (b) => byType(half(b, 14)) },
+        cooked2: { len: 20, next: (b) => byType(half(b, 0)) },
+        loopback: { len: 4, next: byFamily },
+        llc: { len: 3, next: byServiceAccessPoint },
+        snap: { len: 5, next: (b) => (b[0] + b[1] + b[2] === 0 ? byType(half(b, 3)) : OTHER) },
+        mpls: { len: 4, next: (b) => ({ layer: b[2] & 1 ? "version" : "mpls" }) },
+        version: { len: 0, next: (b) => ({ layer: [4, 6].includes(b[0] >> 4) ? "ip" : "other" }) },
+        pppoe: { len: 6, next: (b) => (half(b, 0) === 0x1100 ? { layer: "ppp" } : OTHER) },
+        ppp: { len: 0, next: (b) => ({ layer: half(b, 0) === 0xff03 ? "address" : "protocol" }) },
+        address: { len: 2, next: () => ({ layer: "protocol" }) },
+        protocol: { len: 1, next: (b) => (b[0] & 1 ? byProtocol(b[0]) : { layer: "wide" }) },
         wide: { len: 1, isWithFormer: true, next: (b) => byProtocol(half(b, 0)) },
     };
     const OTHER = { layer: "other" };

@@ -36,7 +36,8 @@ Wolfaren.lists = (function () {
         }
         Wolfaren.code.check(blank, at, text.length, unread, "outside the list");
         const hasCode = Wolfaren.code.hasWords(groups.reduce((left, it) => left.slice(0, it.start) + " ".repeat(it.end - it.start) + left.slice(it.end), text));
-        return { packets: packets.filter((it) => it.length > 0), unread, format: `an array${notationText(groups)}`, leftOut: hasCode ? ["the program text around it"] : [] };
+        const leftOut = hasCode ? ["the program text around it"] : [];
+        return { packets: packets.filter((it) => it.length > 0), unread, format: `an array${notationText(groups)}`, leftOut };
     }
     function notationText(groups) {
         return groups.every((it) => notationOf(it.tokens.map((token) => token.text), true) === "decimal") ? " of decimal numbers" : "";

@@ -31,8 +31,13 @@ Wolfaren.packets = (function () {
         if (packet.time) said.push(packet.time);
         if (model.packet && model.packet.version) said.push(addressesOf(model));
         said.push(`${captured < wire ? `${captured} of ` : ""}${wire} bytes`);
-        const chain = model.packet ? chainOf(model) : model.note, link = model.parts.find((it) => it.style === "link");
-        return `packet ${index + 1}: ${said.join(", ")}${chain === "" ? "" : model.packet ? `${packet.time ? `, IP at ${link ? link.len : 0}` : ""}: ${chain}` : `, ${chain}`}`;
+        if (!model.packet && model.note) said.push(model.note);
+        if (model.packet && packet.time) said.push(`IP at ${linkLen(model)}`);
+        return `packet ${index + 1}: ${said.join(", ")}${model.packet ? `: ${chainOf(model)}` : ""}`;
+    }
+    function linkLen(model) {
+        const link = model.parts.find((it) => it.style === "link");
+        return link ? link.len : 0;
     }
     function addressesOf(model) {
         const base = model.parts.find((it) => it.version);

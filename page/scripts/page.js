@@ -3,7 +3,8 @@
 Wolfaren.page = (function () {
     const LINK = /^#(packet|ethernet|cooked|cooked2|loopback|ppp|chain6|chain4)(?::(\d{1,3}))?(:places)?:([0-9a-f]*)$/i;
     const EXAMPLE = "6000000000202b40 20010db8000000000000000000000001 20010db8000000000000000000000002\n3c00000000000000 2c00010400000000 1100000100000007 0035303900080000";
-    const STYLES = ["fill", "stroke", "stroke-width", "stroke-dasharray", "font-family", "font-size", "font-weight", "text-anchor", "dominant-baseline", "text-decoration"];
+    const STYLES = ["fill", "stroke", "stroke-width", "stroke-dasharray", "font-family", "font-size", "font-weight", "text-anchor", "dominant-baseline",
+        "text-decoration"];
     const EMPTY = { bytes: new Uint8Array(0) };
     const at = (id) => document.getElementById(id);
     // The packets of the list, the one that is drawn, and what was read from the text.
@@ -45,8 +46,7 @@ Wolfaren.page = (function () {
         Wolfaren.table.show(at("table"), model, at("places").checked);
     }
     function showKind() {
-        const { kind, why } = kindOf(packet), isFound = at("kind").value === "auto" && packet.bytes.length > 0;
-        at("found").textContent = !isFound ? "" : why === "" ? "Nothing was recognized: taken as an IP packet." : kind === null ? `${why}.` : `This is ${Wolfaren.kind.NAMES[kind]}, ${why}.`;
+        at("found").textContent = at("kind").value === "auto" && packet.bytes.length > 0 ? foundText(kindOf(packet)) : "";
         at("hint").hidden = !model.hint;
         if (!model.hint) return;
         at("hint").querySelector("span").textContent = `These bytes look like ${Wolfaren.kind.NAMES[model.hint]}.`;
@@ -54,6 +54,10 @@ Wolfaren.page = (function () {
     }
     function widthOfPage() {
         return Math.floor(at("main").getBoundingClientRect().width);
+    }
+    function foundText({ kind, why }) {
+        if (kind === null) return `The ${why}.`;
+        return why === "" ? "Nothing was recognized: taken as an IP packet." : `This is ${Wolfaren.kind.NAMES[kind]}, ${why}.`;
     }
     // Draws the packet for the width of the window.
     function drawAgain() {
@@ -112,7 +116,8 @@ Wolfaren.page = (function () {
         const fields = part ? Wolfaren.fields.of(part, model.bytes) : [];
         at("fields").replaceChildren();
         if (fields.length === 0) return;
-        at("fields").append(Object.assign(document.createElement("h2"), { textContent: `${part.name}, ${Wolfaren.names.bytes(part.len)} at ${part.offset}` }), Wolfaren.figure.draw(part, fields, width));
+        const head = Object.assign(document.createElement("h2"), { textContent: `${part.name}, ${Wolfaren.names.bytes(part.len)} at ${part.offset}` });
+        at("fields").append(head, Wolfaren.figure.draw(part, fields, width));
     }
     function partOf(event) {
         const group = event.target.closest ? event.target.closest("[data-part]") : null;

@@ -69,7 +69,8 @@ Wolfaren.picture = (function () {
             if (row === undefined) continue;
             const text = labelOf(sheet, part), begin = xOf(sheet, part.offset) + (sheet.targets.has(part.offset) ? CELL / 2 : 2);
             const wide = Wolfaren.letters.widthOf(text, "name"), x = Math.max(sheet.left, Math.min(begin, sheet.wide - wide)), end = x + wide;
-            const taken = sheet.rows[row].labels || [], level = taken.filter((it) => it.x < end + 4 && x < it.end + 4).reduce((most, it) => Math.max(most, it.level + 1), 0);
+            const taken = sheet.rows[row].labels || [], levels = taken.filter((it) => it.x < end + 4 && x < it.end + 4).map((it) => it.level + 1);
+            const level = Math.max(0, ...levels);
             sheet.rows[row].labels = [...taken, { x, end, level }];
             sheet.labels.set(part, { text, x, level });
         }
@@ -95,12 +96,14 @@ Wolfaren.picture = (function () {
     function drawOffsets(sheet) {
         for (const it of sheet.rows) {
             const y = it.y + HIGH / 2, from = it.line * sheet.line, to = (it.line + it.skipped) * sheet.line;
+            const skipped = `${Wolfaren.names.bytes(to - from)} left out, from 0x${from.toString(16)}`;
             if (it.skipped === 0) sheet.svg.append(make("text", { x: sheet.left - 10, y, class: "offset" }, from.toString(16).padStart(4, "0")));
-            else sheet.svg.append(make("text", { x: sheet.left + sheet.line * CELL / 2, y, class: "skipped" }, `${Wolfaren.names.bytes(to - from)} left out, from 0x${from.toString(16)}`));
+            else sheet.svg.append(make("text", { x: sheet.left + sheet.line * CELL / 2, y, class: "skipped" }, skipped));
         }
     }
     function drawPart(sheet, part, index) {
-        const group = make("g", { class: `part ${part.style}`, tabindex: -1, "data-part": index, role: "img", "aria-label": `${part.name}, ${Wolfaren.names.bytes(part.len)} at ${part.offset}` });
+        const said = `${part.name}, ${Wolfaren.names.bytes(part.len)} at ${part.offset}`;
+        const group = make("g", { class: `part ${part.style}`, tabindex: -1, "data-part": index, role: "img", "aria-label": said });
         const stop = part.offset + part.len;
         for (let line = Math.floor(part.offset / sheet.line); line * sheet.line < stop; line++) {
             if (sheet.rowOfLine.has(line)) drawRun(sheet, group, Math.max(part.offset, line * sheet.line), Math.min(stop, (line + 1) * sheet.line), part);
@@ -153,7 +156,8 @@ Wolfaren.picture = (function () {
     function drawFault(sheet) {
         const fault = sheet.model.fault, at = spot(sheet, fault.offset);
         if (!at) return;
-        const group = make("g", { class: fault.isTruncated ? "truncated" : "fault", role: "img", "aria-label": `${fault.isTruncated ? "Truncated" : "Error"} at ${fault.offset}: ${fault.text}` });
+        const said = `${fault.isTruncated ? "Truncated" : "Error"} at ${fault.offset}: ${fault.text}`;
+        const group = make("g", { class: fault.isTruncated ? "truncated" : "fault", role: "img", "aria-label": said });
         group.append(make("rect", { x: at.x + 1, y: at.y + 1, width: CELL - 2, height: HIGH - 2, class: "mark" }));
         if (!fault.isTruncated && fault.offset >= sheet.model.bytes.length) group.append(make("text", { x: at.x + CELL / 2, y: at.y + HIGH / 2, class: "byte" }, "×"));
         sheet.why.forEach((it, i) => group.append(make("text", { x: sheet.left, y: at.y + HIGH + 22 + i * TEXT_HIGH, class: "why" }, it)));

@@ -20,8 +20,8 @@ Wolfaren.strings = (function () {
     }
     // Returns how the content of the strings is read, with the name of the format; null if they aren't bytes.
     function decoderOf(text, literals) {
-        const all = (test) => literals.every((it) => test(it.content));
-        if (all((it) => /^[\s0-9a-f:,-]*$|^0x[0-9a-f]{1,2}$/i.test(it)) && !literals.some(isShortBytes)) return { format: "hexadecimal digits in quotes", push: pushHexadecimal };
+        const all = (test) => literals.every((it) => test(it.content)), isHexadecimal = all((it) => /^[\s0-9a-f:,-]*$|^0x[0-9a-f]{1,2}$/i.test(it));
+        if (isHexadecimal && !literals.some(isShortBytes)) return { format: "hexadecimal digits in quotes", push: pushHexadecimal };
         if (all(Wolfaren.base64.isBase64)) return { format: "base64 in quotes", push: pushBase64 };
         const isEscaped = literals.some((it) => it.isBytes) || /\\/.test(text);
         return isEscaped ? { format: "an escaped string", push: pushEscaped } : null;

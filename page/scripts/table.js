@@ -31,7 +31,8 @@ Wolfaren.table = (function () {
         return said.join("; ");
     }
     function fragmentText(packet, digits) {
-        return `${Wolfaren.names.fragments[packet.fragment]} fragment, identification 0x${packet.identification.toString(16).padStart(digits, "0")}, offset ${packet.fragmentOffset}`;
+        const identification = `0x${packet.identification.toString(16).padStart(digits, "0")}`;
+        return `${Wolfaren.names.fragments[packet.fragment]} fragment, identification ${identification}, offset ${packet.fragmentOffset}`;
     }
     function addRow(body, cells, style) {
         const row = body.insertRow();
@@ -52,11 +53,12 @@ Wolfaren.table = (function () {
     function restText(model) {
         if (model.next === undefined || model.fault) return "";
         const name = Wolfaren.names.ofNumber(model.next), missing = model.packet ? model.packet.missing : 0;
-        return `; then ${model.isFragment ? `part of a payload${name ? ` of ${name}` : ""}` : name || "a payload"} (${model.next}) with ${Wolfaren.names.bytes(model.restLen)}${missing > 0 ? `, ${missing} missing` : ""}`;
+        const what = !model.isFragment ? name || "a payload" : name ? `part of a payload of ${name}` : "part of a payload";
+        return `; then ${what} (${model.next}) with ${Wolfaren.names.bytes(model.restLen)}${missing > 0 ? `, ${missing} missing` : ""}`;
     }
     function endText(model) {
         if (!model.fault) return "";
-        return model.fault.isTruncated ? `; then a truncated header at byte ${model.fault.offset}: ${model.fault.name}` : `; then a fault at byte ${model.fault.offset}: ${model.fault.name}`;
+        return `; then a ${model.fault.isTruncated ? "truncated header" : "fault"} at byte ${model.fault.offset}: ${model.fault.name}`;
     }
     return { show, sentence, endWord };
 })();

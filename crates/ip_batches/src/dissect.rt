@@ -1,10 +1,13 @@
 //! Dissects the packets of a batch.
 ghost use Rattle.std.specs.Prelude.{◌≡◌};
+ghost use Rattle.ip_dissect.specs.Dissection.{dissected};
 ghost use Rattle.ip_spans.specs.HeaderSpan.{filled};
+ghost use Rattle.ip_spans.specs.DissectionParts.{dissection_parts};
 ghost use Rattle.ip_batches.specs.Batch.{packets_at, parts_of};
 
 use crate::Batch;
-use ip_spans::{DissectionParts, dissect_packet};
+use ip_dissect::{Packet, PacketStart, PacketVisitor};
+use ip_spans::DissectionParts;
 
 impl Batch<'_> {
     /// Dissects each packet, in order, and stores its parts at the front of `parts`, as many as fit; the other elements
@@ -17,7 +20,44 @@ impl Batch<'_> {
     {
         let count = self.spans.len().min(parts.len());
         'packets: for index in 0..count {
-            dissect_packet(self.packet(index), &mut [], &mut parts[index]);
+            put_parts(self.packet(index), &mut parts[index]);
         }
+    }
+}
+
+/// Stores the parts of the packet at the start of `bytes`.
+#[inline(always)]
+fn put_parts(bytes: &[u8], parts: &mut DissectionParts)
+    ensures { parts.new ≡ dissection_parts (dissected bytes.now) }
+{
+    let _ = Packet::visit(bytes, &mut Dissecting { parts });
+}
+
+/// A visitor that stores the parts of packets, and no positions of extension headers.
+#[derive(Debug, Drop)]
+struct Dissecting<'p> {
+    parts: &'p mut DissectionParts,
+}
+
+impl<'a> PacketVisitor<'a> for Dissecting<'_> {
+    type Plain = ();
+
+    type Slow = ();
+
+    ghost plain = { λ old s new _. (new.parts.ghost_name ≡ old.parts.ghost_name)
+        × (new.parts.now ≡ dissection_parts (dissected s)) };
+
+    ghost slow = { λ old s new _. (new.parts.ghost_name ≡ old.parts.ghost_name)
+        × (new.parts.now ≡ dissection_parts (dissected s)) };
+
+    #[inline(always)]
+    fn visit_plain(&mut self, packet: Packet<'a>) {
+        self.parts.put(&packet);
+    }
+
+    #[inline(always)]
+    fn visit_slow(&mut self, start: PacketStart<'a>) {
+        let packet = start.walk(&mut ());
+        self.parts.put(&packet);
     }
 }

@@ -104,7 +104,7 @@ impl WalkVisitor for PartsAndSpans<'_, '_> {
 impl DissectionParts {
     /// Stores the parts of a packet here, one by one.
     #[inline(always)]
-    fn put(&mut self, packet: &Packet<'_>)
+    pub fn put(&mut self, packet: &Packet<'_>)
         ensures { self.new ≡ dissection_parts (dissected packet.now.bytes.now) }
     {
         let outline = &packet.outline;

@@ -21,11 +21,15 @@
         return Array.from(at("packet-list").children, (it) => [it.textContent, it.className]);
     }
     function answer() {
-        const why = at("picture").querySelector(".why");
-        return { rows: rows(), hex: link().pop(), kind: link()[0].slice(1), unread: shown("unread"), told: shown("told"), summary: at("summary").textContent, reading: at("reading").textContent,
-            found: at("found").textContent, hint: shown("hint"), marks: Array.from(at("marks").querySelectorAll("mark"), (it) => it.textContent), marked: at("marks").textContent,
-            parts: texts("[data-part]").length, arrows: texts(".arrow").length, names: texts(".name"), styles: Array.from(at("picture").querySelectorAll("[data-part]"), (it) => it.getAttribute("class").slice("part ".length)), why: texts(".why").join(" "), colour: why ? getComputedStyle(why).fill : "",
-            list: at("packets").hidden ? [] : list(), isEmpty: at("something").hidden, said: at("main").textContent, text: at("text").value };
+        const why = at("picture").querySelector(".why"), marks = Array.from(at("marks").querySelectorAll("mark"), (it) => it.textContent);
+        return { rows: rows(), hex: link().pop(), kind: link()[0].slice(1), text: at("text").value, unread: shown("unread"), told: shown("told"), marks,
+            reading: at("reading").textContent, found: at("found").textContent, hint: shown("hint"), list: at("packets").hidden ? [] : list(),
+            marked: at("marks").textContent, isEmpty: at("something").hidden,
+            summary: at("summary").textContent, names: texts(".name"), styles: styles(), parts: texts("[data-part]").length, arrows: texts(".arrow").length,
+            why: texts(".why").join(" "), colour: why ? getComputedStyle(why).fill : "", said: at("main").textContent };
+    }
+    function styles() {
+        return Array.from(at("picture").querySelectorAll("[data-part]"), (it) => it.getAttribute("class").slice("part ".length));
     }
     // Waits until a condition holds. Counts turns, since with --virtual-time-budget the clock runs ahead of file reads.
     async function until(isThere) {
@@ -75,7 +79,17 @@
         at("told").hidden = true;
         dispatchEvent(new DragEvent("drop", { dataTransfer: transfer, cancelable: true }));
         await until(() => at("packet-list").children.length > 0 || !at("told").hidden);
-        return each();
+        return it.keys ? chosenBy(it.keys) : each();
+    }
+    // Returns the index of the packet that is chosen after each key, and how many elements of the list the Tab key stops at.
+    function chosenBy(names) {
+        const items = () => Array.from(at("packet-list").children);
+        at("packet-list").focus();
+        const chosen = names.map((name) => {
+            press(name);
+            return items().findIndex((it) => it.hasAttribute("aria-selected"));
+        });
+        return { chosen, listStops: [at("packet-list"), ...items()].filter((it) => it.tabIndex >= 0).length };
     }
     // Checks that a saved picture is self-contained: XML whose shapes have colours of their own.
     function save() {
@@ -105,19 +119,24 @@
     }
     // Returns what is cut or too small: texts that leave the window or their picture, and letters below 11 pixels.
     function size() {
-        const wrong = [], wide = document.documentElement.clientWidth;
-        for (const it of document.querySelectorAll("main *")) {
-            const box = it.getBoundingClientRect();
-            if (box.width > 0 && it.id !== "text" && (box.right > wide + 0.5 || box.left < 0)) wrong.push(`${it.nodeName} ${it.className.baseVal || it.className} ${it.textContent.slice(0, 40)} at ${box.left} to ${box.right}`);
-        }
-        for (const it of document.querySelectorAll("#picture text, #fields text")) {
-            const drawn = it.ownerSVGElement, scale = drawn.getBoundingClientRect().width / drawn.viewBox.baseVal.width;
-            if (parseFloat(getComputedStyle(it).fontSize) * scale < 11) wrong.push(`${it.textContent} has ${parseFloat(getComputedStyle(it).fontSize) * scale} pixels`);
-            const box = it.getBoundingClientRect(), inner = /field|value/.test(it.getAttribute("class")) ? it.parentNode.querySelector(".box") : drawn, room = inner.getBoundingClientRect();
-            if (box.left < room.left - 0.5 || box.right > room.right + 0.5) wrong.push(`${it.textContent} is wider than its box`);
-        }
-        const rows = new Set(Array.from(at("picture").querySelectorAll(".offset"), (it) => it.textContent));
-        return { wide, wrong, rows: Array.from(rows), scrolls: document.documentElement.scrollWidth > wide, said: Array.from(document.querySelectorAll("#picture text, #fields text"), (it) => it.textContent).join(" ") };
+        const wide = document.documentElement.clientWidth, letters = Array.from(document.querySelectorAll("#picture text, #fields text"));
+        const all = Array.from(document.querySelectorAll("main *"), (it) => outside(it, wide));
+        const wrong = [...all, ...letters.map(smallness), ...letters.map(tightness)].filter((it) => it !== "");
+        const rows = Array.from(at("picture").querySelectorAll(".offset"), (it) => it.textContent);
+        return { wide, wrong, rows, scrolls: document.documentElement.scrollWidth > wide, said: letters.map((it) => it.textContent).join(" ") };
+    }
+    function outside(it, wide) {
+        const box = it.getBoundingClientRect(), isWrong = box.width > 0 && it.id !== "text" && (box.right > wide + 0.5 || box.left < 0);
+        return isWrong ? `${it.nodeName} ${it.textContent.slice(0, 40)} from ${box.left} to ${box.right}` : "";
+    }
+    function smallness(it) {
+        const drawn = it.ownerSVGElement, pixels = parseFloat(getComputedStyle(it).fontSize) * drawn.getBoundingClientRect().width / drawn.viewBox.baseVal.width;
+        return pixels < 11 ? `${it.textContent} has ${pixels} pixels` : "";
+    }
+    function tightness(it) {
+        const inner = /field|value/.test(it.getAttribute("class")) ? it.parentNode.querySelector(".box") : it.ownerSVGElement;
+        const box = it.getBoundingClientRect(), room = inner.getBoundingClientRect();
+        return box.left < room.left - 0.5 || box.right > room.right + 0.5 ? `${it.textContent} is wider than its box` : "";
     }
     async function violate() {
         const image = new Image();

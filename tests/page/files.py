@@ -12,11 +12,12 @@ ARP = "0001080006040001" + "00" * 20
 COOKED = "0000000100060001020304050000"
 # Frames of each supported kind around an IPv6 packet, with the link type and the page's kind.
 FRAMES = [
-    (1, "ethernet", f"{ETHERNET}86dd{PACKET}"), (1, "ethernet", f"{ETHERNET}{VLAN}88a80064910000650800{OTHER}"), (1, "ethernet", f"{ETHERNET}0044aaaa0300000086dd{PACKET}"),
-    (1, "ethernet", f"{ETHERNET}88470001404000018140{OTHER}"), (1, "ethernet", f"{ETHERNET}88641100000100420057{PACKET}"),
-    (113, "cooked", f"{COOKED}86dd{PACKET}"), (113, "cooked", f"{COOKED}{VLAN}86dd{PACKET}"), (276, "cooked2", f"86dd000000000002000100060001020304050000{PACKET}"),
-    (0, "loopback", f"0a000000{PACKET}"), (108, "loopback", f"0000001e{PACKET}"), (9, "ppp", f"ff030057{PACKET}"), (9, "ppp", f"21{OTHER}"),
-    (101, "packet", PACKET), (12, "packet", OTHER), (229, "packet", PACKET),
+    (1, "ethernet", f"{ETHERNET}86dd{PACKET}"), (1, "ethernet", f"{ETHERNET}{VLAN}88a80064910000650800{OTHER}"),
+    (1, "ethernet", f"{ETHERNET}0044aaaa0300000086dd{PACKET}"), (1, "ethernet", f"{ETHERNET}88470001404000018140{OTHER}"),
+    (1, "ethernet", f"{ETHERNET}88641100000100420057{PACKET}"), (113, "cooked", f"{COOKED}86dd{PACKET}"),
+    (113, "cooked", f"{COOKED}{VLAN}86dd{PACKET}"), (276, "cooked2", f"86dd000000000002000100060001020304050000{PACKET}"),
+    (0, "loopback", f"0a000000{PACKET}"), (108, "loopback", f"0000001e{PACKET}"), (9, "ppp", f"ff030057{PACKET}"),
+    (9, "ppp", f"21{OTHER}"), (101, "packet", PACKET), (12, "packet", OTHER), (229, "packet", PACKET),
 ]
 # Frames without an IP packet: the link type, the frame, and what the page says.
 OTHERS = [
@@ -97,9 +98,11 @@ DAMAGED = [
     (capture("<", 0xa1b2c3d4, 1, [bytes(20)])[:-1], "The file ends within packet 1."),
     (bytes(24), "Unknown file format"), (bytes(3), "too short to be a capture"),
     (capture("<", 0xa1b2c3d4, 1, []), "The capture has no packets."), (section("<") + interface("<", 1), "The capture has no packets."),
-    (section("<") + bytes(8), "The block at offset 28 is truncated."), (section("<")[:8] + bytes(20), "The block at offset 0 has no byte-order magic."),
+    (section("<") + bytes(8), "The block at offset 28 is truncated."),
+    (section("<")[:8] + bytes(20), "The block at offset 0 has no byte-order magic."),
     (section("<") + struct.pack("<III", 5, 13, 13), "The block at offset 28 has a length of 13, which isn't a multiple of 4 from 12 on."),
     (section("<") + packet_block("<", 0, 0, b""), "The block at offset 28 has the interface 0, which isn't described."),
-    (section("<") + interface("<", 1) + block("<", 6, struct.pack("<IIIII", 0, 0, 0, 9, 9) + bytes(8)), "The block at offset 48 has 9 bytes of a packet, but only 8 are left."),
+    (section("<") + interface("<", 1) + block("<", 6, struct.pack("<IIIII", 0, 0, 0, 9, 9) + bytes(8)),
+     "The block at offset 48 has 9 bytes of a packet, but only 8 are left."),
     (section("<") + interface("<", 1, struct.pack("<HH", 2, 9)), "The block at offset 28 has an option that is longer than the block."),
 ]

@@ -38,13 +38,28 @@ def words(part):
     return " ".join(f"{it:04x}" for it in struct.unpack(f"<{(len(part) + 1) // 2}H", part + bytes(len(part) % 2)))
 
 
+def octals(part):
+    return " ".join(f"{it:03o}" for it in part)
+
+
+def padded(wide):
+    """Returns a function for the column of text, after the digits and so many spaces."""
+    return lambda hexes, shown: " " * (wide - len(hexes)) + shown
+
+
+def bare(*_):
+    return ""
+
+
 def xxd(packet, wide=16):
-    return dumped(packet, lambda at: f"{at:08x}: ", quads, lambda hexes, shown: " " * (wide * 5 // 2 + 1 - len(hexes)) + shown, wide)
+    return dumped(packet, lambda at: f"{at:08x}: ", quads, padded(wide * 5 // 2 + 1), wide)
 
 
-def tcpdump(packet):
-    heading = "12:00:00.000000 IP6 2001:db8::1 > 2001:db8::2: dstopt\n"
-    return heading + dumped(packet, lambda at: f"\t0x{at:04x}:  ", quads, lambda *_: "")
+HEADING = "12:00:00.000000 IP6 2001:db8::1 > 2001:db8::2: dstopt\n"
+
+
+def tcpdump(packet, column=bare):
+    return HEADING + dumped(packet, lambda at: f"\t0x{at:04x}:  ", quads, column)
 
 
 def hexdump(packet):
@@ -53,34 +68,58 @@ def hexdump(packet):
                   lambda hexes, shown: " " * (50 - len(hexes)) + f"|{shown}|") + f"{len(packet):08x}\n"
 
 
-def spellings(packet):
-    """Returns the bytes of a packet in each supported format, by the name of the format."""
-    padded = lambda wide: lambda hexes, shown: " " * (wide - len(hexes)) + shown
-    escaped = "".join(f"\\x{it:02x}" for it in packet)
-    array = ", ".join(f"0x{it:02x}" for it in packet)
+def plain(packet, offset, separator):
+    """Returns what hexdump and od write: offsets in this format, and the length in the last line."""
+    return dumped(packet, lambda at: format(at, offset) + " ", separator, bare) + format(len(packet), offset) + "\n"
+
+
+def digit_spellings(packet):
     digits = packet.hex()
-    heading = "12:00:00.000000 IP6 2001:db8::1 > 2001:db8::2: dstopt\n"
     return {
         "digits": digits, "upper case": digits.upper(), "spaces": pairs(packet), "colons": ":".join(f"{it:02x}" for it in packet),
         "0x in front": f"0x{digits}", "words": " ".join(f"0x{digits[i:i + 8]}" for i in range(0, len(digits), 8)),
-        "tcpdump -x": tcpdump(packet), "tcpdump -X": heading + dumped(packet, lambda at: f"\t0x{at:04x}:  ", quads, padded(41)),
-        "xxd": xxd(packet), "xxd -c 32": xxd(packet, 32), "xxd -c 8": xxd(packet, 8), "xxd -g1 -c 8": dumped(packet, lambda at: f"{at:08x}: ", pairs, padded(25), 8), "xxd -p": "\n".join(digits[i:i + 60] for i in range(0, len(digits), 60)),
-        "Wireshark's hex dump": dumped(packet, lambda at: f"{at:04x}   ", pairs, lambda *_: ""),
-        "Wireshark's offset, hex and text": dumped(packet, lambda at: f"{at:04x}   ", pairs, padded(50)),
-        "hexdump -C": hexdump(packet), "od -t x1": dumped(packet, lambda at: f"{at:07o} ", pairs, lambda *_: "") + f"{len(packet):07o}\n",
-        "od -A d -t x1": dumped(packet, lambda at: f"{at:07} ", pairs, lambda *_: "") + f"{len(packet):07}\n", "od -A x -t x1": dumped(packet, lambda at: f"{at:06x} ", pairs, lambda *_: "") + f"{len(packet):06x}\n",
-        "hexdump": dumped(packet, lambda at: f"{at:07x} ", words, lambda *_: "") + f"{len(packet):07x}\n",
-        "hexdump -x": dumped(packet, lambda at: f"{at:07x}    ", lambda part: words(part).replace(" ", "    "), lambda *_: "") + f"{len(packet):07x}\n",
-        "od -x": dumped(packet, lambda at: f"{at:07o} ", words, lambda *_: "") + f"{len(packet):07o}\n",
-        "od -b": dumped(packet, lambda at: f"{at:07o} ", lambda part: " ".join(f"{it:03o}" for it in part), lambda *_: "") + f"{len(packet):07o}\n",
-        "escaped string": f'"{escaped[:64]}" \\\n"{escaped[64:]}"', "escapes without quotes": escaped, "escapes with spaces": escaped.replace("\\", " \\"),
-        "octal escapes": 'printf "' + "".join(f"\\{it:03o}" for it in packet) + '"', "Python's repr": repr(packet), "Python's fromhex": f'packet = bytes.fromhex("{digits}")',
-        "C array": f"/* Frame (60 bytes) */\nstatic const unsigned char pkt60[60] = {{\n{array} /* end */\n}};\n", "Rust array": f"let packet: [u8; 60] = [{array}];",
-        "C array without its end": f"unsigned char packet[] = {{ {array}", "decimal list": str(list(packet)), "signed bytes": str([it - 256 if it > 127 else it for it in packet]),
-        "decimal numbers": " ".join(str(it) for it in packet), "unpadded 0x": ", ".join(hex(it) for it in packet),
-        "base64": base64.b64encode(packet).decode(), "base64 in lines": base64.encodebytes(packet).decode(), "base64 for URLs": base64.urlsafe_b64encode(packet).decode(),
-        "base64 in quotes": f'"{base64.b64encode(packet).decode()}"',
+        "xxd -p": "\n".join(digits[i:i + 60] for i in range(0, len(digits), 60)), "unpadded 0x": ", ".join(hex(it) for it in packet),
+        "decimal numbers": " ".join(str(it) for it in packet),
     }
+
+
+def dump_spellings(packet):
+    return {
+        "tcpdump -x": tcpdump(packet), "tcpdump -X": tcpdump(packet, padded(41)),
+        "xxd": xxd(packet), "xxd -c 32": xxd(packet, 32), "xxd -c 8": xxd(packet, 8),
+        "xxd -g1 -c 8": dumped(packet, lambda at: f"{at:08x}: ", pairs, padded(25), 8),
+        "Wireshark's hex dump": dumped(packet, lambda at: f"{at:04x}   ", pairs, bare),
+        "Wireshark's offset, hex and text": dumped(packet, lambda at: f"{at:04x}   ", pairs, padded(50)),
+        "hexdump -C": hexdump(packet), "hexdump": plain(packet, "07x", words),
+        "hexdump -x": plain(packet, "07x", lambda part: "   " + words(part).replace(" ", "    ")), "hexdump -b": plain(packet, "07x", octals),
+        "od -t x1": plain(packet, "07o", pairs), "od -A d -t x1": plain(packet, "07", pairs), "od -A x -t x1": plain(packet, "06x", pairs),
+        "od -x": plain(packet, "07o", words), "od -b": plain(packet, "07o", octals),
+    }
+
+
+def code_spellings(packet):
+    escaped = "".join(f"\\x{it:02x}" for it in packet)
+    array = ", ".join(f"0x{it:02x}" for it in packet)
+    return {
+        "escaped string": f'"{escaped[:64]}" \\\n"{escaped[64:]}"', "escapes without quotes": escaped,
+        "escapes with spaces": escaped.replace("\\", " \\"), "octal escapes": 'printf "' + "".join(f"\\{it:03o}" for it in packet) + '"',
+        "Python's repr": repr(packet), "Python's bytearray": repr(bytearray(packet)),
+        "Python's fromhex": f'packet = bytes.fromhex("{packet.hex()}")',
+        "C array": f"/* Frame (60 bytes) */\nstatic const unsigned char pkt60[60] = {{\n{array} /* end */\n}};\n",
+        "C array without its end": f"unsigned char packet[] = {{ {array}", "Rust array": f"let packet: [u8; 60] = [{array}];",
+        "decimal list": str(list(packet)), "signed bytes": str([it - 256 if it > 127 else it for it in packet]),
+    }
+
+
+def base64_spellings(packet):
+    digits = base64.b64encode(packet).decode()
+    return {"base64": digits, "base64 in lines": base64.encodebytes(packet).decode(),
+            "base64 for URLs": base64.urlsafe_b64encode(packet).decode(), "base64 in quotes": f'"{digits}"'}
+
+
+def spellings(packet):
+    """Returns the bytes of a packet in each supported format, by the name of the format."""
+    return {**digit_spellings(packet), **dump_spellings(packet), **code_spellings(packet), **base64_spellings(packet)}
 
 
 # Texts with the packets that they mean, and words of what the page says of the format.
@@ -93,24 +132,29 @@ READ = [
     ("bytes without an escape", "b'E'", ["45"], "an escaped string: 1 byte"),
     ("digits in a string of bytes, as hexlify returns them", "b'600000000000003b'", ["600000000000003b"], "hexadecimal digits in quotes: 8 bytes"),
     ("escapes of C", r'"\0\1\a\b\f\v\e\?\"\\"', ["0001" "07080c0b1b3f225c"], "10 bytes"),
-    ("hexdump -C with repeated rows", hexdump(ROWS).replace("\n00000020  " + "00 " * 8 + " " + "00 " * 8 + " |................|", "\n*"), [ROWS.hex()], "64 bytes. Left out: the column of text"),
+    ("hexdump -C with repeated rows", hexdump(ROWS).replace(f"\n00000020  {'00 ' * 8} {'00 ' * 8} |{'.' * 16}|", "\n*"), [ROWS.hex()],
+     "64 bytes. Left out: the column of text"),
     ("od with repeated rows", "0000000" + " 60" * 16 + "\n*\n0000060 01\n0000061\n", ["60" * 48 + "01"], "49 bytes"),
     ("od with decimal offsets and repeated rows", "0000000" + " 60" * 16 + "\n*\n0000080\n", ["60" * 80], "80 bytes"),
-    ("xxd -e with a last word of three bytes", "00000000:   614260                             `Ba.\n"[:-2] + "\n", ["604261"], "which are swapped: 3 bytes"),
+    ("xxd -e with a last word of three bytes", "00000000:   614260                             `Ba\n", ["604261"],
+     "which are swapped: 3 bytes"),
     ("hexdump with a last odd byte", "0000000 0060 0000 0014\n0000005\n", ["6000000014"], "words of two bytes, which are swapped: 5 bytes"),
     ("xxd -e, by its text", "00000000: 62610060 00004241  `.abAB..\n", ["6000616241420000"], "groups of four bytes, which are swapped: 8 bytes"),
     ("xxd -g 4, by its text", "00000000: 60006162 41420000  `.abAB..\n", ["6000616241420000"], "groups of four bytes: 8 bytes"),
     ("a dump from another offset", "0010  60 00\n0012  01\n", ["600001"], "a dump with offsets: 3 bytes"),
     ("words that begin with 0", "0000 5e00 0101 0011 2233 4455 86dd 6000", ["00005e00010100112233445586dd6000"], "hexadecimal digits: 16 bytes"),
     ("a list of digits in quotes", "['60', '00', '0a']", ["60000a"], "3 bytes"),
-    ("two dumps of tcpdump", tcpdump(bytes.fromhex(PACKET)) + tcpdump(bytes.fromhex(OTHER)), [PACKET, OTHER], "92 bytes in 2 packets. Left out: 2 lines of headings"),
-    ("two C arrays", f"char one[] = {{0x{', 0x'.join(pairs(bytes.fromhex(PACKET)).split())}}};\nchar two[2] = {{0x45, 0x00}};", [PACKET, "4500"], "62 bytes in 2 packets. Left out: the program text around it"),
+    ("two dumps of tcpdump", tcpdump(bytes.fromhex(PACKET)) + tcpdump(bytes.fromhex(OTHER)), [PACKET, OTHER],
+     "92 bytes in 2 packets. Left out: 2 lines of headings"),
+    ("two C arrays", "char one[] = {0x60, 0x01, 0x02};\nchar two[2] = {0x45, 0x00};", ["600102", "4500"],
+     "5 bytes in 2 packets. Left out: the program text around it"),
     ("two strings of Python", repr(bytes.fromhex(PACKET)) + "\n" + repr(bytes.fromhex(OTHER)), [PACKET, OTHER], "in 2 packets"),
     ("two strings of C are one", '"\\x60\\x00"\n"\\x00"', ["600000"], "3 bytes."),
     ("two packets with a blank line between", f"{PACKET}\n\n{OTHER}", [PACKET, OTHER], "in 2 packets"),
     ("a packet with a blank line in it", f"{PACKET[:40]}\n\n{PACKET[40:]}", [PACKET], "60 bytes."),
     ("a packet per line", f"{PACKET}\n{OTHER}\n{PACKET}\n", [PACKET, OTHER, PACKET], "in 3 packets"),
-    ("base64 per line", "\n".join(base64.b64encode(bytes.fromhex(it)).decode() for it in (OTHER, PACKET)), [OTHER, PACKET], "base64: 92 bytes in 2 packets"),
+    ("base64 per line", "\n".join(base64.b64encode(bytes.fromhex(it)).decode() for it in (OTHER, PACKET)), [OTHER, PACKET],
+     "base64: 92 bytes in 2 packets"),
 ]
 
 SEVERAL = "these numbers may be decimal, octal or hexadecimal"

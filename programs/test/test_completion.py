@@ -41,7 +41,7 @@ def completions(harness):
     for words, wanted in [(["stat", "--p"], ["--per-file"]), (["stat", ""], []), (["stat", "-j", ""], []),
                           (["show", "--color", "=", "a"], ["always", "auto"]),
                           (["show", "--color", "="], ["always", "never", "auto"]),
-                          (["show", "--c"], ["--color="]), (["filter", "-w", "a"], []), (["filter", "--since", "1"], []),
+                          (["show", "--c"], ["--color=", "--csv"]), (["filter", "-w", "a"], []), (["filter", "--since", "1"], []),
                           (["filter", "fragment", "an"], ["and"]), (["filter", "trunc"], ["truncated"]),
                           (["filter", "header", "44", "and", "first"], ["first-fragment"])]:
         harness.equal(completed(harness, *words), wanted, words)

@@ -20,8 +20,7 @@ struct slot {
 struct pool {
     pthread_mutex_t lock;
     pthread_cond_t changed;
-    const char *const *paths;
-    size_t count;
+    const struct files *files;
     size_t next;  /* the first file that no thread has begun */
     size_t taken; /* number of files that were handed over */
     bool is_stopped;
@@ -29,13 +28,13 @@ struct pool {
     size_t room;
 };
 
-/* Counts a file. Only one that is alone shows its progress. */
-static void count_file(struct counted_file *file, const char *path, bool is_alone)
+/* Counts a file by its number. Only one that is alone shows its progress. */
+static void count_file(struct counted_file *file, const struct files *files, size_t number, bool is_alone)
 {
     struct input input;
-    *file = (struct counted_file){.path = path};
-    init_counts(&file->counts);
-    file->is_open = begin_input(&input, path);
+    *file = (struct counted_file){.path = files->paths[number]};
+    init_counts(&file->counts, files->has_tunnels);
+    file->is_open = begin_input(&input, file->path);
     if (!is_alone) input.capture.follow = NULL;
     if (file->is_open) {
         file->is_memory_short = !count_capture(&file->counts, &input.capture);
@@ -46,12 +45,12 @@ static void count_file(struct counted_file *file, const char *path, bool is_alon
 }
 
 /* Counts files one after another. */
-static void count_in_turn(const char *const *paths, size_t count, take_counted_file *take, void *taker)
+static void count_in_turn(const struct files *files, take_counted_file *take, void *taker)
 {
     bool is_wanted = true;
-    for (size_t i = 0; i < count && is_wanted; i++) {
+    for (size_t i = 0; i < files->count && is_wanted; i++) {
         struct counted_file file;
-        count_file(&file, paths[i], true);
+        count_file(&file, files, i, true);
         is_wanted = take(&file, taker);
         free_counts(&file.counts);
     }
@@ -60,9 +59,9 @@ static void count_in_turn(const char *const *paths, size_t count, take_counted_f
 /* Waits until a file may be begun, and returns its number, or `count` if there is none. The lock is held. */
 static size_t begin_next(struct pool *pool)
 {
-    while (!pool->is_stopped && pool->next < pool->count && pool->next - pool->taken == pool->room)
+    while (!pool->is_stopped && pool->next < pool->files->count && pool->next - pool->taken == pool->room)
         pthread_cond_wait(&pool->changed, &pool->lock);
-    return pool->is_stopped || pool->next == pool->count ? pool->count : pool->next++;
+    return pool->is_stopped || pool->next == pool->files->count ? pool->files->count : pool->next++;
 }
 
 /* Counts files until none is left. */
@@ -70,10 +69,10 @@ static void *work(void *place)
 {
     struct pool *pool = place;
     pthread_mutex_lock(&pool->lock);
-    for (size_t i; (i = begin_next(pool)) < pool->count;) {
+    for (size_t i; (i = begin_next(pool)) < pool->files->count;) {
         struct slot *slot = &pool->slots[i % pool->room];
         pthread_mutex_unlock(&pool->lock);
-        count_file(&slot->file, pool->paths[i], false);
+        count_file(&slot->file, pool->files, i, false);
         pthread_mutex_lock(&pool->lock);
         slot->is_done = true;
         pthread_cond_broadcast(&pool->changed);
@@ -98,7 +97,7 @@ static struct slot *wait_for(struct pool *pool, size_t number, struct files_prog
     pthread_mutex_lock(&pool->lock);
     while (!slot->is_done) {
         wait_for_change(pool);
-        show_files_progress(progress, number, pool->count);
+        show_files_progress(progress, number, pool->files->count);
     }
     pthread_mutex_unlock(&pool->lock);
     return slot;
@@ -122,7 +121,7 @@ static void hand_over(struct pool *pool, take_counted_file *take, void *taker)
     bool is_wanted = true;
     struct files_progress progress;
     begin_files_progress(&progress);
-    for (size_t i = 0; i < pool->count && is_wanted; i++) {
+    for (size_t i = 0; i < pool->files->count && is_wanted; i++) {
         struct slot *slot = wait_for(pool, i, &progress);
         clear_files_progress(&progress);
         is_wanted = take(&slot->file, taker);
@@ -144,10 +143,10 @@ static bool count_by_threads(struct pool *pool, pthread_t *threads, size_t jobs,
     return true;
 }
 
-static bool count_in_parallel(const char *const *paths, size_t count, size_t jobs, take_counted_file *take, void *taker)
+static bool count_in_parallel(const struct files *files, size_t jobs, take_counted_file *take, void *taker)
 {
-    struct pool pool = {.lock = PTHREAD_MUTEX_INITIALIZER, .changed = PTHREAD_COND_INITIALIZER, .paths = paths,
-                        .count = count, .room = FILES_AHEAD * jobs};
+    struct pool pool = {.lock = PTHREAD_MUTEX_INITIALIZER, .changed = PTHREAD_COND_INITIALIZER, .files = files,
+                        .room = FILES_AHEAD * jobs};
     pthread_t *threads = calloc(jobs, sizeof *threads);
     pool.slots = calloc(pool.room, sizeof *pool.slots);
     bool is_counted = threads && pool.slots && count_by_threads(&pool, threads, jobs, take, taker);
@@ -156,9 +155,9 @@ static bool count_in_parallel(const char *const *paths, size_t count, size_t job
     return is_counted;
 }
 
-void count_files(const char *const *paths, size_t count, size_t jobs, take_counted_file *take, void *taker)
+void count_files(const struct files *files, size_t jobs, take_counted_file *take, void *taker)
 {
-    if (jobs > count) jobs = count;
-    if (jobs > 1 && count_in_parallel(paths, count, jobs, take, taker)) return;
-    count_in_turn(paths, count, take, taker);
+    if (jobs > files->count) jobs = files->count;
+    if (jobs > 1 && count_in_parallel(files, jobs, take, taker)) return;
+    count_in_turn(files, take, taker);
 }

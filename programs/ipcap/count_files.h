@@ -21,10 +21,17 @@ struct counted_file {
 /* Takes what is known of a file. The counts are released after the call. Returns false to stop. */
 typedef bool take_counted_file(struct counted_file *file, void *taker);
 
+/* The files to count. */
+struct files {
+    const char *const *paths;
+    size_t count;
+    bool has_tunnels; /* tunnels are followed */
+};
+
 /*
- * Counts the files at `count` paths, each by itself and at most `jobs` of them side by side, and calls `take` for each
- * file, in the order of the paths. Counts them one after another if no threads can be started.
+ * Counts the files, each by itself and at most `jobs` of them side by side, and calls `take` for each file, in the
+ * order of the paths. Counts them one after another if no threads can be started.
  */
-void count_files(const char *const *paths, size_t count, size_t jobs, take_counted_file *take, void *taker);
+void count_files(const struct files *files, size_t jobs, take_counted_file *take, void *taker);
 
 #endif

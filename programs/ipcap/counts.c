@@ -7,42 +7,53 @@
 #include "parts.h"
 #include "protocol_key.h"
 
-void init_counts(struct counts *counts)
+void init_counts(struct counts *counts, bool has_inner)
 {
-    *counts = (struct counts){0};
-    wolfaren_init_statistics(&counts->statistics);
+    *counts = (struct counts){.has_inner = has_inner};
+    wolfaren_init_statistics(&counts->outer.statistics);
+    wolfaren_init_statistics(&counts->inner.statistics);
 }
 
 /* Adds the chain of a dissected packet to the table of chains. Returns false if memory runs out. */
-static bool count_chain(struct table *chains, const struct parts *parts)
+static bool count_chain(struct table *chains, const struct path *path, const struct parts *parts)
 {
     struct key key;
     if (parts->packet.version == 0) return true;
-    if (chain_key(parts, &key)) return add_to_table(chains, &key, 1);
+    if (chain_key(path, parts, &key)) return add_to_table(chains, &key, 1);
     chains->other = add_counts(chains->other, 1);
     return true;
 }
 
-/* Adds the protocol of a frame without an IP packet to the table of protocols. Returns false if memory runs out. */
-static bool count_protocol(struct table *protocols, const struct protocol *protocol)
+/* Counts a frame without an IP packet, also in the table of protocols. Returns false if memory runs out. */
+static bool count_other(struct packet_counts *counts, const struct protocol *protocol)
 {
     struct key key;
-    if (protocol_key(protocol, &key)) return add_to_table(protocols, &key, 1);
-    protocols->other = add_counts(protocols->other, 1);
+    wolfaren_count_other_frame(&counts->statistics);
+    if (protocol_key(protocol, &key)) return add_to_table(&counts->protocols, &key, 1);
+    counts->protocols.other = add_counts(counts->protocols.other, 1);
     return true;
 }
 
+/*
+ * Counts a packet of a capture and, if tunnels are followed, what it carries, what that carries, and so on. If the snap
+ * length truncated the frame, it truncated each of these too. Returns false if memory runs out.
+ */
 static bool count_packet(struct counts *counts, struct parts *parts, const struct packet *packet)
 {
     if (packet->is_left_out) return true;
-    const uint8_t *bytes = packet->frame + packet->ip_offset;
-    size_t len = packet->header.caplen - packet->ip_offset;
-    if (packet->is_short) wolfaren_count_truncated_frame(&counts->statistics);
-    if (!packet->is_ip) {
-        wolfaren_count_other_frame(&counts->statistics);
-        return count_protocol(&counts->protocols, &packet->protocol);
+    struct packet_counts *current = &counts->outer;
+    struct path path = {0};
+    struct inner inner = {.is_ip = packet->is_ip, .bytes = packet->frame + packet->ip_offset,
+                          .len = packet->header.caplen - packet->ip_offset, .protocol = packet->protocol};
+    for (;;) {
+        if (packet->is_short) wolfaren_count_truncated_frame(&current->statistics);
+        if (!inner.is_ip) return count_other(current, &inner.protocol);
+        if (!parse_packet(parts, inner.bytes, inner.len, &current->statistics)) return false;
+        if (!count_chain(&current->chains, &path, parts)) return false;
+        if (!counts->has_inner || path.tunnels == PATH_TUNNELS || !find_inner(parts, &inner)) return true;
+        extend_path(&path, parts, inner.tunnel);
+        current = &counts->inner;
     }
-    return parse_packet(parts, bytes, len, &counts->statistics) && count_chain(&counts->chains, parts);
 }
 
 bool count_capture(struct counts *counts, struct capture *capture)
@@ -63,11 +74,17 @@ static bool merge_tables(struct table *total, const struct table *more)
     return true;
 }
 
-bool merge_counts(struct counts *total, const struct counts *more)
+static bool merge_packet_counts(struct packet_counts *total, const struct packet_counts *more)
 {
     /* false only if one of them isn't from init_counts */
     if (!wolfaren_merge_statistics(&total->statistics, &more->statistics)) return false;
     return merge_tables(&total->chains, &more->chains) && merge_tables(&total->protocols, &more->protocols);
+}
+
+bool merge_counts(struct counts *total, const struct counts *more)
+{
+    total->has_inner |= more->has_inner;
+    return merge_packet_counts(&total->outer, &more->outer) && merge_packet_counts(&total->inner, &more->inner);
 }
 
 static uint64_t sum(const uint64_t *counts, size_t len)
@@ -91,7 +108,7 @@ static bool has_chains(const struct table *chains, uint8_t version, uint64_t pac
     return total <= packets && (chains->other > 0 || total == packets);
 }
 
-bool do_add_up(const struct counts *counts)
+static bool are_consistent(const struct packet_counts *counts)
 {
     const struct wolfaren_statistics *of = &counts->statistics;
     uint64_t ip = add_counts(of->ipv4, of->ipv6);
@@ -106,8 +123,19 @@ bool do_add_up(const struct counts *counts)
         && has_chains(&counts->chains, 6, of->ipv6) && sum_table(&counts->protocols) == of->other_frames;
 }
 
-void free_counts(struct counts *counts)
+bool do_add_up(const struct counts *counts)
+{
+    return are_consistent(&counts->outer) && are_consistent(&counts->inner);
+}
+
+static void free_tables(struct packet_counts *counts)
 {
     free_table(&counts->chains);
     free_table(&counts->protocols);
+}
+
+void free_counts(struct counts *counts)
+{
+    free_tables(&counts->outer);
+    free_tables(&counts->inner);
 }

@@ -11,14 +11,20 @@
 #include "table.h"
 #include "wolfaren.h"
 
-struct counts {
+struct packet_counts {
     struct wolfaren_statistics statistics;
     struct table chains;    /* of the packets with an IP header, by the numbers of the headers and what follows them */
     struct table protocols; /* of the frames without an IP packet, by the last number that says what they carry */
 };
 
+struct counts {
+    struct packet_counts outer; /* of frames and the packets in them */
+    struct packet_counts inner; /* of what tunnels carry: packets, or frames, each in the payload of another packet */
+    bool has_inner;             /* tunnels are followed, otherwise `inner` has no packets */
+};
+
 /* Makes statistics of no packets. */
-void init_counts(struct counts *counts);
+void init_counts(struct counts *counts, bool has_inner);
 
 /* Counts the packets of an open capture, as far as it can be read. Returns false if memory runs out. */
 bool count_capture(struct counts *counts, struct capture *capture);

@@ -36,7 +36,10 @@ enum { SCALARS = 16, ARRAYS = 7, ARRAY_ELEMENTS = 256 };
  * The version of the JSON format. With another major number, members mean something else. With a larger minor number,
  * there are more members, each a count, an object of counts, or a text.
  */
-enum { FORMAT_MAJOR = 1, FORMAT_MINOR = 2 };
+enum { FORMAT_MAJOR = 1, FORMAT_MINOR = 3 };
+
+/* What is before the names of members that count the packets in tunnels. */
+#define INNER_PREFIX "inner_"
 
 extern const struct scalar scalars[SCALARS];
 extern const struct array arrays[ARRAYS];

@@ -7,6 +7,8 @@
 #include <pcap/pcap.h>
 #include <string.h>
 
+#include "rest.h"
+
 /* A header, or the end of the headers. */
 enum layer {
     LAYER_OTHER, /* not IP, or truncated before the field that says so */
@@ -138,22 +140,6 @@ static const struct typed_header ipoib = {44, 40};     /* RFC 4391, after a glob
 static const struct typed_header cisco_hdlc = {4, 2};  /* RFC 1547, section 4.3.1 */
 static const struct typed_header cisco_frame = {2, 0}; /* after an address of Frame Relay */
 
-/* What is left of a frame, and the last number that says what it is. */
-struct rest {
-    const uint8_t *bytes;
-    size_t len;
-    struct protocol protocol;
-};
-
-/* Skips `count` bytes, unless there are fewer. */
-static bool skip(struct rest *rest, size_t count)
-{
-    if (rest->len < count) return false;
-    rest->bytes += count;
-    rest->len -= count;
-    return true;
-}
-
 static bool begins_with(const struct rest *rest, const uint8_t *bytes, size_t len)
 {
     return rest->len >= len && memcmp(rest->bytes, bytes, len) == 0;
@@ -163,11 +149,6 @@ static bool begins_with(const struct rest *rest, const uint8_t *bytes, size_t le
 static bool skip_bytes(struct rest *rest, const uint8_t *bytes, size_t len)
 {
     return begins_with(rest, bytes, len) && skip(rest, len);
-}
-
-static unsigned number_at(const uint8_t *bytes)
-{
-    return (unsigned)bytes[0] << 8 | bytes[1];
 }
 
 /* Returns what is left of the frame by a number in a header. */
@@ -430,14 +411,29 @@ const struct link_layer *find_link_layer(int number)
     return NULL;
 }
 
+/* Skips headers up to the IP packet. Returns false if there is none. */
+static bool skip_to_ip(struct rest *rest, enum layer layer)
+{
+    /* ends: each header has a byte, but for LAYER_SERIAL, to which none leads */
+    while (layer != LAYER_IP && layer != LAYER_OTHER) layer = skip_layer(rest, layer);
+    return layer == LAYER_IP;
+}
+
 bool find_ip(const struct link_layer *link_layer, const uint8_t *frame, size_t len, size_t *offset,
              struct protocol *protocol)
 {
     struct rest rest = {.bytes = frame, .len = len};
-    enum layer layer = skip(&rest, link_layer->before) ? link_layer->first : LAYER_OTHER;
-    /* ends: each header has a byte, but for LAYER_SERIAL, to which none leads */
-    while (layer != LAYER_IP && layer != LAYER_OTHER) layer = skip_layer(&rest, layer);
+    bool is_ip = skip_to_ip(&rest, skip(&rest, link_layer->before) ? link_layer->first : LAYER_OTHER);
     *offset = len - rest.len;
     *protocol = rest.protocol;
-    return layer == LAYER_IP;
+    return is_ip;
+}
+
+bool find_ip_after(unsigned ethertype, const uint8_t *bytes, size_t len, size_t *offset, struct protocol *protocol)
+{
+    struct rest rest = {.bytes = bytes, .len = len};
+    bool is_ip = skip_to_ip(&rest, layer_of(&rest, &ethertypes, ethertype));
+    *offset = len - rest.len;
+    *protocol = rest.protocol;
+    return is_ip;
 }

@@ -34,4 +34,7 @@ const struct link_layer *find_link_layer(int number);
 bool find_ip(const struct link_layer *link_layer, const uint8_t *frame, size_t len, size_t *offset,
              struct protocol *protocol);
 
+/* Finds the IP packet in the `len` bytes after an EtherType, as `find_ip` does in a frame. */
+bool find_ip_after(unsigned ethertype, const uint8_t *bytes, size_t len, size_t *offset, struct protocol *protocol);
+
 #endif

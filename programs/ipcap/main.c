@@ -6,7 +6,7 @@
 #include "options.h"
 
 static const char usage[] =
-    "usage: ipcap stat [-j N] [--json] [--per-file] [--top N] [FILE..]\n"
+    "usage: ipcap stat [-j N] [--json] [--per-file] [--top N] [--tunnels] [FILE..]\n"
     "       ipcap sum [--json] [--top N]\n"
     "       ipcap filter [OPTION..] COND [FILE..]\n"
     "       ipcap filter [OPTION..] -r FILE COND\n"

@@ -32,7 +32,7 @@ static char *json_of(struct counts *counts)
 static char *count_opened(struct capture *capture)
 {
     struct counts counts;
-    init_counts(&counts);
+    init_counts(&counts, false);
     char *json = count_capture(&counts, capture) ? json_of(&counts) : NULL;
     close_capture(capture);
     free_counts(&counts);

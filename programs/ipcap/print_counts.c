@@ -15,28 +15,36 @@ enum { MOST_PROTOCOLS = 5 };
 struct output {
     FILE *file;
     bool json;
-    uint64_t most; /* rows of each table */
-    const char *separator; /* of members of a JSON object */
+    uint64_t most;           /* rows of each table */
+    uint64_t most_protocols; /* rows of the table of protocols */
+    const char *title;       /* what is before each title of a table */
+    const char *prefix;      /* what is before the name of each count and table in JSON */
+    const char *separator;   /* of members of a JSON object */
 };
 
-/* Writes one line of a table, or one member of a JSON object. */
-static void write_count(struct output *output, const char *name, uint64_t count)
+/* Writes one line of a table, or one member of a JSON object, whose name consists of a prefix and a name. */
+static void write_named(struct output *output, const char *prefix, const char *name, uint64_t count)
 {
     if (!output->json) {
         fprintf(output->file, "%12" PRIu64 "  %s\n", count, name);
         return;
     }
-    fprintf(output->file, "%s\"%s\":%" PRIu64, output->separator, name, count);
+    fprintf(output->file, "%s\"%s%s\":%" PRIu64, output->separator, prefix, name, count);
     output->separator = ",";
+}
+
+static void write_count(struct output *output, const char *name, uint64_t count)
+{
+    write_named(output, "", name, count);
 }
 
 /* Begins a table, or a member whose value is an object. */
 static void begin_table(struct output *output, const char *title, const char *name)
 {
     if (output->json)
-        fprintf(output->file, "%s\"%s\":{", output->separator, name);
+        fprintf(output->file, "%s\"%s%s\":{", output->separator, output->prefix, name);
     else
-        fprintf(output->file, "%s\n", title);
+        fprintf(output->file, "%s%s\n", output->title, title);
     output->separator = "";
 }
 
@@ -123,20 +131,36 @@ static void begin_counts(FILE *file, const struct form *form)
     if (form->json) fprintf(file, "{\"version\":\"%d.%d\"", FORMAT_MAJOR, FORMAT_MINOR);
     if (form->file) fputs(form->json ? ",\"file\":" : "file ", file);
     if (form->file) (form->json ? write_json_text : write_escaped)(file, form->file);
-    if (!form->json) fprintf(file, "%spackets\n", form->file ? "\n" : "");
+    if (form->file && !form->json) putc('\n', file);
+}
+
+static void write_scalars(struct output *output, struct wolfaren_statistics *statistics)
+{
+    if (!output->json) fprintf(output->file, "%spackets\n", output->title);
+    for (size_t i = 0; i < SCALARS; i++)
+        write_named(output, output->prefix, output->json ? scalars[i].name : scalars[i].words,
+                    *scalar_in(statistics, &scalars[i]));
+}
+
+static void write_packet_counts(struct output *output, struct packet_counts *counts)
+{
+    write_scalars(output, &counts->statistics);
+    begin_table(output, "protocols of frames without an IP packet", "other_protocols");
+    write_entries(output, &counts->protocols, output->most_protocols, write_protocol);
+    begin_table(output, "chains", "chains");
+    write_entries(output, &counts->chains, output->most, write_chain);
+    for (size_t i = 0; i < ARRAYS; i++) write_array(output, &arrays[i], array_in(&counts->statistics, &arrays[i]));
 }
 
 void print_counts(struct counts *counts, FILE *file, const struct form *form)
 {
-    bool json = form->json, has_top = form->top > 0 && !json;
-    struct output output = {file, json, has_top ? form->top : UINT64_MAX, ","};
+    bool has_top = form->top > 0 && !form->json;
+    uint64_t most = has_top ? form->top : UINT64_MAX;
+    struct output output = {file, form->json, most, form->json || has_top ? most : MOST_PROTOCOLS, "", "", ","};
     begin_counts(file, form);
-    for (size_t i = 0; i < SCALARS; i++)
-        write_count(&output, json ? scalars[i].name : scalars[i].words, *scalar_in(&counts->statistics, &scalars[i]));
-    begin_table(&output, "protocols of frames without an IP packet", "other_protocols");
-    write_entries(&output, &counts->protocols, json || has_top ? output.most : MOST_PROTOCOLS, write_protocol);
-    begin_table(&output, "chains", "chains");
-    write_entries(&output, &counts->chains, output.most, write_chain);
-    for (size_t i = 0; i < ARRAYS; i++) write_array(&output, &arrays[i], array_in(&counts->statistics, &arrays[i]));
-    if (json) fprintf(file, "}\n");
+    write_packet_counts(&output, &counts->outer);
+    output.title = "in tunnels: ";
+    output.prefix = INNER_PREFIX;
+    if (counts->has_inner) write_packet_counts(&output, &counts->inner);
+    if (form->json) fputs("}\n", file);
 }

@@ -118,8 +118,9 @@ static bool read_count(struct json_input *input, uint64_t *count)
  */
 struct reading {
     struct json_input *input;
-    struct counts *counts;
-    unsigned done;
+    struct counts *all;
+    struct packet_counts *counts; /* to which the member that is read belongs */
+    uint64_t done;
     unsigned minor; /* of the version */
     struct json_input unknown;
     uint64_t *elements; /* of the array that is read */
@@ -183,6 +184,12 @@ static bool read_chain_member(struct reading *reading, const char *name)
     return read_table_member(reading, name, &reading->counts->chains, read_chain, "the name is not a chain");
 }
 
+static bool read_inner_chain_member(struct reading *reading, const char *name)
+{
+    return read_table_member(reading, name, &reading->counts->chains, read_inner_chain,
+                             "the name is not a chain in a tunnel");
+}
+
 static bool read_protocol_member(struct reading *reading, const char *name)
 {
     return read_table_member(reading, name, &reading->counts->protocols, read_protocol, "the name is not a protocol");
@@ -236,7 +243,10 @@ static bool skip_member(struct reading *reading)
     return reading->input->next == '"' ? read_text(reading->input, text) : skip_count(reading, NULL);
 }
 
-/* The members of the outer object: the version, the name of the file, the single counts, the tables, and the arrays. */
+/*
+ * The members of the outer object: the version, the name of the file, the single counts, the tables, and the arrays, and
+ * then the counts, tables and arrays of packets in tunnels.
+ */
 enum {
     VERSION_AT,
     FILE_AT,
@@ -244,13 +254,31 @@ enum {
     CHAINS_AT = SCALARS_AT + SCALARS,
     PROTOCOLS_AT,
     ARRAYS_AT,
-    MEMBERS = ARRAYS_AT + ARRAYS
+    INNER_AT = ARRAYS_AT + ARRAYS,
+    MEMBERS = INNER_AT + INNER_AT - SCALARS_AT
 };
 
-_Static_assert(MEMBERS <= 32, "each member has a bit in `done`");
+_Static_assert(MEMBERS < 64, "each member has a bit in `done`");
 
+/* Returns a set of one member. */
+static uint64_t bit(unsigned member)
+{
+    return (uint64_t)1 << member;
+}
+
+/* The set of the members of packets in tunnels. */
+static const uint64_t inner_members = ((uint64_t)1 << MEMBERS) - ((uint64_t)1 << INNER_AT);
+
+/* Returns the member with the same name, except for the prefix, that isn't of packets in tunnels. */
+static unsigned without_prefix(unsigned member)
+{
+    return member < INNER_AT ? member : member - INNER_AT + SCALARS_AT;
+}
+
+/* Returns the name of a member, without the prefix of those of packets in tunnels. */
 static const char *member_name(unsigned member)
 {
+    member = without_prefix(member);
     if (member == VERSION_AT) return "version";
     if (member == FILE_AT) return "file";
     if (member == CHAINS_AT) return "chains";
@@ -258,23 +286,36 @@ static const char *member_name(unsigned member)
     return member < CHAINS_AT ? scalars[member - SCALARS_AT].name : arrays[member - ARRAYS_AT].name;
 }
 
+static const char *member_prefix(unsigned member)
+{
+    return member < INNER_AT ? "" : INNER_PREFIX;
+}
+
+static bool has_name(unsigned member, const char *name)
+{
+    size_t len = strlen(member_prefix(member));
+    return strncmp(name, member_prefix(member), len) == 0 && strcmp(name + len, member_name(member)) == 0;
+}
+
 static bool read_value(struct reading *reading, unsigned member)
 {
-    struct wolfaren_statistics *statistics = &reading->counts->statistics;
+    member_reader read_chains = member < INNER_AT ? read_chain_member : read_inner_chain_member;
+    reading->counts = member < INNER_AT ? &reading->all->outer : &reading->all->inner;
+    member = without_prefix(member);
     if (member == VERSION_AT) return read_version(reading);
     if (member == FILE_AT) return skip_text(reading->input);
-    if (member == CHAINS_AT) return read_object(reading, read_chain_member);
+    if (member == CHAINS_AT) return read_object(reading, read_chains);
     if (member == PROTOCOLS_AT) return read_object(reading, read_protocol_member);
     if (member >= ARRAYS_AT) return read_array(reading, &arrays[member - ARRAYS_AT]);
-    return read_count(reading->input, scalar_in(statistics, &scalars[member - SCALARS_AT]));
+    return read_count(reading->input, scalar_in(&reading->counts->statistics, &scalars[member - SCALARS_AT]));
 }
 
 static bool read_outer_member(struct reading *reading, const char *name)
 {
     for (unsigned member = 0; member < MEMBERS; member++) {
-        if (strcmp(name, member_name(member)) != 0) continue;
-        if (reading->done & 1U << member) return refuse(reading->input, "duplicate name in the object");
-        reading->done |= 1U << member;
+        if (!has_name(member, name)) continue;
+        if (reading->done & bit(member)) return refuse(reading->input, "duplicate name in the object");
+        reading->done |= bit(member);
         return read_value(reading, member);
     }
     return skip_member(reading);
@@ -282,25 +323,28 @@ static bool read_outer_member(struct reading *reading, const char *name)
 
 /*
  * Adds members that may be left out. Version 1.0 has no table of protocols: all frames without an IP packet are then of
- * other protocols. Only statistics of a single file have its name.
+ * other protocols. Only statistics of a single file have its name, and those of packets in tunnels have all members or
+ * none.
  */
 static void add_members(struct reading *reading)
 {
-    reading->done |= 1U << FILE_AT;
-    if (reading->minor > 0 || reading->done & 1U << PROTOCOLS_AT) return;
-    reading->counts->protocols.other = reading->counts->statistics.other_frames;
-    reading->done |= 1U << PROTOCOLS_AT;
+    struct counts *all = reading->all;
+    all->has_inner = reading->done & inner_members;
+    reading->done |= bit(FILE_AT) | (all->has_inner ? 0 : inner_members);
+    if (reading->minor > 0 || reading->done & bit(PROTOCOLS_AT)) return;
+    all->outer.protocols.other = all->outer.statistics.other_frames;
+    reading->done |= bit(PROTOCOLS_AT);
 }
 
 bool read_json(struct json_input *input, struct counts *counts)
 {
-    struct reading reading = {.input = input, .counts = counts};
+    struct reading reading = {.input = input, .all = counts};
     if (!read_object(&reading, read_outer_member)) return false;
     add_members(&reading);
     for (unsigned member = 0; member < MEMBERS; member++) {
         char words[64];
-        if (reading.done & 1U << member) continue;
-        snprintf(words, sizeof words, "the object has no \"%s\"", member_name(member));
+        if (reading.done & bit(member)) continue;
+        snprintf(words, sizeof words, "the object has no \"%s%s\"", member_prefix(member), member_name(member));
         return refuse(input, words);
     }
     if (reading.unknown.file && reading.minor <= FORMAT_MINOR) return refuse(&reading.unknown, "unknown member name");

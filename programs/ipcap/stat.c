@@ -17,12 +17,13 @@
 #include "report.h"
 
 static const char stat_usage[] =
-    "usage: ipcap stat [-j N] [--json] [--per-file] [--top N] [FILE..]\n"
+    "usage: ipcap stat [-j N] [--json] [--per-file] [--top N] [--tunnels] [FILE..]\n"
     "Counts the packets of each FILE, or standard input, by their IP extension headers.\n"
     "  -j N        count at most N files side by side; without it, as many as there are processors\n"
     "  --json      print a JSON object of counts, which `ipcap sum` reads, instead of tables\n"
     "  --per-file  print the counts of each file, with its name, instead of their sum\n"
     "  --top N     print at most N rows of each table, and the sum of the others; JSON has all rows\n"
+    "  --tunnels   also count the packets in tunnels: IP in IP, GRE, GTP-U, VXLAN and Geneve\n"
     "  --help      print this help\n"
     "  --version   print the version\n";
 
@@ -38,6 +39,7 @@ static const char sum_usage[] =
 struct request {
     bool json;
     bool is_per_file;
+    bool has_tunnels;
     uint64_t top;
     uint64_t jobs; /* 0 if not given */
 };
@@ -47,10 +49,11 @@ static const struct option_row options[] = {
     {"top", read_count_argument, offsetof(struct request, top), "a number above 0"},
     /* not of `sum` */
     {"per-file", set_flag, offsetof(struct request, is_per_file), NULL},
+    {"tunnels", set_flag, offsetof(struct request, has_tunnels), NULL},
     {"j", read_count_argument, offsetof(struct request, jobs), "a number above 0"},
 };
 
-enum { STAT_OPTIONS = sizeof options / sizeof *options, SUM_OPTIONS = STAT_OPTIONS - 2 };
+enum { STAT_OPTIONS = sizeof options / sizeof *options, SUM_OPTIONS = STAT_OPTIONS - 3 };
 
 /* Writes statistics, with the name of their file unless it is null. Returns false if writing fails. */
 static bool write_counts(const struct request *request, struct counts *counts, const char *file)
@@ -110,9 +113,10 @@ static size_t choose_jobs(const struct request *request, const char *const *path
 static bool run_request(const struct request *request, const char *const *paths, size_t count)
 {
     struct summary summary = {.request = request, .is_done = true};
-    init_counts(&summary.total);
+    struct files files = {paths, count, request->has_tunnels};
+    init_counts(&summary.total, request->has_tunnels);
     size_t jobs = choose_jobs(request, paths, count);
-    count_files(paths, count, jobs, request->is_per_file ? write_file : add_file, &summary);
+    count_files(&files, jobs, request->is_per_file ? write_file : add_file, &summary);
     bool is_written = request->is_per_file || !summary.is_any || write_counts(request, &summary.total, NULL);
     free_counts(&summary.total);
     return summary.is_done && is_written;
@@ -133,7 +137,7 @@ int run_stat(int count, char **arguments)
 static bool add_object(struct json_input *input, struct counts *total)
 {
     struct counts counts;
-    init_counts(&counts);
+    init_counts(&counts, false);
     bool is_read = read_json(input, &counts);
     bool is_added = is_read && merge_counts(total, &counts);
     free_counts(&counts);
@@ -165,7 +169,7 @@ int run_sum(int count, char **arguments)
     int status = read_options(count, arguments, sum_usage, options, SUM_OPTIONS, &request);
     if (status >= 0) return status;
     if (optind != count) return refuse_usage(sum_usage, "sum reads standard input and takes no file name");
-    init_counts(&total);
+    init_counts(&total, false);
     bool is_done = add_objects(&total) && write_counts(&request, &total, NULL);
     free_counts(&total);
     return is_done ? STATUS_DONE : STATUS_FAILED;

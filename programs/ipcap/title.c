@@ -61,11 +61,12 @@ void print_addresses(const struct parts *parts, const char *format)
 
 static void print_chain(const struct parts *parts)
 {
+    static const struct path no_tunnel;
     struct key key;
     char text[CHAIN_TEXT_ROOM];
     if (parts->packet.version == 0) {
         puts("unread base header");
-    } else if (chain_key(parts, &key)) {
+    } else if (chain_key(&no_tunnel, parts, &key)) {
         write_chain(&key, text);
         puts(text);
     } else {

@@ -13,6 +13,7 @@ import test_pcapng
 import test_show
 import test_stat
 import test_sum
+import test_tunnels
 import test_use
 
 GROUPS = [("link layers", test_link_layers.link_layers), ("short frames", test_link_layers.short_frames),
@@ -31,7 +32,12 @@ GROUPS = [("link layers", test_link_layers.link_layers), ("short frames", test_l
           ("sums of parts", test_sum.sums), ("malformed JSON", test_sum.malformed), ("damaged JSON", test_sum.damaged),
           ("versions of JSON", test_sum.versions), ("names in JSON", test_sum.names_in_json),
           ("largest counts", test_sum.largest_counts),
-          ("bounds of tables", test_sum.bounds), ("conditions", test_filter.conditions),
+          ("bounds of tables", test_sum.bounds), ("tunnels", test_tunnels.followed),
+          ("counts of tunnels", test_tunnels.counted), ("tunnels in tunnels", test_tunnels.depths),
+          ("truncated tunnels", test_tunnels.truncated), ("hostile tunnels", test_tunnels.hostile),
+          ("tunnels as tshark finds them", test_tunnels.tshark_agrees), ("sums of tunnels", test_tunnels.sums),
+          ("tables of tunnels", test_tunnels.tables), ("names of chains in tunnels", test_tunnels.names_of_chains),
+          ("malformed JSON of tunnels", test_tunnels.malformed), ("conditions", test_filter.conditions),
           ("chains without an end in libpcap", test_filter.endless_chains),
           ("conditions on upper layers", test_filter.upper_layers),
           ("conditions on flags of TCP and fields of extension headers", test_filter.flags),

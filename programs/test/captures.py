@@ -106,3 +106,30 @@ def capture(frames, link_layer=ETHERNET, snap_len=65535, magic=MICROSECONDS, ord
     """A capture of the frames, one second apart."""
     records = [record(f, snap_len, 1000 + i, 5 + i, order) for i, f in enumerate(frames)]
     return file_header(link_layer, snap_len, magic, order) + b"".join(records)
+
+
+def udp(port, payload, source=50000, length=None):
+    return struct.pack(">HHHH", source, port, 8 + len(payload) if length is None else length, 0) + payload
+
+
+def gre(ethertype, payload, flags=0):
+    """A GRE header (RFC 2784, RFC 2890) with the fields that its flags say: checksum, key, and sequence number."""
+    fields = b"".join(bytes([0, 0, 0, bit]) for bit in (0x80, 0x20, 0x10) if flags >> 8 & bit)
+    return struct.pack(">HH", flags, ethertype) + fields + payload
+
+
+def gtp_u(payload, flags=0x30, message=255, optional=b"", length=None):
+    """A GTP-U header (3GPP TS 29.281) and the bytes of its optional fields and extension headers."""
+    rest = optional + payload
+    return struct.pack(">BBHI", flags, message, len(rest) if length is None else length, 0x1234) + rest
+
+
+def vxlan(frame, flags=8):
+    """A VXLAN header (RFC 7348)."""
+    return bytes([flags, 0, 0, 0, 0, 0x12, 0x34, 0]) + frame
+
+
+def geneve(ethertype, payload, option_bytes=b"", version=0, flags=0):
+    """A Geneve header (RFC 8926)."""
+    first = version << 6 | len(option_bytes) // 4
+    return struct.pack(">BBHI", first, flags, ethertype, 0x123400) + option_bytes + payload

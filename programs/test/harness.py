@@ -102,7 +102,7 @@ TABLES = ["other_protocols", "chains", "chain_headers", "chain_bytes", "headers"
 
 def statistics(**parts):
     """Returns the expected output of `stat`: the given parts, and 0 or empty for the rest."""
-    return {"version": "1.2", **dict.fromkeys(COUNTS, 0), **{name: {} for name in TABLES}, **parts}
+    return {"version": "1.3", **dict.fromkeys(COUNTS, 0), **{name: {} for name in TABLES}, **parts}
 
 
 def fragments(found):

@@ -207,12 +207,12 @@ def files_apart(harness):
         with open(paths[-1], "wb") as file:
             file.write(other)
         in_tables.append(b"file %s/%s\n" % (folder.encode(), shown[0]))
-        in_json.append(b'{"version":"1.2","file":"%s/%s",' % (folder.encode(), shown[1].encode()))
+        in_json.append(b'{"version":"1.3","file":"%s/%s",' % (folder.encode(), shown[1].encode()))
     first, second = [harness.run("stat", content=it)[1] for it in (one, other)]
     wanted = b"file -\n" + first + b"".join(head + second for head in in_tables)
     harness.equal(harness.run("stat", "--per-file", "-", *paths, content=one), (0, wanted, "", None), "tables")
     first, second = [harness.run("stat", "--json", content=it)[1].partition(b",")[2] for it in (one, other)]
-    wanted = b'{"version":"1.2","file":"-",' + first + b"".join(head + second for head in in_json)
+    wanted = b'{"version":"1.3","file":"-",' + first + b"".join(head + second for head in in_json)
     harness.equal(harness.run("stat", "--per-file", "--json", "-", *paths, content=one), (0, wanted, "", None), "JSON")
     harness.equal([json.loads(line)["file"] for line in wanted.splitlines()], ["-"] + paths, "the names in JSON")
     total = harness.run("stat", "--json", "-", *paths, content=one)

@@ -31,7 +31,7 @@ def sums(harness):
     one = json.loads(whole)
     wanted = {name: {k: v * 3 for k, v in part.items()} if isinstance(part, dict) else part * 3
               for name, part in one.items() if name != "version"}
-    harness.equal(total, {"version": "1.2", **wanted}, "three times the whole")
+    harness.equal(total, {"version": "1.3", **wanted}, "three times the whole")
 
 
 def refuse(harness, content, words, name):

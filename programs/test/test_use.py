@@ -32,7 +32,8 @@ def wrong_usage(harness):
                       ["show", "--json", "--one-line"], ["show", "--csv", "--json"],
                       ["stat", "--json=1"], ["stat", "-j", "0"], ["stat", "-j"],
                       ["stat", "-j", "x"], ["sum", "-j", "2"],
-                      ["stat", "--top", "0"], ["stat", "--top"], ["sum", "--top", "x"], ["sum", "--per-file"]]:
+                      ["stat", "--top", "0"], ["stat", "--top"], ["sum", "--top", "x"], ["sum", "--per-file"],
+                      ["stat", "--tunnels=1"], ["sum", "--tunnels"], ["show", "--tunnels"]]:
         status, found, errors, _ = harness.run(*arguments)
         harness.equal((status, found), (2, b""), arguments)
         harness.check("usage: ipcap " in errors, arguments, errors)
@@ -187,12 +188,12 @@ def refuse_each(harness, arguments, given=b""):
 
 def refused_memory(harness):
     """Each failed allocation ends the program with a message, unless it gets by without that memory."""
-    content = capture([ethernet(ipv6_chain([60] * 40)), ethernet(ipv4(17, UDP))])
+    content = capture([ethernet(ipv6_chain([60] * 40)), ethernet(ipv4(4, ipv6_chain([60] * 41)))])
     path = harness.file(content)
-    counts = harness.run("stat", "--json", path)[1]
+    counts = harness.run("stat", "--json", "--tunnels", path)[1]
     harness.settle()
-    for arguments, given in [(["stat", path], b""), (["filter", "header 60", path], b""), (["show", path], b""),
-                             (["sum"], counts)]:
+    for arguments, given in [(["stat", path], b""), (["stat", "--tunnels", path], b""),
+                             (["filter", "header 60", path], b""), (["show", path], b""), (["sum"], counts)]:
         refuse_each(harness, arguments, given)
 
 

@@ -125,16 +125,26 @@ class Json(unittest.TestCase):
         self.assertEqual(Statistics.from_json(printed), found)
         self.assertEqual(ipcap("sum", "--json", text=found.to_json() + printed), (found + found).to_json() + "\n")
 
+    def test_tunnels(self):
+        packets = [ipv4(41, ipv6_chain([60, 43])), ipv4(17, UDP)]
+        with tempfile.TemporaryDirectory() as folder:
+            path = write(folder, "a.pcap", capture([ethernet(it) for it in packets]))
+            printed = ipcap("stat", "--json", "--tunnels", path)
+        self.assertEqual(json.loads(printed)["inner_chains"], {"IPv4 > IPv6 60,43 -> 17": 1})
+        self.assertEqual(Statistics.from_json(printed), counted(packets))
+        with self.assertRaisesRegex(ValueError, "unknown member inner_new"):
+            Statistics.from_json(printed.rstrip()[:-1] + ',"inner_new":1}')
+
     def test_versions(self):
         text = counted(PACKETS).to_json()
-        added = text.replace('"1.2"', '"1.7"')[:-1] + ',"new":{"a":1},"text":"b"}'
+        added = text.replace('"1.3"', '"1.7"')[:-1] + ',"new":{"a":1},"text":"b"}'
         self.assertEqual(Statistics.from_json(added), counted(PACKETS))
-        named = text.replace('"1.2"', '"1.2","file":"\\u00e9\\udcff"')
+        named = text.replace('"1.3"', '"1.3","file":"\\u00e9\\udcff"')
         self.assertEqual(Statistics.from_json(named), counted(PACKETS))
         for version in ["2.0", "0.9", "1", "x", ""]:
             with self.assertRaisesRegex(ValueError, "version"):
-                Statistics.from_json(text.replace("1.2", version))
-        first = text.replace('"1.2"', '"1.0"').replace('"other_protocols":{},', "").replace('"other_frames":0', '"other_frames":2')
+                Statistics.from_json(text.replace("1.3", version))
+        first = text.replace('"1.3"', '"1.0"').replace('"other_protocols":{},', "").replace('"other_frames":0', '"other_frames":2')
         self.assertEqual(Statistics.from_json(first).other_protocols, {"other": 2})
 
     def test_refused(self):

@@ -33,7 +33,7 @@ _ipcap() {
         return
     fi
     case ${COMP_WORDS[1]} in
-        stat) options='-j --json --per-file --top' ;;
+        stat) options='-j --json --per-file --top --tunnels' ;;
         sum) options='--json --top' ;;
         filter) options='-c -n -r -w --since --until --packets --show --help-terms' ;;
         show) options='-c --color= --one-line --json --csv' ;;

@@ -23,7 +23,7 @@ _NAMES = 4096
 MOST_HEADERS = 64
 
 # The version of the JSON: major and minor number.
-_FORMAT = (1, 2)
+_FORMAT = (1, 3)
 
 _KINDS = {FaultKind.TOO_SHORT: "too-short", FaultKind.HOP_BY_HOP_NOT_AT_START: "not-at-start",
           FaultKind.ZERO_PAYLOAD_LEN: "zero-length", FaultKind.UNSUPPORTED_IP_VERSION: "unsupported-version",
@@ -333,9 +333,9 @@ class Statistics:
     def from_json(cls, text: str) -> Statistics:
         """Reads what `to_json`, `ipcap stat --json` or `ipcap sum --json` has written.
 
-        The name of a file in it is left out. Raises `ValueError` if the text is something else, or of a version with
-        another major number. Of a version with the same major and a larger minor number, members that aren't known are
-        left out.
+        The name of a file in it is left out, as are the counts of packets in tunnels, which `ipcap stat --tunnels` adds.
+        Raises `ValueError` if the text is something else, or of a version with another major number. Of a version with
+        the same major and a larger minor number, members that aren't known are left out.
         """
         members = json.loads(text)
         if not isinstance(members, dict):
@@ -343,6 +343,8 @@ class Statistics:
         minor = _minor_version(members.pop("version", None))
         if not isinstance(members.pop("file", ""), str):
             raise ValueError('"file" is not a text')
+        for name in [*_SCALARS, "other_protocols", "chains", *_ARRAYS]:
+            members.pop(f"inner_{name}", None)
         read = cls()
         for name in _SCALARS:
             setattr(read._counts, name, _count(members.pop(name, None), name))

@@ -14,5 +14,6 @@ pub mod Words
 pub mod Numbers
 pub mod Grammar
 pub mod Reading
+pub mod Reached
 pub mod Parsing
 pub mod Parsed

@@ -26,18 +26,6 @@ pub(crate) struct Facts<'a> {
 }
 
 impl<'a> Facts<'a> {
-    /// Returns those of a packet that has no extension headers, is no fragment and has no error.
-    #[inline(always)]
-    pub(crate) fn of_plain(packet: Packet<'a>) -> Facts<'a>
-        requires { is_plain (dissected packet.bytes.now) ≡ true }
-        ensures { result.packet.bytes.now ≡ packet.entry.bytes.now }
-    {
-        Facts {
-            packet,
-            flags: Flags::none().of(&packet),
-        }
-    }
-
     /// Returns whether the packet has one of the flags that the mask selects. An error is only made if it is asked for.
     #[inline(always)]
     pub(crate) fn has_one_of(&self, mask: u64) -> bool

@@ -1,12 +1,17 @@
 //! Runs the tests of a filter on a packet.
 ghost use Rattle.std.specs.Prelude.{◌≡◌, ◌≤◌, length, true, false, if◌then◌else◌};
 ghost use Rattle.ip_dissect.specs.Dissection.{dissected};
+ghost use Rattle.ip_dissect.specs.End.{has_error};
+ghost use Rattle.ip_dissect.specs.Outline.{is_plain};
+ghost use Rattle.ip_filter.specs.Flags.{AreKnown};
+ghost use Rattle.ip_filter.specs.Reached.{IsLedTo, IsReached};
 ghost use Rattle.ip_filter.specs.Tests.{meets, frame_meets};
 ghost use Rattle.ip_filter.specs.Program.{tests_of, passes};
 ghost use Rattle.ip_filter.specs.Frames.{frame_of};
 
 use crate::facts::Facts;
 use crate::flags::Flags;
+use crate::meets::kind;
 use crate::{Filter, Test};
 use ip_dissect::{Packet, PacketStart, PacketVisitor, Visited};
 
@@ -39,6 +44,15 @@ impl Filter {
     }
 }
 
+/// How far tests of flags lead a packet.
+#[derive(Clone, Copy)]
+pub(crate) enum Reached {
+    /// Past all tests: whether it passes.
+    End(bool),
+    /// To the test with this index, which is not one of flags.
+    Next(usize),
+}
+
 /// Returns whether the packet at the start of `bytes` passes the tests. Plain packets of both versions are tested in one
 /// place: most of their flags are known at compile time.
 #[inline(always)]
@@ -47,9 +61,47 @@ pub(crate) fn run_on(tests: &[Test], bytes: &[u8]) -> bool
     ensures { result ≡ passes tests.now (λ x. meets x (dissected bytes.now)) }
 {
     match Packet::visit(bytes, &mut Tester { tests }) {
-        Visited::Plain(packet) => run(tests, Some(&Facts::of_plain(packet))),
+        Visited::Plain(packet) => run_on_plain(tests, packet),
         Visited::Slow(passed) => passed,
     }
+}
+
+/// Returns whether a plain packet passes. Tests of flags come first: they need no other part of the packet, which is then
+/// not stored.
+#[inline(always)]
+fn run_on_plain(tests: &[Test], packet: Packet<'_>) -> bool
+    requires few { length tests.now ≤ 64 }
+    requires plain { is_plain (dissected packet.bytes.now) ≡ true }
+    ensures { result ≡ passes tests.now (λ x. meets x (dissected packet.entry.bytes.now)) }
+{
+    let flags = Flags::none().of(&packet);
+    match run_flags(tests, &packet, flags) {
+        Reached::End(passed) => passed,
+        Reached::Next(next) => run_from(tests, next, Some(&Facts { packet, flags })),
+    }
+}
+
+/// Runs tests of flags on a packet without an error, up to the first test that is not one.
+#[inline(always)]
+fn run_flags(tests: &[Test], packet: &Packet<'_>, flags: Flags) -> Reached
+    requires few { length tests.now ≤ 64 }
+    requires flags { AreKnown (dissected packet.now.bytes.now) flags }
+    requires none { has_error (dissected packet.now.bytes.now).end ≡ false }
+    ensures { IsReached tests.now (λ x. meets x (dissected packet.now.bytes.now)) result }
+{
+    let mut next = 0;
+    'tests: while next < tests.len() {
+        let test = &tests[next];
+        if test.kind != kind::FLAGS {
+            return Reached::Next(next);
+        }
+        let after = index_by_flags(test, packet, flags);
+        if after <= next {
+            return Reached::End(false);
+        }
+        next = after;
+    }
+    Reached::End(next == PASSED)
 }
 
 /// A visitor that runs tests on packets that aren't plain.
@@ -79,17 +131,35 @@ impl<'a> PacketVisitor<'a> for Tester<'_> {
         let mut flags = Flags::none();
         let packet = start.walk(&mut flags);
         let flags = flags.of(&packet);
-        run_walked(self.tests, &Facts { packet, flags })
+        run_on_walked(self.tests, packet, flags)
     }
 }
 
-/// Returns whether a packet passes whose headers have been walked.
+/// Returns whether a packet passes whose headers have been walked. Without an error, tests of flags come first here, too.
+#[inline(always)]
+fn run_on_walked(tests: &[Test], packet: Packet<'_>, flags: Flags) -> bool
+    requires few { length tests.now ≤ 64 }
+    requires flags { AreKnown (dissected packet.bytes.now) flags }
+    ensures { result ≡ passes tests.now (λ x. meets x (dissected packet.entry.bytes.now)) }
+{
+    if packet.outline.has_error {
+        return run_walked(tests, 0, &Facts { packet, flags });
+    }
+    match run_flags(tests, &packet, flags) {
+        Reached::End(passed) => passed,
+        Reached::Next(next) => run_walked(tests, next, &Facts { packet, flags }),
+    }
+}
+
+/// Returns whether a packet passes whose headers have been walked, and which the tests led to the one with the index
+/// `first`.
 #[inline(never)]
-fn run_walked(tests: &[Test], facts: &Facts<'_>) -> bool
-    requires { length tests.now ≤ 64 }
+fn run_walked(tests: &[Test], first: usize, facts: &Facts<'_>) -> bool
+    requires few { length tests.now ≤ 64 }
+    requires led { IsLedTo tests.now (λ x. meets x (dissected facts.now.packet.bytes.now)) first }
     ensures { result ≡ passes tests.now (λ x. meets x (dissected facts.now.packet.bytes.now)) }
 {
-    run(tests, Some(facts))
+    run_from(tests, first, Some(facts))
 }
 
 /// Returns whether the packet passes the tests. Without a packet none is met.
@@ -98,7 +168,18 @@ fn run(tests: &[Test], packet: Option<&Facts<'_>>) -> bool
     requires { length tests.now ≤ 64 }
     ensures { result ≡ passes tests.now (frame_meets (frame_of packet.entry)) }
 {
-    let mut next = 0;
+    run_from(tests, 0, packet)
+}
+
+/// Returns whether the packet passes the tests, which led it to the one with the index `first`. Without a packet none is
+/// met.
+#[inline(always)]
+fn run_from(tests: &[Test], first: usize, packet: Option<&Facts<'_>>) -> bool
+    requires few { length tests.now ≤ 64 }
+    requires led { IsLedTo tests.now (frame_meets (frame_of packet)) first }
+    ensures { result ≡ passes tests.now (frame_meets (frame_of packet.entry)) }
+{
+    let mut next = first;
     'tests: while next < tests.len() {
         let after = index_after(&tests[next], packet);
         if after <= next {
@@ -109,7 +190,23 @@ fn run(tests: &[Test], packet: Option<&Facts<'_>>) -> bool
     next == PASSED
 }
 
-/// Returns the index of the test that the packet is led to.
+/// Returns the index of the test to which one of flags leads a packet without an error.
+#[inline(always)]
+fn index_by_flags(test: &Test, packet: &Packet<'_>, flags: Flags) -> usize
+    requires kind { test.now.kind ≡ 1 }
+    requires flags { AreKnown (dissected packet.now.bytes.now) flags }
+    requires none { has_error (dissected packet.now.bytes.now).end ≡ false }
+    ensures { result ≡ (if meets test.now (dissected packet.now.bytes.now) then test.now.if_met
+        else test.now.if_not) }
+{
+    if flags.has_one_of(test.number) {
+        usize::from(test.if_met)
+    } else {
+        usize::from(test.if_not)
+    }
+}
+
+/// Returns the index of the test to which this one leads the packet.
 #[inline(always)]
 fn index_after(test: &Test, packet: Option<&Facts<'_>>) -> usize
     ensures { result ≡ (if frame_meets (frame_of packet.entry) test.now then test.now.if_met

@@ -5,4 +5,4 @@ use Rattle.ip_filter.specs.Program.{passes}
 use Rattle.ip_filter.proofs.run.run_on.Goals as goal
 
 pub returns-in-Plain : goal.returns-in-Plain
-returns-in-Plain c = c.run.ensures ∙ ap (λ s. passes c.args.tests.now (λ x. meets x (dissected s))) (c.of_plain.ensures ∙ (c.in-Plain.ensures).1)
+returns-in-Plain c = c.run_on_plain.ensures ∙ ap (λ s. passes c.args.tests.now (λ x. meets x (dissected s))) (c.in-Plain.ensures).1

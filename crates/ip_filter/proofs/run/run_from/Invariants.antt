@@ -2,7 +2,7 @@ use Rattle.std.proofs.Common.{length, ◌-◌, ◌≡◌, drop}
 use Rattle.ip_filter.specs.Tests.{frame_meets}
 use Rattle.ip_filter.specs.Program.{led_to}
 use Rattle.ip_filter.specs.Frames.{frame_of}
-use Rattle.ip_filter.proofs.run.run.Given as goal
+use Rattle.ip_filter.proofs.run.run_from.Given as goal
 
 abbrev pub invariant-tests : goal.invariant-tests
 invariant-tests l =

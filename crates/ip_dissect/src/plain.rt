@@ -1,5 +1,5 @@
 //! Packets without extension headers.
-ghost use Rattle.std.specs.Prelude.{◌≡◌, is_some, IfSome};
+ghost use Rattle.std.specs.Prelude.{◌≡◌, ◌≤◌, length, is_some, IfSome};
 ghost use Rattle.ip_base.specs.Prefix.{IsPrefix};
 ghost use Rattle.ip_base.specs.Ipv4HeaderSlice as ipv4_header;
 ghost use Rattle.ip_base.specs.Ipv6HeaderSlice as ipv6_header;
@@ -8,8 +8,7 @@ ghost use Rattle.ip_dissect.specs.Outline.{outline_of, is_plain, plain_outline};
 
 use crate::Outline;
 use crate::fields::{ipv4_stated_len, ipv6_stated_len};
-use crate::outline::{is_too_short, missing, packet_of};
-use crate::walk::after;
+use crate::outline::is_too_short;
 use ip_base::{IpNumber, Ipv4HeaderSlice, Ipv6HeaderSlice, ip_number};
 use ip_ext_slices::is_extension;
 
@@ -43,7 +42,8 @@ pub(crate) fn ipv4_plain(base: Ipv4HeaderSlice<'_>, bytes: &[u8]) -> Option<Outl
     Some(plain_outline(4, base.slice(), ipv4_stated_len(base), number, bytes))
 }
 
-/// Outlines a packet whose payload, of this number, follows its base header.
+/// Outlines a packet whose payload, of this number, follows its base header. The stated length is at least that of the base
+/// header.
 #[inline(always)]
 fn plain_outline(
     version: u8,
@@ -52,10 +52,12 @@ fn plain_outline(
     number: IpNumber,
     bytes: &[u8],
 ) -> Outline
-    requires { IsPrefix base.now bytes.now }
+    requires prefix { IsPrefix base.now bytes.now }
+    requires whole { IfSome stated_len (λ n. length base.now ≤ n) }
     ensures { result ≡ plain_outline version base.now stated_len number bytes.now }
 {
-    let packet = packet_of(bytes, base, stated_len);
+    let stated = stated_len.unwrap_or(bytes.len());
+    let len = stated.min(bytes.len());
     Outline {
         version,
         base_len: base.len(),
@@ -63,10 +65,10 @@ fn plain_outline(
         extensions_len: 0,
         header_count: 0,
         next_header: number,
-        payload_len: after(packet, base.len()).len(),
+        payload_len: len - base.len(),
         fragment: None,
-        missing: missing(stated_len, bytes.len()),
-        padding_len: after(bytes, packet.len()).len(),
+        missing: stated - len,
+        padding_len: bytes.len() - len,
         is_later_fragment: false,
         has_error: false,
     }

@@ -4,9 +4,9 @@ use Rattle.ip_spec.specs.Numbers.{HOP_BY_HOP, ROUTING, AUTHENTICATION, DESTINATI
 use Rattle.ip_spec.specs.Fields.{auth_fields}
 use Rattle.ip_spec.specs.Chain.{ExtHeader}
 
--- An option of type n among the options in bytes b, after the first `skipped` bytes (RFC 8200, section 4.2). The option Pad1, of type
--- 0, is one byte. Any other is its type, the length of its data, and the data. One that goes past the end is malformed:
--- neither it nor anything after it is an option.
+-- An option of type n among the options in bytes b, after the first `skipped` bytes (RFC 8200, section 4.2). The option Pad1,
+-- of type 0, is one byte. Any other is its type, the length of its data, and the data. One that goes past the end is
+-- malformed: neither it nor anything after it is an option.
 unfoldable pub option_after : ℕ → ℕ → List ℕ → Bool
 option_after n skipped [] = false
 option_after n (suc k) (b ∷ bs) = option_after n k bs

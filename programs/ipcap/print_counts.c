@@ -15,11 +15,11 @@ enum { MOST_PROTOCOLS = 5 };
 struct output {
     FILE *file;
     bool json;
-    uint64_t most;           /* rows of each table */
-    uint64_t most_protocols; /* rows of the table of protocols */
-    const char *title;       /* what is before each title of a table */
-    const char *prefix;      /* what is before the name of each count and table in JSON */
-    const char *separator;   /* of members of a JSON object */
+    uint64_t most;            /* rows of each table */
+    uint64_t most_protocols;  /* rows of the table of protocols */
+    const char *before_title; /* what each title of a table begins with */
+    const char *before_name;  /* what the name of each count and table in JSON begins with */
+    const char *separator;    /* of members of a JSON object */
 };
 
 /* Writes one line of a table, or one member of a JSON object, whose name consists of a prefix and a name. */
@@ -42,9 +42,9 @@ static void write_count(struct output *output, const char *name, uint64_t count)
 static void begin_table(struct output *output, const char *title, const char *name)
 {
     if (output->json)
-        fprintf(output->file, "%s\"%s%s\":{", output->separator, output->prefix, name);
+        fprintf(output->file, "%s\"%s%s\":{", output->separator, output->before_name, name);
     else
-        fprintf(output->file, "%s%s\n", output->title, title);
+        fprintf(output->file, "%s%s\n", output->before_title, title);
     output->separator = "";
 }
 
@@ -136,9 +136,9 @@ static void begin_counts(FILE *file, const struct form *form)
 
 static void write_scalars(struct output *output, struct wolfaren_statistics *statistics)
 {
-    if (!output->json) fprintf(output->file, "%spackets\n", output->title);
+    if (!output->json) fprintf(output->file, "%spackets\n", output->before_title);
     for (size_t i = 0; i < SCALARS; i++)
-        write_named(output, output->prefix, output->json ? scalars[i].name : scalars[i].words,
+        write_named(output, output->before_name, output->json ? scalars[i].name : scalars[i].words,
                     *scalar_in(statistics, &scalars[i]));
 }
 
@@ -159,8 +159,8 @@ void print_counts(struct counts *counts, FILE *file, const struct form *form)
     struct output output = {file, form->json, most, form->json || has_top ? most : MOST_PROTOCOLS, "", "", ","};
     begin_counts(file, form);
     write_packet_counts(&output, &counts->outer);
-    output.title = "in tunnels: ";
-    output.prefix = INNER_PREFIX;
+    output.before_title = "in tunnels: ";
+    output.before_name = INNER_PREFIX;
     if (counts->has_inner) write_packet_counts(&output, &counts->inner);
     if (form->json) fputs("}\n", file);
 }

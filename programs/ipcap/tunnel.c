@@ -48,7 +48,7 @@ static bool find_in_ip(struct rest *rest, struct inner *inner)
 
 /*
  * RFC 2784 and RFC 2890: flags, version 0 and an EtherType, and then four bytes for each field that a flag announces.
- * The flags that RFC 2784 forbids, except for those of RFC 2890, are those of RFC 1701, with source routes after them.
+ * The other flags that RFC 2784 forbids are those of RFC 1701, such as that of source routes.
  */
 static bool find_in_gre(struct rest *rest, struct inner *inner)
 {

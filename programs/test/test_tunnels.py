@@ -233,10 +233,11 @@ def depths(harness):
 
     def with_chain(count):
         return lambda packet: ipv6((60 if count else 41), chain([60] * count, 41) + packet)
-    fitting = "IPv6 %s > %s" % (",".join(["60"] * 60), IN_SIX)
-    for count, text in [(60, fitting), (61, "other"), (64, "other"), (400, "other")]:
-        found, _ = harness.stat("--tunnels", content=capture([nested(with_chain(count))], RAW))
-        harness.equal(found["inner_chains"], {text: 1}, count, "headers of the outer packet")
+    for packet, text, count in [(SIX, IN_SIX, 60), (ipv6(17, UDP), "IPv6 -> 17", 62)]:
+        fitting = "IPv6 %s > %s" % (",".join(["60"] * count), text)
+        for longer, name in [(0, fitting), (1, "other"), (2, "other"), (400, "other")]:
+            found, _ = harness.stat("--tunnels", content=capture([with_chain(count + longer)(packet)], RAW))
+            harness.equal(found["inner_chains"], {name: 1}, count + longer, "headers before", text)
     for count, chains in [(62, {"IPv6 > IPv6 %s -> 41" % ",".join(["60"] * 62): 1, "other": 1}), (63, {"other": 2})]:
         found, _ = harness.stat("--tunnels", content=capture([nested(with_chain(count), six)], RAW))
         harness.equal(found["inner_chains"], chains, count, "headers in a tunnel")

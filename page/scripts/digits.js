@@ -1,8 +1,9 @@
 // Reads hexadecimal digits, with separators between them. This is the last reader: it takes any text.
 "use strict";
 Wolfaren.digits = (function () {
-    const SKIPPED = /^(?:\s+|[,;:{}[\]"'-]|\/\*[^]*?\*\/|\/\/[^\n]*|\\\r?\n|0x(?=[0-9a-f]))/i;
-    const ADDRESS = /^0x[0-9a-f]{3,}(?:[ \t]*<[^>\n]*>)?:(?=[ \t])/i;
+    const SKIPPED = /\s+|[,;:{}[\]"'-]|\/\*[^]*?\*\/|\/\/[^\n]*|\\\r?\n|0x(?=[0-9a-f])/iy;
+    const ADDRESS = /0x[0-9a-f]{3,}(?:[ \t]*<[^>\n]*>)?:(?=[ \t])/iy;
+    const DIGITS = /[0-9a-f]+/iy;
     const { note } = Wolfaren.input;
 
     function read(text) {
@@ -32,21 +33,23 @@ Wolfaren.digits = (function () {
     }
     function readBlock(text, { from, to }, unread) {
         const bytes = [];
-        for (let at = from; at < to;) at += readToken(text, at, to, bytes, unread);
+        for (let at = from; at < to;) at += readToken(text, at, bytes, unread);
         return bytes;
     }
     // Reads a separator, an address or digits. Returns the length of what was read.
-    function readToken(text, at, to, bytes, unread) {
-        const left = text.slice(at, to), isLineStart = at === 0 || text[at - 1] === "\n";
-        const address = isLineStart ? ADDRESS.exec(left) : null;
-        if (address) {
-            note(unread, at, at + address[0].length, "an address, not bytes");
-            return address[0].length;
-        }
-        const skipped = SKIPPED.exec(left), found = skipped ? null : /^[0-9a-f]+/i.exec(left);
-        if (found) pushDigits(bytes, unread, found[0], at, /0x$/i.test(text.slice(0, at)));
-        else if (!skipped) note(unread, at, at + 1, "not a hexadecimal digit");
-        return skipped ? skipped[0].length : found ? found[0].length : 1;
+    function readToken(text, at, bytes, unread) {
+        const address = at === 0 || text[at - 1] === "\n" ? lengthAt(ADDRESS, text, at) : 0;
+        if (address > 0) note(unread, at, at + address, "an address, not bytes");
+        const skipped = address || lengthAt(SKIPPED, text, at), found = skipped > 0 ? 0 : lengthAt(DIGITS, text, at);
+        if (found > 0) pushDigits(bytes, unread, text.slice(at, at + found), at, /0x$/i.test(text.slice(Math.max(0, at - 2), at)));
+        else if (skipped === 0) note(unread, at, at + 1, "not a hexadecimal digit");
+        return skipped || found || 1;
+    }
+    // Returns the length of what fits an expression at a place in the text.
+    function lengthAt(expression, text, at) {
+        expression.lastIndex = at;
+        const found = expression.exec(text);
+        return found ? found[0].length : 0;
     }
     // In a long run of digits, only an odd last one is unread. In a short run, any digit might be the missing one. After 0x,
     // one digit is a byte.

@@ -9,7 +9,7 @@ Wolfaren.dump = (function () {
 
     function read(text) {
         const lines = linesOf(text), rows = lines.filter((it) => it.kind === "row");
-        for (const it of rows) Object.assign(it, columnsOf(it.line.slice(it.head), hasMiddle(it, rows)));
+        rows.forEach((it, i) => Object.assign(it, columnsOf(it.line.slice(it.head), hasMiddle(rows, i))));
         if (!isDump(rows)) return null;
         const style = styleOf(rows);
         return style.why ? refuse(text, style.format, style.why) : readBest(text, lines, style);
@@ -41,10 +41,10 @@ Wolfaren.dump = (function () {
         return { kind: "row", offset, isMarked, hasColon, isIndented: /^\s*[0-9a-f]{8}: {2}/i.test(line), head: head.length };
     }
     // Whether two spaces may be in the middle of the 16 bytes of a row, and don't yet separate the column of text.
-    function hasMiddle(row, rows) {
-        const at = rows.indexOf(row), next = rows[at + 1] || row, former = rows[at + 1] ? row : rows[at - 1] || row;
+    function hasMiddle(rows, at) {
+        const next = rows[at + 1] || rows[at], former = rows[at + 1] ? rows[at] : rows[at - 1] || rows[at];
         const len = valueOf(next.offset, 16) - valueOf(former.offset, 16);
-        return len > 0 ? len !== 8 : !row.hasColon;
+        return len > 0 ? len !== 8 : !rows[at].hasColon;
     }
     // Splits a row into its digits and a column of text, which two or more spaces separate.
     function columnsOf(rest, isMiddleKept) {

@@ -3,6 +3,7 @@
 Wolfaren.lists = (function () {
     const GROUP = /[[{(]([^[\]{}()]*)(?:[\]})]|$)/g;
     const COMMENT = /\/\*[^]*?\*\/|\/\/[^\n]*/g;
+    const BINARY = /^0b[01]{1,8}$/i;
     const NUMBER = /^-?(?:0x[0-9a-f]+|[0-9a-f]+)(?:_?u8|u)?$/i;
     const SEVERAL = "these numbers may be decimal, octal or hexadecimal: write hexadecimal ones with 0x in front, or as two digits each without brackets";
     const { note, refuse } = Wolfaren.input;
@@ -11,7 +12,7 @@ Wolfaren.lists = (function () {
         const blank = text.replace(COMMENT, (it) => it.replace(/[^\n]/g, " "));
         const groups = [...blank.matchAll(GROUP)].map(groupOf).filter((it) => isList(it, blank));
         if (groups.length > 0) return readGroups(text, blank, groups);
-        return /^[\d\s,;]+$/.test(blank) ? readBare(text, blank) : null;
+        return /^(?:0b[01]|[\d\s,;])+$/i.test(blank) ? readBare(text, blank) : null;
     }
     function groupOf(found) {
         return { start: found.index, end: found.index + found[0].length, ...tokensOf(found[1], found.index + 1) };
@@ -40,7 +41,8 @@ Wolfaren.lists = (function () {
         return { packets: packets.filter((it) => it.length > 0), unread, format: `an array${notationText(groups)}`, leftOut };
     }
     function notationText(groups) {
-        return groups.every((it) => notationOf(it.tokens.map((token) => token.text), true) === "decimal") ? " of decimal numbers" : "";
+        const notations = new Set(groups.map((it) => notationOf(it.tokens.map((token) => token.text), true)));
+        return ["decimal", "binary"].filter((it) => notations.size === 1 && notations.has(it)).map((it) => ` of ${it} numbers`).join("");
     }
     function valuesOf(group, unread) {
         const texts = group.tokens.map((it) => it.text), notation = notationOf(texts, true), bytes = [];
@@ -48,8 +50,10 @@ Wolfaren.lists = (function () {
         else for (const it of group.tokens) pushNumber(bytes, unread, it, notation);
         return bytes;
     }
-    // Returns `prefixed` if the numbers say what they are, `decimal` or `hexadecimal` if only that is possible, else "".
+    // Returns `prefixed` or `binary` if the numbers say what they are, `decimal` or `hexadecimal` if only that is possible,
+    // else "".
     function notationOf(texts, isArray) {
+        if (texts.length > 1 && texts.every((it) => BINARY.test(it))) return "binary";
         if (texts.some((it) => /^-?0x/i.test(it))) return "prefixed";
         const isAll = (test) => texts.every((it) => test.test(it)), isSome = (test) => texts.some((it) => test.test(it));
         if (isSome(/[a-f]/i)) return isAll(/^(?:[0-9a-f]{2})+$/i) ? "hexadecimal" : "";
@@ -59,6 +63,7 @@ Wolfaren.lists = (function () {
         return areBytes && (isArray || isSome(/^\d{3}$/)) ? "decimal" : "";
     }
     function pushNumber(bytes, unread, { text, at }, notation) {
+        if (notation === "binary") return bytes.push(Number.parseInt(text.slice(2), 2));
         const digits = text.replace(/_?u8$|u$/i, ""), isPrefixed = /^0x/i.test(digits);
         const isHexadecimal = isPrefixed || notation === "hexadecimal", hex = digits.replace(/^0x/i, "");
         if (isHexadecimal && /^[0-9a-f]+$/i.test(hex) && (hex.length === 1 || hex.length % 2 === 0)) Wolfaren.digits.pushHex(bytes, hex);
@@ -69,11 +74,12 @@ Wolfaren.lists = (function () {
     function readBare(text, blank) {
         const { tokens } = tokensOf(blank, 0), texts = tokens.map((it) => it.text), bytes = [];
         const isMixed = texts.some((it) => it.length % 2 === 1) && texts.every((it) => it.length <= 3 && !/^0\d?$/.test(it.replace(/^0$/, "")));
-        const isPadded = texts.every((it) => it.length === 3);
-        if (texts.length < 2 || !(isMixed || isPadded)) return null;
-        if (notationOf(texts, false) !== "decimal") return refuse(text, "numbers", SEVERAL);
-        for (const it of tokens) pushNumber(bytes, [], it, "decimal");
-        return { packets: [bytes], unread: [], format: "decimal numbers", leftOut: [] };
+        const isPadded = texts.every((it) => it.length === 3), notation = notationOf(texts, false);
+        const isOctal = texts.some((it) => it.length % 2 === 1) && texts.some((it) => /^0\d{2,3}$/.test(it)) && texts.every((it) => /^[0-7]{1,4}$/.test(it));
+        if (texts.length < 2 || !(isMixed || isPadded || isOctal || notation === "binary")) return null;
+        if (!["decimal", "binary"].includes(notation)) return refuse(text, "numbers", SEVERAL);
+        for (const it of tokens) pushNumber(bytes, [], it, notation);
+        return { packets: [bytes], unread: [], format: `${notation} numbers`, leftOut: [] };
     }
     return { read };
 })();

@@ -58,7 +58,7 @@ Wolfaren.table = (function () {
     }
     function endText(model) {
         if (!model.fault) return "";
-        return `; then a ${model.fault.isTruncated ? "truncated header" : "fault"} at byte ${model.fault.offset}: ${model.fault.name}`;
+        return `; then a ${model.fault.isTruncated ? "truncated header" : "fault"} at byte ${model.fault.offset}`;
     }
     return { show, sentence, endWord };
 })();

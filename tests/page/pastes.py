@@ -79,7 +79,7 @@ def digit_spellings(packet):
         "digits": digits, "upper case": digits.upper(), "spaces": pairs(packet), "colons": ":".join(f"{it:02x}" for it in packet),
         "0x in front": f"0x{digits}", "words": " ".join(f"0x{digits[i:i + 8]}" for i in range(0, len(digits), 8)),
         "xxd -p": "\n".join(digits[i:i + 60] for i in range(0, len(digits), 60)), "unpadded 0x": ", ".join(hex(it) for it in packet),
-        "decimal numbers": " ".join(str(it) for it in packet),
+        "decimal numbers": " ".join(str(it) for it in packet), "binary numbers": ", ".join(f"0b{it:08b}" for it in packet),
     }
 
 
@@ -107,7 +107,7 @@ def code_spellings(packet):
         "Python's fromhex": f'packet = bytes.fromhex("{packet.hex()}")',
         "C array": f"/* Frame (60 bytes) */\nstatic const unsigned char pkt60[60] = {{\n{array} /* end */\n}};\n",
         "C array without its end": f"unsigned char packet[] = {{ {array}", "Rust array": f"let packet: [u8; 60] = [{array}];",
-        "decimal list": str(list(packet)), "signed bytes": str([it - 256 if it > 127 else it for it in packet]),
+        "decimal list": str(list(packet)), "binary list": str([bin(it) for it in packet]).replace("'", ""), "signed bytes": str([it - 256 if it > 127 else it for it in packet]),
     }
 
 
@@ -168,6 +168,8 @@ REFUSED = [
     ("words with offsets that may be octal", "0000000" + " 0060" * 8 + "\n*\n0000040\n", "", "offsets may be octal or hexadecimal", None),
     ("base32", "GAYTEMZUGU3DOOBZMFRGGZDF", "3ddf", "not a hexadecimal digit", None),
     ("numbers below 100", "96 0 0 0 0 20 60 64", "", SEVERAL, None),
+    ("octal numbers", "0140, 0, 0, 0, 0, 024", "", SEVERAL, None),
+    ("octal numbers in an array", "{0140, 0, 0, 024}", "", SEVERAL, None),
     ("numbers of three digits", "140 000 000 000", "", SEVERAL, None),
     ("an array of two digits each", "{60, 10, 20, 14}", "", SEVERAL, None),
     ("an octal number in an array", "{0x60, 0, 010, 20}", "600014", "not a byte", ["010"]),

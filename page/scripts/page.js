@@ -218,9 +218,11 @@ Wolfaren.page = (function () {
         tell(list(found.map((bytes) => ({ bytes }))));
         Wolfaren.packets.choose(Math.min(index, packets.length - 1));
     }
+    // Shows the packet of the link. If it is drawn already, all stays as it is, such as the list of a capture.
     function takeLink() {
         const found = LINK.exec(location.hash);
         if (!found) return false;
+        if (model && location.hash === linkTo(model)) return true;
         at("kind").value = kindOfLink(found);
         if (found[2] !== undefined) at("first").value = found[2];
         at("places").checked = found[3] !== undefined;

@@ -30,7 +30,7 @@ Wolfaren.picture = (function () {
         const kept = new Set([last]);
         for (const part of model.parts) {
             const from = Math.floor(part.offset / line), to = Math.floor((part.offset + part.len - 1) / line);
-            const most = part.isRest || part.isMissing || part.style === "beyond" ? SHOWN_OF_REST : SHOWN_OF_PART;
+            const most = part.isMissing ? 0 : part.isRest || part.style === "beyond" ? SHOWN_OF_REST : SHOWN_OF_PART;
             for (let at = from; at <= Math.min(to, from + most); at++) kept.add(at);
             kept.add(to);
         }

@@ -79,7 +79,14 @@
         at("told").hidden = true;
         dispatchEvent(new DragEvent("drop", { dataTransfer: transfer, cancelable: true }));
         await until(() => at("packet-list").children.length > 0 || !at("told").hidden);
-        return it.keys ? chosenBy(it.keys) : each();
+        return it.keys ? chosenBy(it.keys) : it.link ? followOwn() : each();
+    }
+    // Follows the page's link to the packet that is drawn.
+    async function followOwn() {
+        const isFollowed = new Promise((done) => addEventListener("hashchange", () => setTimeout(done, 5), { once: true }));
+        at("link").click();
+        await isFollowed;
+        return answer();
     }
     // Returns the index of the packet that is chosen after each key, and how many elements of the list the Tab key stops at.
     function chosenBy(names) {

@@ -19,16 +19,17 @@ FRAMES = [
     (0, "loopback", f"0a000000{PACKET}"), (108, "loopback", f"0000001e{PACKET}"), (9, "ppp", f"ff030057{PACKET}"),
     (9, "ppp", f"21{OTHER}"), (101, "packet", PACKET), (12, "packet", OTHER), (229, "packet", PACKET),
 ]
-# Frames without an IP packet: the link type, the frame, and what the page says.
+# Frames without an IP packet: the link type, the frame, the length of its headers, and what the page says.
 OTHERS = [
-    (1, f"{ETHERNET}0806{ARP}", "A frame of 42 bytes: Ethernet, EtherType 0x0806 (ARP), not IP."),
-    (1, f"{ETHERNET}{VLAN}0806{ARP}", "A frame of 46 bytes: Ethernet, EtherType 0x0806 (ARP), not IP."),
-    (1, f"{ETHERNET}0026424203" + "00" * 35, "A frame of 52 bytes: Ethernet, LLC 0x42, not IP."),
-    (113, f"{COOKED}0806{ARP}", "A frame of 44 bytes: Linux cooked, EtherType 0x0806 (ARP), not IP."),
-    (113, f"{COOKED}{VLAN}0806{ARP}", "A frame of 48 bytes: Linux cooked, EtherType 0x0806 (ARP), not IP."),
-    (276, f"0806000000000002000100060001020304050000{ARP}", "A frame of 48 bytes: Linux cooked, EtherType 0x0806 (ARP), not IP."),
-    (0, "07000000" + "00" * 20, "A frame of 24 bytes: loopback, family 7, not IP."),
-    (9, "c0210101000a", "A frame of 6 bytes: PPP, PPP 0xc021, not IP."),
+    (1, f"{ETHERNET}0806{ARP}", 14, "A frame of 42 bytes: Ethernet, EtherType 0x0806 (ARP), not IP."),
+    (1, f"{ETHERNET}{VLAN}0806{ARP}", 18, "A frame of 46 bytes: Ethernet, EtherType 0x0806 (ARP), not IP."),
+    (1, f"{ETHERNET}0026424203" + "00" * 35, 14, "A frame of 52 bytes: Ethernet, LLC 0x42, not IP."),
+    (113, f"{COOKED}0806{ARP}", 16, "A frame of 44 bytes: Linux cooked, EtherType 0x0806 (ARP), not IP."),
+    (113, f"{COOKED}{VLAN}0806{ARP}", 20, "A frame of 48 bytes: Linux cooked, EtherType 0x0806 (ARP), not IP."),
+    (276, f"0806000000000002000100060001020304050000{ARP}", 20,
+     "A frame of 48 bytes: Linux cooked, EtherType 0x0806 (ARP), not IP."),
+    (0, "07000000" + "00" * 20, 4, "A frame of 24 bytes: loopback, family 7, not IP."),
+    (9, "c0210101000a", 2, "A frame of 6 bytes: PPP, PPP 0xc021, not IP."),
 ]
 
 

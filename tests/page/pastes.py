@@ -182,6 +182,7 @@ REFUSED = [
     ("a letter that isn't ASCII", 'b"\\x60é"', "60", "not an ASCII character", ["é"]),
     ("an octal escape above 255", r'"\x60\777"', "60", "an octal number above 377", ["\\777"]),
     ("digits outside the quotes", r'6000 "\x60"', "60", "outside the quotes", ["6000"]),
+    ("letters outside the quotes that may be digits", r'deadbeef "\x60"', "60", "outside the quotes", ["deadbeef"]),
     ("digits outside the list", "6000 {0x60, 0x00}", "6000", "outside the list", ["6000"]),
     ("an address of a debugger", "0x7fff0000:\t0x60\t0x00", "6000", "an address, not bytes", ["0x7fff0000:"]),
     ("a row that is missing", "00000000  60 00\n00000004  01 02\n", "6000", "offset 00000004, where 00000002 was expected", ["00000004  01 02"]),

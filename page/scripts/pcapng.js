@@ -51,12 +51,12 @@ Wolfaren.pcapng = (function () {
         return file.view.getUint16(at, file.isLittle);
     }
     function takeInterface(file, at, len) {
-        const found = { link: half(file, at + 8), snapLen: word(file, at + 12), digits: 6, perSecond: 1000000n, offset: 0n };
+        const found = { link: half(file, at + 8), snapLen: word(file, at + 12), perSecond: 1000000n, offset: 0n };
         const end = at + len - TRAILER;
         for (let option = at + 16; option + 4 <= end && half(file, option) !== 0;) {
             const code = half(file, option), size = half(file, option + 2);
             if (option + 4 + size > end) return "has an option that is longer than the block";
-            if (code === RESOLUTION && size === 1) readResolution(found, file.view.getUint8(option + 4));
+            if (code === RESOLUTION && size === 1) found.perSecond = resolutionOf(file.view.getUint8(option + 4));
             if (code === TIME_OFFSET && size === 8) found.offset = file.view.getBigInt64(option + 4, file.isLittle);
             option += 4 + Math.ceil(size / 4) * 4;
         }
@@ -64,9 +64,8 @@ Wolfaren.pcapng = (function () {
         return "";
     }
     // Reads a power of 10, or of 2 if the first bit is set.
-    function readResolution(found, value) {
-        found.perSecond = (value & 0x80 ? 2n : 10n) ** BigInt(value & 0x7f);
-        found.digits = found.perSecond > 1000000n ? 9 : 6;
+    function resolutionOf(value) {
+        return (value & 0x80 ? 2n : 10n) ** BigInt(value & 0x7f);
     }
     function takePacket(file, at, len, index) {
         const captured = word(file, at + 20), wire = word(file, at + 24), by = file.interfaces[index];
@@ -77,8 +76,8 @@ Wolfaren.pcapng = (function () {
         return "";
     }
     function timeOf(by, units) {
-        const finer = (by.offset * by.perSecond + units) * 10n ** BigInt(by.digits) / by.perSecond;
-        return Wolfaren.capture.timeText(finer, by.digits);
+        const nanoseconds = (by.offset * by.perSecond + units) * 1000000000n / by.perSecond;
+        return Wolfaren.capture.timeText(nanoseconds, 9);
     }
     // A simple packet is of the first interface, and has no time.
     function takeSimple(file, at, len) {

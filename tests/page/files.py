@@ -63,7 +63,7 @@ def packet_block(order, index, units, frame, wire=None):
 
 
 def obsolete_block(order, index, units, frame):
-    return block(order, 2, struct.pack(f"{order}HHIIII", index, 0, units >> 32, units & 0xffffffff, len(frame), len(frame)) + frame)
+    return block(order, 2, struct.pack(f"{order}HHIIII", index, 7, units >> 32, units & 0xffffffff, len(frame), len(frame)) + frame)
 
 
 def simple_block(order, frame, wire):
@@ -81,17 +81,17 @@ def pcapng(order):
     return (section(order) + interface(order, 1) + interface(order, 101, nanoseconds) + interface(order, 105, binary)
             + block(order, 5, bytes(20)) + packet_block(order, 0, 5000250, frame) + packet_block(order, 1, 2000250000, packet)
             + packet_block(order, 2, 5120, b"\x80\x00") + obsolete_block(order, 0, 5000250, frame) + simple_block(order, frame, len(frame))
-            + section(order) + interface(order, 101, b"", 48) + simple_block(order, packet[:48], len(packet)))
+            + section(order) + interface(order, 101, b"", 46) + simple_block(order, packet[:46], len(packet)))
 
 
 # What the page lists of that file.
 IN_PCAPNG = [
-    "packet 1: 1970-01-01T00:00:05.000250Z, 2001:db8::1 > 2001:db8::2, 74 bytes, IP at 14: IPv6 60,44 -> 17",
+    "packet 1: 1970-01-01T00:00:05.000250000Z, 2001:db8::1 > 2001:db8::2, 74 bytes, IP at 14: IPv6 60,44 -> 17",
     "packet 2: 1970-01-01T00:00:05.000250000Z, 2001:db8::1 > 2001:db8::2, 60 bytes, IP at 0: IPv6 60,44 -> 17",
-    "packet 3: 1970-01-01T00:00:05.000000Z, 2 bytes, link type 105 isn't supported",
-    "packet 4: 1970-01-01T00:00:05.000250Z, 2001:db8::1 > 2001:db8::2, 74 bytes, IP at 14: IPv6 60,44 -> 17",
+    "packet 3: 1970-01-01T00:00:05.000000000Z, 2 bytes, link type 105 isn't supported",
+    "packet 4: 1970-01-01T00:00:05.000250000Z, 2001:db8::1 > 2001:db8::2, 74 bytes, IP at 14: IPv6 60,44 -> 17",
     "packet 5: no time, 2001:db8::1 > 2001:db8::2, 74 bytes, IP at 14: IPv6 60,44 -> 17",
-    "packet 6: no time, 2001:db8::1 > 2001:db8::2, 48 of 60 bytes, IP at 0: IPv6 60 -> 44 truncated",
+    "packet 6: no time, 2001:db8::1 > 2001:db8::2, 46 of 60 bytes, IP at 0: IPv6 -> 60 truncated",
 ]
 
 # Files that are damaged, with words of the message.

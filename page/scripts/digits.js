@@ -13,8 +13,8 @@ Wolfaren.digits = (function () {
     }
     // A blank line separates packets, and so does each line if it has a whole packet.
     function packetsOf(blocks, lines) {
-        if (lines.length > 1 && lines.every(Wolfaren.kind.isWhole)) return lines;
-        return Wolfaren.kind.isWhole(blocks.flat()) ? [blocks.flat()] : blocks;
+        if (lines.length > 1 && lines.every(Wolfaren.kind.isComplete)) return lines;
+        return blocks.length > 1 && Wolfaren.kind.isComplete(blocks.flat()) ? [blocks.flat()] : blocks;
     }
     function ranges(text, separator) {
         const found = [];

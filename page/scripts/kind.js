@@ -6,7 +6,7 @@ Wolfaren.kind = (function () {
     const MAGICS = ["a1b2c3d4", "d4c3b2a1", "a1b23c4d", "4d3cb2a1", "0a0d0d0a"];
     // EtherTypes of frames without an IP packet: ARP, MPLS, PPPoE, LLDP and others.
     const OTHER_TYPES = [0x0806, 0x8035, 0x8847, 0x8848, 0x8863, 0x8864, 0x88cc, 0x888e, 0x88f7];
-    const LEAST_CAPTURE = 24, LEAST_FRAME = 14, MOST_FRAME_LEN = 1500;
+    const LEAST_CAPTURE = 24, LEAST_FRAME = 14, LEAST_PADDED = 60, MOST_FRAME_LEN = 1500;
 
     // Returns { kind, why }. `why` is empty if nothing was recognized: then the kind is `packet`.
     function find(bytes) {
@@ -33,6 +33,12 @@ Wolfaren.kind = (function () {
     function isWhole(bytes) {
         return bytes.length >= 20 && statedLen(bytes) === bytes.length;
     }
+    // Returns whether the bytes are a whole IP packet, or an Ethernet frame with one, which may be padded to the least length.
+    function isComplete(bytes) {
+        const frame = Wolfaren.link.find("ethernet", Uint8Array.from(bytes)), packet = bytes.slice(frame.offset);
+        const isPadded = bytes.length === LEAST_PADDED && statedLen(packet) > 0 && statedLen(packet) < packet.length;
+        return isWhole(bytes) || (frame.isIp && (isWhole(packet) || isPadded));
+    }
     function carriesIp(kind, bytes) {
         const found = Wolfaren.link.find(kind, bytes);
         return found.isIp && isPlausible(kind, bytes) && statedLen(bytes.slice(found.offset)) !== null;
@@ -47,5 +53,5 @@ Wolfaren.kind = (function () {
         const type = half(bytes, 12), isLlc = type >= 3 && type <= MOST_FRAME_LEN && type + LEAST_FRAME <= bytes.length && bytes[0] % 2 === 1;
         return OTHER_TYPES.includes(type) || [0x8100, 0x88a8].includes(type) || isLlc;
     }
-    return { NAMES, find, isWhole };
+    return { NAMES, find, isComplete };
 })();

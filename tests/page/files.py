@@ -2,28 +2,27 @@
 
 import struct
 
-from pastes import OTHER, PACKET
+from pastes import HEADER, OTHER, PACKET
 
 # An IPv6 header with the payload length and the next header, before the payload.
 IPV6 = "20010db8000000000000000000000001" "20010db8000000000000000000000002"
-ETHERNET = "00010203040500060708090a"
 VLAN = "81000064"
 ARP = "0001080006040001" + "00" * 20
 COOKED = "0000000100060001020304050000"
 # Frames of each supported kind around an IPv6 packet, with the link type and the page's kind.
 FRAMES = [
-    (1, "ethernet", f"{ETHERNET}86dd{PACKET}"), (1, "ethernet", f"{ETHERNET}{VLAN}88a80064910000650800{OTHER}"),
-    (1, "ethernet", f"{ETHERNET}0044aaaa0300000086dd{PACKET}"), (1, "ethernet", f"{ETHERNET}88470001404000018140{OTHER}"),
-    (1, "ethernet", f"{ETHERNET}88641100000100420057{PACKET}"), (113, "cooked", f"{COOKED}86dd{PACKET}"),
+    (1, "ethernet", f"{HEADER}86dd{PACKET}"), (1, "ethernet", f"{HEADER}{VLAN}88a80064910000650800{OTHER}"),
+    (1, "ethernet", f"{HEADER}0044aaaa0300000086dd{PACKET}"), (1, "ethernet", f"{HEADER}88470001404000018140{OTHER}"),
+    (1, "ethernet", f"{HEADER}88641100000100420057{PACKET}"), (113, "cooked", f"{COOKED}86dd{PACKET}"),
     (113, "cooked", f"{COOKED}{VLAN}86dd{PACKET}"), (276, "cooked2", f"86dd000000000002000100060001020304050000{PACKET}"),
     (0, "loopback", f"0a000000{PACKET}"), (108, "loopback", f"0000001e{PACKET}"), (9, "ppp", f"ff030057{PACKET}"),
     (9, "ppp", f"21{OTHER}"), (101, "packet", PACKET), (12, "packet", OTHER), (229, "packet", PACKET),
 ]
 # Frames without an IP packet: the link type, the frame, the length of its headers, and what the page says.
 OTHERS = [
-    (1, f"{ETHERNET}0806{ARP}", 14, "A frame of 42 bytes: Ethernet, EtherType 0x0806 (ARP), not IP."),
-    (1, f"{ETHERNET}{VLAN}0806{ARP}", 18, "A frame of 46 bytes: Ethernet, EtherType 0x0806 (ARP), not IP."),
-    (1, f"{ETHERNET}0026424203" + "00" * 35, 14, "A frame of 52 bytes: Ethernet, LLC 0x42, not IP."),
+    (1, f"{HEADER}0806{ARP}", 14, "A frame of 42 bytes: Ethernet, EtherType 0x0806 (ARP), not IP."),
+    (1, f"{HEADER}{VLAN}0806{ARP}", 18, "A frame of 46 bytes: Ethernet, EtherType 0x0806 (ARP), not IP."),
+    (1, f"{HEADER}0026424203" + "00" * 35, 14, "A frame of 52 bytes: Ethernet, LLC 0x42, not IP."),
     (113, f"{COOKED}0806{ARP}", 16, "A frame of 44 bytes: Linux cooked, EtherType 0x0806 (ARP), not IP."),
     (113, f"{COOKED}{VLAN}0806{ARP}", 20, "A frame of 48 bytes: Linux cooked, EtherType 0x0806 (ARP), not IP."),
     (276, f"0806000000000002000100060001020304050000{ARP}", 20,
@@ -75,7 +74,7 @@ def pcapng(order):
 
     Times are 5.00025 seconds, in microseconds, nanoseconds after an offset of 3 seconds, and units of 1/1024 seconds.
     """
-    packet, frame = bytes.fromhex(PACKET), bytes.fromhex(f"{ETHERNET}86dd{PACKET}")
+    packet, frame = bytes.fromhex(PACKET), bytes.fromhex(f"{HEADER}86dd{PACKET}")
     nanoseconds = option(order, 9, b"\x09") + option(order, 14, struct.pack(f"{order}q", 3)) + struct.pack(f"{order}HH", 0, 0)
     binary = option(order, 2, b"eth0") + option(order, 9, b"\x8a")
     return (section(order) + interface(order, 1) + interface(order, 101, nanoseconds) + interface(order, 105, binary)

@@ -7,6 +7,8 @@ import struct
 PACKET = "6000000000143c4020010db800000000000000000000000120010db80000000000000000000000022c000104000000001100000000000007deadbeef"
 # An IPv4 packet of 32 bytes.
 OTHER = "450000200001000040110000c0000201c0000202" "003500350008000001020304"
+# An Ethernet header without its EtherType.
+HEADER = "00010203040500060708090a"
 # A packet of 120 bytes, whose payload has the characters that Python escapes, and printable ones.
 PRINTABLE = bytes.fromhex("60000000005011400a0a") + bytes(30) + bytes(range(0x20, 0x5f)) + b"\\\\'\"\n\r\t\x00\x7f\xff: abc12"
 # 64 bytes, of which three rows are equal.
@@ -153,6 +155,8 @@ READ = [
     ("two packets with a blank line between", f"{PACKET}\n\n{OTHER}", [PACKET, OTHER], "in 2 packets"),
     ("a packet with a blank line in it", f"{PACKET[:40]}\n\n{PACKET[40:]}", [PACKET], "60 bytes."),
     ("a packet per line", f"{PACKET}\n{OTHER}\n{PACKET}\n", [PACKET, OTHER, PACKET], "in 3 packets"),
+    ("a frame per line, of which one is padded", f"{HEADER}86dd{PACKET}\n{HEADER}0800{OTHER}{'00' * 14}",
+     [f"{HEADER}86dd{PACKET}", f"{HEADER}0800{OTHER}{'00' * 14}"], "in 2 packets"),
     ("base64 per line", "\n".join(base64.b64encode(bytes.fromhex(it)).decode() for it in (OTHER, PACKET)), [OTHER, PACKET],
      "base64: 92 bytes in 2 packets"),
 ]

@@ -48,19 +48,15 @@ number_up_to most w = limited most (number_of w)
 abbrev pub version_of : Word → Option ℕ
 version_of w = if bytes_eq w (codes "4") then Some 4 else if bytes_eq w (codes "6") then Some 6 else None
 
--- an extension header, by its name or the short form of it
-abbrev pub header_named : Word → Option ℕ
-header_named w =
+-- an extension header, by its name, the short form of that, or its number
+abbrev pub header_of : Word → Option ℕ
+header_of w =
     if bytes_eq w (codes "hop-by-hop") || bytes_eq w (codes "hopopt") then Some 0
     else if bytes_eq w (codes "routing") || bytes_eq w (codes "route") then Some 43
     else if bytes_eq w (codes "fragment") || bytes_eq w (codes "frag") then Some 44
     else if bytes_eq w (codes "authentication") || bytes_eq w (codes "ah") then Some 51
     else if bytes_eq w (codes "destination-options") || bytes_eq w (codes "dstopts") then Some 60
-    else None
-
--- an extension header, by its name or number
-abbrev pub header_of : Word → Option ℕ
-header_of w = option_or (header_named w) (number_up_to 255 w)
+    else number_up_to 255 w
 
 -- an upper-layer protocol, or no next header, by its name
 abbrev pub upper_layer_of : Word → Option ℕ

@@ -46,7 +46,19 @@ compared x q p =
 abbrev pub is_in_range : Test → Option ℕ → Bool
 is_in_range x n = option_map_or (λ m. nat_le x.number m && nat_le m x.address_low) n false
 
--- The packet with the parts p meets the test. It meets none with another kind.
+-- The packet with the parts p meets a test of the first bytes of its payload. It meets none with another kind.
+abbrev pub meets_in_payload : Test → DissectedParts → Bool
+meets_in_payload x p =
+    if x.kind == 16 then is_in_range x (source_port p)
+    else if x.kind == 17 then is_in_range x (destination_port p)
+    else if x.kind == 18 then is_in_range x (source_port p) || is_in_range x (destination_port p)
+    else if x.kind == 19 then lacks_ports p
+    else if x.kind == 20 then option_map_or (λ n. n == x.number) (icmp_byte 0 p) false
+    else if x.kind == 21 then option_map_or (λ n. n == x.number) (icmp_byte 1 p) false
+    else if x.kind == 22 then option_map_or (λ n. bit_and n x.address_low == x.number) (tcp_flags p) false
+    else false
+
+-- The packet with the parts p meets the test.
 abbrev pub meets : Test → DissectedParts → Bool
 meets x p =
     if x.kind == 1 then any_flag 64 x.number p
@@ -64,17 +76,10 @@ meets x p =
     else if x.kind == 13 then compared x Dscp p
     else if x.kind == 14 then compared x Ecn p
     else if x.kind == 15 then compared x FlowLabel p
-    else if x.kind == 16 then is_in_range x (source_port p)
-    else if x.kind == 17 then is_in_range x (destination_port p)
-    else if x.kind == 18 then is_in_range x (source_port p) || is_in_range x (destination_port p)
-    else if x.kind == 19 then lacks_ports p
-    else if x.kind == 20 then option_map_or (λ n. n == x.number) (icmp_byte 0 p) false
-    else if x.kind == 21 then option_map_or (λ n. n == x.number) (icmp_byte 1 p) false
-    else if x.kind == 22 then option_map_or (λ n. bit_and n x.address_low == x.number) (tcp_flags p) false
     else if x.kind == 23 then list_any (has_routing_type x.number) p.headers
     else if x.kind == 24 then option_map_or (λ c. list_any (has_segments_left (λ n. compares c n x.number)) p.headers) (comparison_in x.comparison) false
     else if x.kind == 25 then list_any (has_option x.number) p.headers
-    else false
+    else meets_in_payload x p
 
 -- a frame meets the test: the packet at the start of its bytes does, and a frame that is not IP meets none
 abbrev pub frame_meets : Option (List ℕ) → Test → Bool

@@ -2,7 +2,7 @@
 ghost use Rattle.std.specs.Prelude.{◌≡◌, ◌==◌, bit_and, false};
 ghost use Rattle.std.specs.Option.{option_map_or};
 ghost use Rattle.ip_dissect.specs.Dissection.{dissected};
-ghost use Rattle.ip_filter.specs.Tests.{comparison_in, network_in, compared, is_in_range, meets};
+ghost use Rattle.ip_filter.specs.Tests.{comparison_in, network_in, compared, is_in_range, meets, meets_in_payload};
 
 use crate::facts::Facts;
 use crate::header_condition::HeaderCondition;
@@ -106,6 +106,16 @@ impl Test {
                 Some(network) => facts.has_source(network) || facts.has_destination(network),
                 None => false,
             },
+            _ => self.is_met_in_payload(facts),
+        }
+    }
+
+    /// Returns whether the first bytes of the packet's payload meet the test.
+    #[inline(always)]
+    fn is_met_in_payload(&self, facts: &Facts<'_>) -> bool
+        ensures { result ≡ meets_in_payload self.now (dissected facts.now.packet.bytes.now) }
+    {
+        match self.kind {
             kind::SOURCE_PORT => self.has_in_range(facts.port_at(SOURCE_PORT)),
             kind::DESTINATION_PORT => self.has_in_range(facts.port_at(DESTINATION_PORT)),
             kind::PORT => {

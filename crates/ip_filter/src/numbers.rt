@@ -1,6 +1,6 @@
 //! Numbers, names and ports, as a filter's text writes them.
 ghost use Rattle.std.specs.Prelude.{◌≡◌, ◌≤◌, ◌-◌, ◌^◌, length, true};
-ghost use Rattle.ip_filter.specs.Numbers.{numeral, limited, number_up_to, version_of, header_named, header_of, upper_layer_of, protocol_of, ports_of, comparison_of, fault_kind_of, index_of};
+ghost use Rattle.ip_filter.specs.Numbers.{numeral, limited, number_up_to, version_of, header_of, upper_layer_of, protocol_of, ports_of, comparison_of, fault_kind_of, index_of};
 
 use crate::{Comparison, FaultKind, Ports};
 
@@ -49,9 +49,9 @@ pub(crate) fn parse_version(word: &[u8]) -> Option<u8>
     None
 }
 
-/// Returns the number of the extension header that the word names.
-fn header_named(word: &[u8]) -> Option<u8>
-    ensures { result ≡ header_named word.now }
+/// Returns the number of the extension header that the word names, or the number that it writes.
+pub(crate) fn parse_header(word: &[u8]) -> Option<u8>
+    ensures { result ≡ header_of word.now }
 {
     if word == b"hop-by-hop".as_slice() || word == b"hopopt".as_slice() {
         return Some(0);
@@ -67,16 +67,6 @@ fn header_named(word: &[u8]) -> Option<u8>
     }
     if word == b"destination-options".as_slice() || word == b"dstopts".as_slice() {
         return Some(60);
-    }
-    None
-}
-
-/// Returns the number of the extension header that the word names, or the number that it writes.
-pub(crate) fn parse_header(word: &[u8]) -> Option<u8>
-    ensures { result ≡ header_of word.now }
-{
-    if let Some(number) = header_named(word) {
-        return Some(number);
     }
     match parse_number(word, 255) {
         Some(number) => Some(number as u8),

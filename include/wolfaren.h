@@ -677,8 +677,8 @@ struct wolfaren_filter_error {
  *   src port P, dst port P, port P       P is a port or a range such as 1024-65535
  *   no-transport                         the payload should start with ports, but is too short for both
  *   icmp-type N, icmp-code N             the type and the code of an ICMP or ICMPv6 message
- *   tcp-flags LIST, tcp-flags LIST/LIST  these flags of TCP are set; of those after the slash, exactly these. LIST is a flag
- *                                        or several with commas between: fin, syn, rst, psh, ack, urg, ece, cwr
+ *   tcp-flags LIST, tcp-flags LIST/LIST  these flags of TCP are set; of those after the slash, exactly these. LIST is a
+ *                                        flag or several with commas between: fin, syn, rst, psh, ack, urg, ece, cwr
  *
  * TCP, UDP, UDP-Lite, SCTP and DCCP have ports. Ports, types, codes and flags of TCP are read from the payload, so extension
  * headers may precede them. A later fragment has none, nor has a packet with an error or a truncated header. The terms about

@@ -1,14 +1,12 @@
 //! The plain evaluation over the parts of a packet.
 use super::{Comparison, FaultKind, Formula, Network, Ports, Quantity, Term};
-use crate::dissections::{Dissected, End};
+use crate::dissections::{fragment_of, Dissected, End, Fragment};
 use etherparse::err::{ip, ipv6_exts};
 
 /// Hop-by-hop options and destination options.
 const OPTIONS: [u8; 2] = [0, 60];
 
 const ROUTING: u8 = 43;
-
-const FRAGMENT: u8 = 44;
 
 const AUTH: u8 = 51;
 
@@ -40,9 +38,9 @@ fn is_met(term: &Term, packet: &Dissected<'_>) -> bool {
             .iter()
             .any(|(it, _)| u64::from(*it) == *number),
         Term::LeadsTo(number) => has_base && u64::from(packet.number) == *number,
-        Term::Fragment => has_fragment(packet, |offset, has_more, _| has_more || offset != 0),
-        Term::FirstFragment => has_fragment(packet, |offset, has_more, _| has_more && offset == 0),
-        Term::LaterFragment => has_fragment(packet, |offset, _, _| offset != 0),
+        Term::Fragment => has_fragment(packet, |it| it.has_more || it.offset != 0),
+        Term::FirstFragment => has_fragment(packet, |it| it.has_more && it.offset == 0),
+        Term::LaterFragment => has_fragment(packet, |it| it.offset != 0),
         Term::Truncated => matches!(packet.end, End::Truncated(..)),
         Term::Incomplete => packet.missing > 0,
         Term::Fault(kind) => match &packet.end {
@@ -68,7 +66,7 @@ fn is_met(term: &Term, packet: &Dissected<'_>) -> bool {
             .headers
             .iter()
             .any(|(it, bytes)| *it == ROUTING && compares(bytes[3].into(), comparison)),
-        Term::Id(number) => has_fragment(packet, |_, _, id| id == *number),
+        Term::Id(number) => has_fragment(packet, |it| u64::from(it.identification) == *number),
         Term::Source(network) => lies_in(source(packet), network),
         Term::Destination(network) => lies_in(destination(packet), network),
         Term::Either(network) => {
@@ -102,27 +100,17 @@ fn has_option(options: &[u8], number: u64) -> bool {
     }
 }
 
-/// Returns whether the offset, the more-fragments flag and the identification of a fragment header are so; for IPv4 those of
-/// the base header of a fragment.
-fn has_fragment(packet: &Dissected<'_>, holds: impl Fn(u64, bool, u64) -> bool) -> bool {
+/// Returns whether this is true of what one of the fragment headers says, or the base header of an IPv4 fragment.
+fn has_fragment(packet: &Dissected<'_>, holds: impl Fn(&Fragment) -> bool) -> bool {
     if packet.version == 4 {
-        return packet
-            .fragment
-            .is_some_and(|it| holds(it.offset.into(), it.has_more, it.identification.into()));
-    }
-    let number = |bytes: &[u8]| {
-        bytes
+        packet.fragment.is_some_and(|it| holds(&it))
+    } else {
+        packet
+            .headers
             .iter()
-            .fold(0, |sum, byte| sum << 8 | u64::from(*byte))
-    };
-    packet.headers.iter().any(|(it, bytes)| {
-        *it == FRAGMENT
-            && holds(
-                number(&bytes[2..4]) >> 3,
-                bytes[3] & 1 == 1,
-                number(&bytes[4..8]),
-            )
-    })
+            .filter_map(fragment_of)
+            .any(|it| holds(&it))
+    }
 }
 
 /// Returns a number of the packet, if it has this one.

@@ -14,6 +14,7 @@ Wolfaren.examples = (function () {
     ];
 
     function show(list) {
+        list.closest("nav").hidden = false;
         list.replaceChildren(...ALL.map(([title, link]) => {
             const item = document.createElement("li"), made = Object.assign(document.createElement("a"), { href: `#${link}` });
             made.append(stripOf(link), title);

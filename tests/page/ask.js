@@ -122,7 +122,7 @@
         const links = Array.from(at("examples").querySelectorAll("a"), (it) => it.getAttribute("href")), found = [];
         for (const it of links) found.push([it, (await follow(it)).summary]);
         const box = at("drop").getBoundingClientRect();
-        return { found, drop: box.width > 200 && box.height > 30 && at("drop").textContent.includes("Drop") };
+        return { found, isShown: at("examples").getBoundingClientRect().height > 100, drop: box.width > 200 && box.height > 30 && at("drop").textContent.includes("Drop") };
     }
     // Returns what is cut or too small: texts that leave the window or their picture, and letters below 11 pixels.
     function size() {

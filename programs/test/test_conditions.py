@@ -20,6 +20,8 @@ CLASSES = [0, 0x03, 0xb8, 0xbb]
 TYPES = {1: [0, 8], ICMP6: [128, 129]}
 
 ROUTING_TYPES, SEGMENTS = [253, 254], [0, 1, 3]
+# Contents of headers with options: padding of several bytes, of one, a router alert (RFC 2711), an experiment (RFC 4727).
+OPTIONS = [b"\1\4" + bytes(4), b"\0\0\1\2" + bytes(2), b"\5\2\0\0\1\0", b"\x1e\4" + bytes(4)]
 TCP_FLAGS = {"fin": "fin", "syn": "syn", "rst": "reset", "psh": "push", "ack": "ack", "urg": "urg", "ece": "ece", "cwr": "cwr"}
 
 CHAINS = [(), (0,), (43,), (60,), (51,), (44,), (0, 60), (0, 43, 44), (60, 43, 60), (43, 51), (0, 44, 60)]
@@ -80,6 +82,8 @@ def random_ipv4(draw, numbers, is_plain):
 def random_header(draw, number, following):
     if number == 43:
         return bytes([following, 0, draw.choice(ROUTING_TYPES), draw.choice(SEGMENTS)]) + bytes(4)
+    if number in [0, 60]:
+        return bytes([following, 0]) + draw.choice(OPTIONS)
     if number == 44 and draw.randrange(2):
         return fragment(following, draw.choice([0, 1, 185]), draw.randrange(2), draw.choice([1, 7]))
     return header(number, following)
@@ -190,13 +194,18 @@ def routing_pair(draw):
     return compared(draw, "segments-left", SEGMENTS, ("ipv6.routing", "ipv6.routing.segleft", 0))
 
 
+def option_pair(draw):
+    number = draw.choice([0, 1, 5, 0x1e])
+    return f"option {number}", f"ipv6.opt.type == {number}"
+
+
 def version_pair(draw):
     return draw.choice([("ip", "ip"), ("ip6", "ipv6"), ("version 4", "ip"), ("version 6", "ipv6")])
 
 
 PAIRS = [
     port_pair, port_pair, protocol_pair, protocol_pair, header_pair, fragment_pair, network_pair, message_pair, version_pair,
-    flags_pair, routing_pair,
+    flags_pair, routing_pair, option_pair,
     lambda draw: compared(draw, draw.choice(["hop-limit", "ttl"]), HOPS, ("ip", "ip.ttl", 0), ("ipv6", "ipv6.hlim", 0)),
     lambda draw: compared(draw, "length", LENGTHS, ("ip", "ip.len", 0), ("ipv6", "ipv6.plen", 40)),
     lambda draw: compared(draw, "dscp", [0, 46], ("ip", "ip.dsfield.dscp", 0), ("ipv6", "ipv6.tclass.dscp", 0)),

@@ -2,3 +2,4 @@ pub mod CountLemmas
 pub mod LengthLemmas
 pub mod HeaderLemmas
 pub mod MergeLemmas
+pub mod CommonLemmas

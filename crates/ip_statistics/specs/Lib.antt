@@ -3,5 +3,6 @@ pub mod HeaderCounts
 pub mod Lengths
 pub mod Statistics
 pub mod Packet
+pub mod Plain
 pub mod Lists
 pub mod Capture

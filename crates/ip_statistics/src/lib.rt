@@ -4,6 +4,7 @@
 
 mod add;
 mod capture;
+mod common;
 mod counts;
 mod faults;
 mod headers;

@@ -3,6 +3,7 @@
 #![tactic(auto)]
 
 pub mod base;
+pub mod batches;
 pub mod chain_outcomes;
 pub mod chains;
 pub mod dissections;

@@ -66,18 +66,30 @@ pub(crate) fn run_on(tests: &[Test], bytes: &[u8]) -> bool
     }
 }
 
-/// Returns whether a plain packet passes. Tests of flags come first: they need no other part of the packet, which is then
-/// not stored.
+/// Returns whether a plain packet passes.
 #[inline(always)]
 fn run_on_plain(tests: &[Test], packet: Packet<'_>) -> bool
     requires few { length tests.now ≤ 64 }
     requires plain { is_plain (dissected packet.bytes.now) ≡ true }
     ensures { result ≡ passes tests.now (λ x. meets x (dissected packet.entry.bytes.now)) }
 {
-    let flags = Flags::none().of(&packet);
+    run_on_packet(tests, packet, Flags::none().of(&packet))
+}
+
+/// Returns whether a packet passes that has these flags. Tests of flags come first, if there is no error: they need no other
+/// part of the packet, which is then not stored.
+#[inline(always)]
+fn run_on_packet(tests: &[Test], packet: Packet<'_>, flags: Flags) -> bool
+    requires few { length tests.now ≤ 64 }
+    requires flags { AreKnown (dissected packet.bytes.now) flags }
+    ensures { result ≡ passes tests.now (λ x. meets x (dissected packet.entry.bytes.now)) }
+{
+    if packet.outline.has_error {
+        return run_stored(tests, 0, &Facts { packet, flags });
+    }
     match run_flags(tests, &packet, flags) {
         Reached::End(passed) => passed,
-        Reached::Next(next) => run_from(tests, next, Some(&Facts { packet, flags })),
+        Reached::Next(next) => run_stored(tests, next, &Facts { packet, flags }),
     }
 }
 
@@ -131,30 +143,13 @@ impl<'a> PacketVisitor<'a> for Tester<'_> {
         let mut flags = Flags::none();
         let packet = start.walk(&mut flags);
         let flags = flags.of(&packet);
-        run_on_walked(self.tests, packet, flags)
+        run_on_packet(self.tests, packet, flags)
     }
 }
 
-/// Returns whether a packet passes whose headers have been walked. Without an error, tests of flags come first here, too.
-#[inline(always)]
-fn run_on_walked(tests: &[Test], packet: Packet<'_>, flags: Flags) -> bool
-    requires few { length tests.now ≤ 64 }
-    requires flags { AreKnown (dissected packet.bytes.now) flags }
-    ensures { result ≡ passes tests.now (λ x. meets x (dissected packet.entry.bytes.now)) }
-{
-    if packet.outline.has_error {
-        return run_walked(tests, 0, &Facts { packet, flags });
-    }
-    match run_flags(tests, &packet, flags) {
-        Reached::End(passed) => passed,
-        Reached::Next(next) => run_walked(tests, next, &Facts { packet, flags }),
-    }
-}
-
-/// Returns whether a packet passes whose headers have been walked, and which the tests led to the one with the index
-/// `first`.
+/// Returns whether a packet passes whose parts are stored, and which the tests led to the one with the index `first`.
 #[inline(never)]
-fn run_walked(tests: &[Test], first: usize, facts: &Facts<'_>) -> bool
+fn run_stored(tests: &[Test], first: usize, facts: &Facts<'_>) -> bool
     requires few { length tests.now ≤ 64 }
     requires led { IsLedTo tests.now (λ x. meets x (dissected facts.now.packet.bytes.now)) first }
     ensures { result ≡ passes tests.now (λ x. meets x (dissected facts.now.packet.bytes.now)) }

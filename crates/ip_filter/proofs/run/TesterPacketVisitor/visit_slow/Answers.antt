@@ -5,4 +5,4 @@ use Rattle.ip_filter.specs.Program.{passes}
 use Rattle.ip_filter.proofs.run.TesterPacketVisitor.visit_slow.Goals as goal
 
 pub returns : goal.returns
-returns c = c.run_on_walked.ensures ∙ ap (λ s. passes c.args.self.now.tests.now (λ x. meets x (dissected s))) c.walk-packet.ensures.bytes
+returns c = c.run_on_packet.ensures ∙ ap (λ s. passes c.args.self.now.tests.now (λ x. meets x (dissected s))) c.walk-packet.ensures.bytes

@@ -133,7 +133,8 @@
         return { wide, wrong, rows, scrolls: document.documentElement.scrollWidth > wide, said: letters.map((it) => it.textContent).join(" ") };
     }
     function outside(it, wide) {
-        const box = it.getBoundingClientRect(), isWrong = box.width > 0 && it.id !== "text" && (box.right > wide + 0.5 || box.left < 0);
+        const box = it.getBoundingClientRect(), isCut = it.matches("section, div, ol, li, ul, p, h2, label, td, th") && it.scrollWidth > it.clientWidth + 1;
+        const isWrong = box.width > 0 && it.id !== "text" && (box.right > wide + 0.5 || box.left < 0 || isCut);
         return isWrong ? `${it.nodeName} ${it.textContent.slice(0, 40)} from ${box.left} to ${box.right}` : "";
     }
     function smallness(it) {

@@ -5,8 +5,8 @@ var Wolfaren = {};
 
 Wolfaren.names = (function () {
     const numbers = { 0: "hop-by-hop", 1: "ICMP", 2: "IGMP", 4: "IPv4", 6: "TCP", 17: "UDP", 33: "DCCP", 41: "IPv6", 43: "routing", 44: "fragment", 46: "RSVP",
-        47: "GRE", 50: "ESP", 51: "auth", 58: "ICMPv6", 59: "none", 60: "dest-opts", 88: "EIGRP", 89: "OSPF", 97: "EtherIP", 103: "PIM", 108: "IPComp", 112: "VRRP",
-        115: "L2TP", 132: "SCTP", 135: "mobility", 136: "UDPLite", 137: "MPLS", 139: "HIP", 140: "shim6", 143: "Ethernet" };
+        47: "GRE", 50: "ESP", 51: "authentication", 58: "ICMPv6", 59: "no-next", 60: "destination-options", 88: "EIGRP", 89: "OSPF", 97: "EtherIP", 103: "PIM",
+        108: "IPComp", 112: "VRRP", 115: "L2TP", 132: "SCTP", 135: "mobility", 136: "UDPLite", 137: "MPLS", 139: "HIP", 140: "shim6", 143: "Ethernet" };
     // The codes of include/wolfaren.h.
     const kinds = ["", "too-short", "not-at-start", "zero-length", "unsupported-version", "header-length"];
     const layers = ["", "IP-header", "IPv4-header", "IPv4-packet", "authentication", "IPv6-header", "IPv6-packet", "IPv6-extension",

@@ -263,13 +263,18 @@ bool has_nanoseconds(const struct capture *capture)
     return !capture->handle || pcap_get_tstamp_precision(capture->handle) == PCAP_TSTAMP_PRECISION_NANO;
 }
 
+/* A second in nanoseconds. */
+enum { SECOND = 1000000000 };
+
 struct timespec time_of(const struct capture *capture, const struct packet *packet)
 {
     const struct timeval *time = &packet->header.ts;
     if (!capture->handle) return (struct timespec){time->tv_sec, time->tv_usec};
-    /* the format has unsigned seconds, which libpcap reads as signed numbers of 32 bits */
+    /* the format has unsigned numbers of 32 bits, which libpcap reads as signed ones */
     time_t seconds = time->tv_sec < 0 ? (time_t)(uint32_t)time->tv_sec : time->tv_sec;
-    return (struct timespec){seconds, has_nanoseconds(capture) ? time->tv_usec : time->tv_usec * 1000};
+    /* the fraction of a damaged capture may be a second or more */
+    uint64_t fraction = (uint64_t)(uint32_t)time->tv_usec * (has_nanoseconds(capture) ? 1 : 1000);
+    return (struct timespec){seconds + (time_t)(fraction / SECOND), (long)(fraction % SECOND)};
 }
 
 bool is_read_whole(const struct capture *capture)

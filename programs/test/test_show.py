@@ -79,6 +79,11 @@ def lines(harness):
         content = file_header(magic=magic) + record(ethernet(b"\x50" + bytes(5)), None, seconds)
         wanted = "packet 1: %s, 20 bytes, IP at 14: unread base header\n" % wanted
         harness.equal(harness.run("show", "--one-line", content=content), (0, wanted.encode(), "", None), seconds)
+    for fraction, magic, wanted in [(10**6, MICROSECONDS, "00:00:01.000000Z"), (2**32 - 1, MICROSECONDS, "01:11:34.967295Z"),
+                                    (2**32 - 1, NANOSECONDS, "00:00:04.294967295Z")]:
+        content = file_header(magic=magic) + record(ethernet(b"\x50" + bytes(5)), None, 0, fraction)
+        found = harness.run("show", "--one-line", content=content)[1]
+        harness.check(found.startswith(b"packet 1: 1970-01-01T%s," % wanted.encode()), "a fraction of a second or more", found)
 
 
 def objects(harness):

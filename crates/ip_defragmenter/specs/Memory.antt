@@ -1,5 +1,5 @@
 -- What the memory of a packet holds.
-use Rattle.std.specs.Prelude.{◌≡◌, ℕ, Bool, true, ◌&&◌, ◌==◌, nat_lt, List, length, take, Option, Some, None, is_some, not, Result, Ok, Err, if◌then◌else◌}
+use Rattle.std.specs.Prelude.{◌≡◌, ℕ, Bool, true, ◌&&◌, ◌==◌, nat_lt, nat_le, List, length, take, Option, Some, None, is_some, not, Result, Ok, Err, if◌then◌else◌}
 use Rattle.std.specs.Result.{result_map_both}
 use Rattle.ip_defrag.specs.Fragment.{Fragment, fragment_at}
 use Rattle.ip_defrag.specs.Payload.{payload_of}
@@ -33,7 +33,7 @@ first_of f = record { headers = f.headers; link = f.link; number = f.number }
 
 -- that of the first fragment in the memory
 abbrev pub first_in : PacketMemory → Option FirstParts
-first_in m = if m.has_first then Some (record { headers = take m.head_len m.head.now; link = m.link; number = m.next_header.0 }) else None
+first_in m = if m.is_first_here && nat_le m.head_len (length m.head.now) then Some (record { headers = take m.head_len m.head.now; link = m.link; number = m.next_header.0 }) else None
 
 -- how long the headers of the first fragment can be
 abbrev pub head_room : PacketMemory → ℕ

@@ -34,7 +34,8 @@ fn free_if_whole(slots: &mut [Option<Pending>], index: usize, stored: &Result<Pr
     }
 }
 
-/// Adds a fragment that arrived at this time, as `defragment` does.
+/// Adds a fragment that arrived at this time, as `defragment` does. Returns what became of it, and the packet that was given
+/// up for it.
 pub fn add_fragment(
     slots: &mut [Option<Pending>],
     memories: &mut [PacketMemory<'_>],
@@ -61,7 +62,12 @@ pub fn add_fragment(
     }
 }
 
-/// Adds the packet at the start of `bytes`, which arrived at this time.
+/// Adds the packet at the start of `bytes`, which arrived at this time, in nanoseconds since any moment. Returns what became
+/// of it, and the packet that was given up for it. If its packet is whole, the memory with the returned index has it.
+///
+/// A fragment goes to the slot of its packet and the memory with the slot's index (RFC 791, section 3.2; RFC 8200, section
+/// 4.5); `place` says which slot. All other slots and memories stay as they are, but for the packet that was given up. `factor`
+/// is a number that senders don't know.
 pub fn defragment(
     slots: &mut [Option<Pending>],
     memories: &mut [PacketMemory<'_>],

@@ -1,6 +1,6 @@
 //! The fragments of one packet.
-ghost use Rattle.std.specs.Prelude.{◌≡◌, ◌≤◌, length};
 
+use crate::whole::put_front;
 use crate::{IpFragment, StoreError, WholeError, write_packet};
 use ip_base::{IpNumber, ip_number};
 use ip_defrag::{Progress, Reassembly};
@@ -13,18 +13,17 @@ pub struct PacketMemory<'b> {
     /// Their length in bytes.
     head_len: usize,
     /// Whether the first fragment has arrived.
-    has_first: bool,
+    is_first_here: bool,
     /// The offset in its headers of the number of what follows them.
     link: usize,
     /// The number of what the payload starts with.
     next_header: IpNumber,
     /// The payload.
     reassembly: Reassembly<'b>,
-    ghost fits: { head_len ≤ length head.now },
 }
 
 impl<'b> PacketMemory<'b> {
-    ghost use Rattle.std.specs.Prelude.{◌≡◌, ◌+◌, ◌++◌, ◌≤◌, ℕ, Bool, List, [], ◌∷◌, length, min, true, false, None, Some, Ok, OnOk, OnErr, IfOk, IfErr, IsOk, drop, if◌then◌else◌};
+    ghost use Rattle.std.specs.Prelude.{is_some, ◌≡◌, ◌+◌, ◌++◌, ◌≤◌, ℕ, Bool, List, [], ◌∷◌, length, min, true, false, None, Some, Ok, OnOk, OnErr, IfOk, IfErr, IsOk, drop, if◌then◌else◌};
     ghost use Rattle.ip_defrag.specs.Fragment.{Fragment, fragment_at};
     ghost use Rattle.ip_defrag.specs.Split.{IsSplit, are_among};
     ghost use Rattle.ip_defragmenter.specs.Whole.{whole_packet, whole_fault};
@@ -38,11 +37,12 @@ impl<'b> PacketMemory<'b> {
     pub fn new(head: &'b mut [u8], payload: &'b mut [u8]) -> PacketMemory<'b>
         ensures given { WasStored result (min (length payload.old) 65535) [] }
         ensures first { first_in result ≡ None }
+        ensures room { head_room result ≡ length head.old }
     {
         PacketMemory {
             head,
             head_len: 0,
-            has_first: false,
+            is_first_here: false,
             link: 0,
             next_header: ip_number::IPV6_NO_NEXT_HEADER,
             reassembly: Reassembly::abandoning(payload),
@@ -56,7 +56,7 @@ impl<'b> PacketMemory<'b> {
         ensures first { first_in self.new ≡ None }
         ensures room { head_room self.new ≡ head_room self.old }
     {
-        self.has_first = false;
+        self.is_first_here = false;
         self.reassembly.clear();
     }
 
@@ -93,13 +93,22 @@ impl<'b> PacketMemory<'b> {
             .add(fragment.offset, fragment.more, fragment.bytes)
         {
             Ok(progress) => {
-                if is_first && !self.has_first {
+                if is_first && !self.has_first() {
                     self.keep_first(fragment);
                 }
                 Ok(progress)
             }
             Err(error) => Err(StoreError::Payload(error)),
         }
+    }
+
+    /// Returns whether the first fragment has arrived.
+    #[inline(always)]
+    fn has_first(&self) -> bool
+        ensures has { result ≡ is_some (first_in self.now) }
+        ensures within { result ≡ true → self.now.head_len ≤ length self.now.head.now }
+    {
+        self.is_first_here && self.head_len <= self.head.len()
     }
 
     /// Keeps the headers of the first fragment.
@@ -109,10 +118,9 @@ impl<'b> PacketMemory<'b> {
         ensures reassembly { self.new.reassembly ≡ self.old.reassembly }
         ensures room { head_room self.new ≡ head_room self.old }
     {
-        let len = fragment.headers.len();
-        self.head[..len].copy_from_slice(fragment.headers);
-        self.head_len = len;
-        self.has_first = true;
+        put_front(self.head, fragment.headers);
+        self.head_len = fragment.headers.len();
+        self.is_first_here = true;
         self.link = fragment.link;
         self.next_header = fragment.next_header;
     }
@@ -132,8 +140,35 @@ impl<'b> PacketMemory<'b> {
             × (out.new ≡ whole_packet f.headers f.link f.number payload
             ++ drop (length f.headers + length payload) out.old)) }
         ensures stays { OnErr result (out.new ≡ out.old) }
+
+        // After the fragments of one payload, in any order and repeated, it is that payload after the first one's headers.
+        ensures pieces { (payload : List ℕ) (pieces given : List Fragment) (limit : ℕ) (f : FirstParts)
+            → WasStored self.now limit given
+            → IsSplit payload pieces → length payload ≤ limit → are_among given pieces ≡ true
+            → are_among pieces given ≡ true → first_in self.now ≡ Some f
+            → OnOk result ((result ≡ Ok (Some (length f.headers + length payload)))
+            × (out.new ≡ whole_packet f.headers f.link f.number payload
+            ++ drop (length f.headers + length payload) out.old)) }
     {
-        if !self.has_first {
+        self.write_received(out)
+    }
+
+    /// Writes the whole packet, by what has been received.
+    fn write_received(&self, out: &mut [u8]) -> Result<Option<usize>, WholeError>
+        ensures not_whole { (s : Received) → HoldsReceived self.now s
+            → payload_in s ≡ None → (result ≡ Ok None) × (out.new ≡ out.old) }
+        ensures not_first { first_in self.now ≡ None → (result ≡ Ok None) × (out.new ≡ out.old) }
+        ensures fault { (s : Received) (f : FirstParts) (payload : List ℕ)
+            → HoldsReceived self.now s → payload_in s ≡ Some payload → first_in self.now ≡ Some f
+            → result_err result ≡ whole_fault f.headers f.link (length payload) (length out.old) }
+        ensures written { (s : Received) (f : FirstParts) (payload : List ℕ)
+            → HoldsReceived self.now s → payload_in s ≡ Some payload → first_in self.now ≡ Some f
+            → OnOk result ((result ≡ Ok (Some (length f.headers + length payload)))
+            × (out.new ≡ whole_packet f.headers f.link f.number payload
+            ++ drop (length f.headers + length payload) out.old)) }
+        ensures stays { OnErr result (out.new ≡ out.old) }
+    {
+        if !self.has_first() {
             return Ok(None);
         }
         match self.reassembly.payload() {

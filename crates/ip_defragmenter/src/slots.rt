@@ -1,6 +1,6 @@
 //! Which slot a packet has.
-ghost use Rattle.std.specs.Prelude.{◌≡◌, ◌<◌, ◌≤◌, length, Some, None, IfSome, is_some, if◌then◌else◌, position};
-ghost use Rattle.ip_defragmenter.specs.Slots.{has_key, is_free, is_oldest, is_expired, since_of, own_place, own_in, new_place, displaced_place, displaced_in, place_in, first_of, place_of, slots_after, loss_of};
+ghost use Rattle.std.specs.Prelude.{◌≡◌, ◌<◌, ◌≤◌, length, Some, None, IfSome, is_some, if◌then◌else◌, position, true, false};
+ghost use Rattle.ip_defragmenter.specs.Slots.{has_key, is_free, is_oldest, is_expired, since_of, own_place, own_in, new_place, displaced_place, displaced_in, slot_at, place_in, first_of, place_of, slots_after, loss_of};
 
 use crate::{FragmentKey, Loss, LossReason, Pending};
 
@@ -121,7 +121,8 @@ fn own_in(slots: &[Option<Pending>], index: usize, time: u64) -> Option<Placemen
 /// Returns the place of a packet in a free slot.
 #[inline(always)]
 fn new_place(index: usize, time: u64) -> Placement
-    ensures { result ≡ new_place index time }
+    ensures place { result ≡ new_place index time }
+    ensures anew { result.is_known ≡ false }
 {
     Placement {
         index,
@@ -136,6 +137,7 @@ fn new_place(index: usize, time: u64) -> Placement
 fn displaced_in(slots: &[Option<Pending>], index: usize, time: u64) -> Option<Placement>
     requires { index < length slots.now }
     ensures place { result ≡ displaced_in slots.now time index }
+    ensures anew { IfSome result (λ p. p.is_known ≡ false) }
     ensures within { IfSome result (λ p. p.index ≡ index) }
 {
     match &slots[index] {
@@ -148,6 +150,7 @@ fn displaced_in(slots: &[Option<Pending>], index: usize, time: u64) -> Option<Pl
 #[inline(always)]
 fn find_own(slots: &[Option<Pending>], key: &FragmentKey) -> Option<usize>
     ensures own { result ≡ position (has_key key.now) slots.now }
+    ensures has { IfSome result (λ i. has_key key.now (slot_at slots.now i) ≡ true) }
     ensures within { IfSome result (λ i. i < length slots.now) }
 {
     slots.iter().position(|slot| has_key(slot, key))
@@ -175,6 +178,8 @@ fn find_oldest(slots: &[Option<Pending>]) -> Option<usize>
 /// oldest packet. Returns `None` if there are no slots.
 fn place_in(slots: &[Option<Pending>], key: &FragmentKey, time: u64) -> Option<Placement>
     ensures place { result ≡ place_in slots.now key.now time }
+    ensures known { IfSome result (λ p. p.is_known ≡ true
+        → has_key key.now (slot_at slots.now p.index) ≡ true) }
     ensures within { IfSome result (λ p. p.index < length slots.now) }
 {
     if let Some(index) = find_own(slots, key) {
@@ -213,6 +218,10 @@ pub fn place(
 ) -> Option<Placement>
     ensures place { result ≡ place_of slots.old factor key time }
     ensures slots { slots.new ≡ slots_after slots.old key result }
+
+    // A fragment joins others only in a slot of its own key.
+    ensures known { IfSome result (λ p. p.is_known ≡ true
+        → has_key key (slot_at slots.old p.index) ≡ true) }
     ensures within { IfSome result (λ p. p.index < length slots.old) }
 {
     let first = first_of(slots.len(), factor, &key);

@@ -119,7 +119,7 @@ fn complete(headers: &mut [u8], link: usize, next_header: IpNumber, payload_len:
 
 /// Copies bytes to the start of a buffer.
 #[inline(always)]
-fn put_front(buffer: &mut [u8], bytes: &[u8])
+pub(crate) fn put_front(buffer: &mut [u8], bytes: &[u8])
     requires { length bytes.now ≤ length buffer.old }
     ensures { buffer.new ≡ bytes.now ++ drop (length bytes.now) buffer.old }
 {

@@ -8,6 +8,7 @@ pub mod chain_outcomes;
 pub mod chains;
 pub mod dissections;
 pub mod filters;
+pub mod fragments;
 pub mod from_etherparse;
 pub mod header_outcomes;
 pub mod headers;

@@ -20,7 +20,7 @@ returns-in-Some-clause-place c =
 pub returns-in-Some-find_free-clause-place : goal.returns-in-Some-find_free-clause-place
 returns-in-Some-find_free-clause-place c =
     let s = c.args.slots.now in
-    ap Some c.new_place.ensures ∙ placed_by s c.args.key.now c.args.time None (Some c.in-Some-find_free.index) (position (is_oldest s) s) c.in_default.ensures.own c.in-Some-find_free.ensures.free refl
+    ap Some c.new_place.ensures.place ∙ placed_by s c.args.key.now c.args.time None (Some c.in-Some-find_free.index) (position (is_oldest s) s) c.in_default.ensures.own c.in-Some-find_free.ensures.free refl
 
 pub returns-in-Some-find_oldest-clause-place : goal.returns-in-Some-find_oldest-clause-place
 returns-in-Some-find_oldest-clause-place c =

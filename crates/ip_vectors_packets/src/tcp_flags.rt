@@ -64,13 +64,16 @@ fn lists(rt: HostRuntime) -> Result<(), Fail> {
 fn after_extension_headers(rt: HostRuntime) -> Result<(), Fail> {
     let alloc = rt.alloc();
     let text = "tcp-flags syn/syn,ack";
-    let mut after = [0; 36];
-    after[..8].copy_from_slice(&[6, 0, 1, 4, 0, 0, 0, 0]);
-    after[8..28].copy_from_slice(&segment(0x02));
+    let after = [
+        6, 0, 1, 4, 0, 0, 0, 0, 0x01, 0xbb, 0xc3, 0x50, 0, 0, 0, 1, 0, 0, 0, 2, 0x50, 0x02, 0x10,
+        0, 0, 0, 0, 0,
+    ];
     let options = ipv6_bytes(alloc, 28, 60, &after)?;
     check(&rt, "options", options.as_slice(), text, true);
-    after[..12].copy_from_slice(&[6, 1, 0, 80, 0, 0, 1, 2, 0, 0, 0, 3]);
-    after[12..32].copy_from_slice(&segment(0x02));
+    let after = [
+        6, 1, 0, 80, 0, 0, 1, 2, 0, 0, 0, 3, 0x01, 0xbb, 0xc3, 0x50, 0, 0, 0, 1, 0, 0, 0, 2, 0x50,
+        0x02, 0x10, 0, 0, 0, 0, 0,
+    ];
     let auth = ipv4_bytes(alloc, 0x45, 52, [0, 0], 51, &after)?;
     check(&rt, "authentication", auth.as_slice(), text, true);
     check(&rt, "the ports", auth.as_slice(), "tcp-flags fin", false);

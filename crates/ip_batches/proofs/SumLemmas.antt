@@ -1,15 +1,13 @@
 -- Packets counted one by one.
-use Rattle.std.proofs.Common.{◌≡◌, ℕ, suc, ◌<◌, ◌==◌, Bool, true, false, if◌then◌else◌, List, [], ◌∷◌, ◌++◌, length, get_or, replicate, refl, sym, ap, ◌∙◌, arith, Fits, w64}
+use Rattle.std.proofs.Common.{◌≡◌, ℕ, suc, List, [], ◌∷◌, ◌++◌, length, get_or, replicate, refl, sym, ap, ◌∙◌, Fits, w64}
 use Rattle.ip_dissect.specs.Dissection.{dissected}
-use Rattle.ip_statistics.specs.Counts.{added, all_added}
+use Rattle.ip_statistics.specs.Counts.{all_added}
 use Rattle.ip_statistics.specs.Packet.{counts_of}
 use Rattle.ip_statistics.specs.Lists.{statistics_of}
-use Rattle.ip_statistics.specs.Plain.{first_of, with_common}
 use Rattle.ip_statistics.specs.Statistics.{merged}
 use Rattle.ip_statistics.specs.declared.statistics.Statistics.{Statistics}
 use Rattle.ip_statistics.proofs.MergeLemmas.{merged_comm, merged_assoc, statistics_of-append}
-use Rattle.ip_statistics.proofs.CountLemmas.{added-zero, length-each_below, get_or-each_below}
-use Rattle.std.proofs.lemmas.List.{ext_get_or, length-replicate, get_or-replicate}
+use Rattle.ip_statistics.proofs.CountLemmas.{added-zero}
 
 -- The last packet may be counted first.
 last_first : (xs : List (List ℕ)) (s : List ℕ) → statistics_of (s ∷ xs) ≡ statistics_of (xs ++ s ∷ [])
@@ -33,21 +31,6 @@ zeros_of_length (x ∷ xs) fits = cc (added-zero x (fits 0), zeros_of_length xs 
 
 pub zeros_add_nothing : (xs : List ℕ) (n : ℕ) → ((i : ℕ) → Fits w64 (get_or xs i 0)) → n ≡ length xs → all_added xs (replicate n 0) ≡ xs
 zeros_add_nothing xs n fits e = ap (λ m. all_added xs (replicate m 0)) e ∙ zeros_of_length xs fits
-
-either_same : (b : Bool) (z : ℕ) → (if b then z else z) ≡ z
-either_same true z = refl
-either_same false z = refl
-
-zeros_first : (n : ℕ) → first_of n 0 ≡ replicate n 0
-zeros_first n = ext_get_or 0 (first_of n 0) (replicate n 0) (length-each_below n _ ∙ sym (length-replicate n 0)) (λ i l.
-    let below : i < n = omega (arith, l, length-each_below n (λ j. if j == 0 then 0 else 0)) in
-    get_or-each_below n _ i 0 below ∙ either_same (i == 0) 0 ∙ sym (get_or-replicate n i 0 0 below))
-
-pub first_zero_adds_nothing : (xs : List ℕ) (n : ℕ) → ((i : ℕ) → Fits w64 (get_or xs i 0)) → n ≡ length xs → all_added xs (first_of n 0) ≡ xs
-first_zero_adds_nothing xs n fits e = ap (all_added xs) (zeros_first n) ∙ zeros_add_nothing xs n fits e
-
-pub two_lists_stay : (a : Statistics) → added a.packets 0 ≡ a.packets → added a.at_payload 0 ≡ a.at_payload → all_added a.chain_headers (first_of 17 0) ≡ a.chain_headers → all_added a.chain_bytes (first_of 73 0) ≡ a.chain_bytes → with_common 0 a ≡ a
-two_lists_stay a packets payload headers lengths = rw (packets, payload, headers, lengths) refl
 
 pub lists_stay : (a : Statistics) → all_added a.chain_headers (replicate 17 0) ≡ a.chain_headers → all_added a.chain_bytes (replicate 73 0) ≡ a.chain_bytes → all_added a.headers (replicate 256 0) ≡ a.headers → all_added a.payload_numbers (replicate 256 0) ≡ a.payload_numbers → all_added a.later_fragment_numbers (replicate 256 0) ≡ a.later_fragment_numbers → all_added a.truncated_headers (replicate 16 0) ≡ a.truncated_headers → all_added a.faults (replicate 128 0) ≡ a.faults
     → record a { chain_headers = all_added a.chain_headers (replicate 17 0); chain_bytes = all_added a.chain_bytes (replicate 73 0); headers = all_added a.headers (replicate 256 0); payload_numbers = all_added a.payload_numbers (replicate 256 0); later_fragment_numbers = all_added a.later_fragment_numbers (replicate 256 0); truncated_headers = all_added a.truncated_headers (replicate 16 0); faults = all_added a.faults (replicate 128 0) } ≡ a

@@ -1,19 +1,15 @@
 //! Counts the packets of a batch.
-ghost use Rattle.std.specs.Prelude.{◌≡◌, ℕ, List, ◌++◌, length, replicate, IfSome, IfNone};
-ghost use Rattle.ip_dissect.specs.Dissection.{dissected};
+ghost use Rattle.std.specs.Prelude.{◌≡◌, ℕ, List, ◌++◌, length, replicate};
 ghost use Rattle.ip_statistics.specs.Counts.{added, all_added};
-ghost use Rattle.ip_statistics.specs.Packet.{counts_of};
-ghost use Rattle.ip_statistics.specs.Plain.{first_of, with_common};
 ghost use Rattle.ip_statistics.specs.Statistics.{nothing, merged};
 ghost use Rattle.ip_statistics.specs.Lists.{statistics_of};
 ghost use Rattle.ip_batches.specs.Batch.{packets_at};
 
 use crate::Batch;
-use ip_dissect::{Packet, PacketStart, PacketVisitor, Visited};
 use ip_statistics::Statistics;
 
 impl Batch<'_> {
-    /// Counts each packet, in order. What all packets without extension headers count alike is added once.
+    /// Counts each packet, in order.
     #[inline(always)]
     pub fn count(&self, statistics: &mut Statistics)
         ensures counts { statistics.new ≡ merged statistics.old
@@ -22,65 +18,9 @@ impl Batch<'_> {
             → statistics.new ≡ statistics_of (packets_at self.now.buffer.now self.now.spans.now ++ xs) }
     {
         add_nothing(statistics);
-        add_none_in_common(statistics);
-        let mut common = 0;
         'packets: for index in 0..self.spans.len() {
-            count_one(self.packet(index), statistics, &mut common);
+            statistics.count_packet(self.packet(index));
         }
-        statistics.add_common(common);
-    }
-}
-
-/// Counts the packet at the start of `bytes`; of a plain one, the counts of `with_common` in `common`.
-#[inline(always)]
-fn count_one(bytes: &[u8], statistics: &mut Statistics, common: &mut u64)
-    ensures { with_common common.new statistics.new
-        ≡ merged (with_common common.old statistics.old) (counts_of (dissected bytes.now)) }
-{
-    if let Some(packet) = plain_packet(bytes, statistics) {
-        statistics.count_in_common(&packet, common);
-    }
-}
-
-/// Returns the packet at the start of `bytes` if it is plain; counts any other packet.
-#[inline(always)]
-fn plain_packet<'a>(bytes: &'a [u8], statistics: &mut Statistics) -> Option<Packet<'a>>
-    ensures plain { IfSome result (λ packet. (packet.bytes.now ≡ bytes.now)
-        × (statistics.new ≡ statistics.old)) }
-    ensures other { IfNone result
-        (statistics.new ≡ merged statistics.old (counts_of (dissected bytes.now))) }
-{
-    match Packet::visit(bytes, &mut CountingOthers { statistics }) {
-        Visited::Plain(packet) => Some(packet),
-        Visited::Slow(()) => None,
-    }
-}
-
-/// A visitor that counts packets which aren't plain.
-#[derive(Debug, Drop)]
-struct CountingOthers<'s> {
-    statistics: &'s mut Statistics,
-}
-
-impl<'a> PacketVisitor<'a> for CountingOthers<'_> {
-    type Plain = Packet<'a>;
-
-    type Slow = ();
-
-    ghost plain = { λ old s new packet. (new.statistics.ghost_name ≡ old.statistics.ghost_name)
-        × (new.statistics.now ≡ old.statistics.now) × (packet.bytes.now ≡ s) };
-
-    ghost slow = { λ old s new _. (new.statistics.ghost_name ≡ old.statistics.ghost_name)
-        × (new.statistics.now ≡ merged old.statistics.now (counts_of (dissected s))) };
-
-    #[inline(always)]
-    fn visit_plain(&mut self, packet: Packet<'a>) -> Packet<'a> {
-        packet
-    }
-
-    #[inline(always)]
-    fn visit_slow(&mut self, start: PacketStart<'a>) {
-        self.statistics.count_from(start);
     }
 }
 
@@ -160,24 +100,6 @@ fn add_no_lists(statistics: &Statistics)
     add_zeros(&statistics.truncated_headers);
     add_zeros(&statistics.faults);
 }
-
-/// Adds no packets to the counts of `with_common`.
-#[inline(always)]
-fn add_none_in_common(statistics: &Statistics)
-    ensures { with_common 0 statistics.now ≡ statistics.now }
-{
-    add_zero(statistics.packets);
-    add_zero(statistics.at_payload);
-    add_first_zero(&statistics.chain_headers);
-    add_first_zero(&statistics.chain_bytes);
-}
-
-/// Adds 0 to the first count: the counts are their sums with zeros.
-#[inline(always)]
-#[tactic(auto, using(crate::proofs::SumLemmas::first_zero_adds_nothing))]
-fn add_first_zero(counts: &[u64])
-    ensures { (n : ℕ) → n ≡ length counts.now → all_added counts.now (first_of n 0) ≡ counts.now }
-{}
 
 /// Adds 0: the count is its sum with 0.
 #[inline(always)]

@@ -1,8 +1,5 @@
 //! Tests the packets of a batch with a filter.
 ghost use Rattle.std.specs.Prelude.{◌≡◌};
-ghost use Rattle.ip_dissect.specs.Dissection.{dissected};
-ghost use Rattle.ip_filter.specs.Tests.{meets};
-ghost use Rattle.ip_filter.specs.Program.{tests_of, passes};
 ghost use Rattle.ip_spans.specs.HeaderSpan.{filled};
 ghost use Rattle.ip_statistics.specs.Counts.{one_if};
 ghost use Rattle.ip_batches.specs.Batch.{packets_at, matches_of};
@@ -21,18 +18,9 @@ impl Batch<'_> {
     {
         let count = self.spans.len().min(matches.len());
         'packets: for index in 0..count {
-            matches[index] = match_of(filter, self.packet(index));
+            matches[index] = byte_of(filter.matches(self.packet(index)));
         }
     }
-}
-
-/// Returns 1 if the filter matches the packet at the start of `bytes`, and 0 if it doesn't. Inlined into the loop, it would
-/// clear what it knows of a packet for each, and save more registers for each test.
-#[inline(never)]
-fn match_of(filter: &Filter, bytes: &[u8]) -> u8
-    ensures { result ≡ one_if (passes (tests_of filter.now) (λ x. meets x (dissected bytes.now))) }
-{
-    byte_of(filter.matches(bytes))
 }
 
 /// Returns 1 for true and 0 for false.

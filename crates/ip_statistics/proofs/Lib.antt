@@ -2,4 +2,3 @@ pub mod CountLemmas
 pub mod LengthLemmas
 pub mod HeaderLemmas
 pub mod MergeLemmas
-pub mod CommonLemmas

@@ -3,6 +3,5 @@ pub mod HeaderCounts
 pub mod Lengths
 pub mod Statistics
 pub mod Packet
-pub mod Plain
 pub mod Lists
 pub mod Capture

@@ -81,38 +81,22 @@ impl Statistics {
         ensures { (p : DissectedParts) → outline.now ≡ outline_of p → end.now ≡ p.end
             → self.new ≡ record (merged self.old (counts_of p)) { headers = self.old.headers } }
     {
-        self.add_rest(outline, end);
-        add(&mut self.packets, 1);
-        count_if(&mut self.at_payload, end_code_of(end) == at::PAYLOAD);
-        let has_chain = outline.version != 0;
-        let header_count = outline.header_count.min(16);
-        count_at(&mut self.chain_headers, header_count, has_chain);
-        count_length(&mut self.chain_bytes, outline.extensions_len, has_chain);
-    }
-
-    /// Adds all counts of a packet with this outline and end but those of its extension headers by number, and those to
-    /// which plain packets add 1.
-    #[inline(always)]
-    pub(crate) fn add_rest(&mut self, outline: &Outline, end: &End)
-        ensures { (p : DissectedParts) → outline.now ≡ outline_of p → end.now ≡ p.end
-            → self.new ≡ record (merged self.old (counts_of p)) {
-              headers = self.old.headers;
-              packets = self.old.packets;
-              at_payload = self.old.at_payload;
-              chain_headers = self.old.chain_headers;
-              chain_bytes = self.old.chain_bytes;
-            } }
-    {
         count_if(&mut self.ipv6, outline.version == 6);
         count_if(&mut self.ipv4, outline.version == 4);
         count_if(&mut self.without_header, outline.version == 0);
+        add(&mut self.packets, 1);
         count_if(&mut self.incomplete, outline.missing != 0);
         let fragment = outline.fragment;
         count_if(&mut self.atomic_fragments, is_of_kind(fragment, Atomic));
         count_if(&mut self.first_fragments, is_of_kind(fragment, First));
         count_if(&mut self.middle_fragments, is_of_kind(fragment, Middle));
         count_if(&mut self.last_fragments, is_of_kind(fragment, Last));
+        let has_chain = outline.version != 0;
+        let header_count = outline.header_count.min(16);
+        count_at(&mut self.chain_headers, header_count, has_chain);
+        count_length(&mut self.chain_bytes, outline.extensions_len, has_chain);
         let code = end_code_of(end);
+        count_if(&mut self.at_payload, code == at::PAYLOAD);
         count_if(&mut self.at_later_fragment, code == at::LATER_FRAGMENT);
         count_if(&mut self.at_truncated_header, code == at::TRUNCATED_HEADER);
         count_if(&mut self.at_fault, code == at::FAULT);

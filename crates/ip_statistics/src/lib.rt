@@ -4,7 +4,6 @@
 
 mod add;
 mod capture;
-mod common;
 mod counts;
 mod faults;
 mod headers;

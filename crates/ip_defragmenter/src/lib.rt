@@ -12,6 +12,8 @@ mod outcome;
 mod pending;
 mod slots;
 mod store;
+#[cfg(test)]
+mod tests;
 mod whole;
 
 pub use defragmenter::{add_fragment, defragment};

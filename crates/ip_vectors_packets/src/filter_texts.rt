@@ -74,10 +74,8 @@ fn last(bits: u64) -> Test {
 }
 
 #[test]
-fn terms(rt: HostRuntime) -> Result<(), Fail> {
+fn terms_of_headers(rt: HostRuntime) -> Result<(), Fail> {
     let rows = [
-        ("version 4", last(1 << 4)),
-        ("version 6", last(1 << 6)),
         ("header hop-by-hop", last(1)),
         ("header routing", last(1 << 43)),
         ("header fragment", last(1 << 44)),
@@ -91,6 +89,18 @@ fn terms(rt: HostRuntime) -> Result<(), Fail> {
         ("leads-to no-next", number(2, 59, PASSED, REFUSED)),
         ("leads-to ah", number(2, 51, PASSED, REFUSED)),
         ("leads-to 255", number(2, 255, PASSED, REFUSED)),
+    ];
+    for (text, wanted) in &rows {
+        check(&rt, text, &[*wanted]);
+    }
+    Ok(())
+}
+
+#[test]
+fn terms(rt: HostRuntime) -> Result<(), Fail> {
+    let rows = [
+        ("version 4", last(1 << 4)),
+        ("version 6", last(1 << 6)),
         ("fragment", last(0x300)),
         ("first-fragment", last(0x100)),
         ("later-fragment", last(0x200)),

@@ -1,7 +1,7 @@
 -- One more header, and what the finder of fragment headers holds.
-use Rattle.ip_spec.proofs.Common.{◌≡◌, ℕ, ◌+◌, ◌-◌, List, [], ◌∷◌, ◌++◌, refl, sym, ◌∙◌, ap, arith, common_steps, Bool, true, false, length, length-append, append-nil, take, take-append_seam, Option, Some, None, is_some, option_or, option_map, if◌then◌else◌, cond, cond-true, cond-false, cases_Bool, ExtHeader, bytes_of, is_empty, find, find-append, rules}
+use Rattle.ip_spec.proofs.Common.{◌≡◌, ℕ, ◌+◌, ◌-◌, List, [], ◌∷◌, ◌++◌, refl, sym, ◌∙◌, ap, arith, common_steps, true, false, length, length-append, append-nil, take, take-append_seam, Option, Some, None, is_some, option_or, option_map, cond-true, cond-false, ExtHeader, bytes_of, is_empty, find, find-append}
 use Rattle.ip_dissect.specs.Fragment.{fragments}
-use Rattle.ip_defragmenter.specs.Split.{before_fragment, after_fragment, link_after}
+use Rattle.ip_defragmenter.specs.Split.{before_fragment, link_after}
 use Rattle.ip_defragmenter.specs.Finder.{found_at, found_after}
 use Rattle.ip_defragmenter.specs.declared.finder.FoundHeader.{FoundHeader}
 use Rattle.ip_defragmenter.specs.declared.finder.Finder.{Finder}

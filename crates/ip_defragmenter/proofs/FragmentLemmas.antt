@@ -1,8 +1,8 @@
 -- Where a fragment's headers and bytes are in a packet.
-use Rattle.ip_spec.proofs.Common.{◌≡◌, ℕ, ◌+◌, ◌-◌, ◌≤◌, List, [], ◌∷◌, ◌++◌, refl, sym, ◌∙◌, ap, arith, common_steps, Bool, true, false, length, length-append, append_assoc, take, drop, drop-append_seam, take-append_seam, flat_map-append, Option, Some, None, option_map, ExtHeader, bytes_of, find, rules}
+use Rattle.ip_spec.proofs.Common.{◌≡◌, ℕ, ◌+◌, ◌-◌, ◌≤◌, List, [], ◌∷◌, ◌++◌, refl, sym, ◌∙◌, ap, arith, common_steps, length, length-append, append_assoc, take, drop, drop-append_seam, take-append_seam, flat_map-append, Option, Some, None, option_map, ExtHeader, bytes_of, find}
 use Rattle.ip_dissect.specs.Fragment.{fragments}
-use Rattle.ip_dissect.specs.Dissection.{dissected, DissectedParts}
-use Rattle.ip_dissect.specs.Outline.{outline_of, IsBaseOf}
+use Rattle.ip_dissect.specs.Dissection.{dissected}
+use Rattle.ip_dissect.specs.Outline.{IsBaseOf}
 use Rattle.ip_dissect.specs.declared.dissection.BaseHeader.{BaseHeader}
 use Rattle.ip_dissect.specs.declared.outline.Outline.{Outline}
 use Rattle.ip_dissect.specs.declared.packet.Packet.{Packet}

@@ -1,5 +1,5 @@
 -- What a payload has received keeps its limit, and whether conflicts abandon the packet.
-use Rattle.std.proofs.Common.{◌≡◌, ℕ, Bool, true, false, List, [], ◌∷◌, refl, ◌∙◌, ap, cond}
+use Rattle.std.proofs.Common.{◌≡◌, ℕ, true, false, List, [], ◌∷◌, refl, ◌∙◌, cond}
 use Rattle.std.specs.Prelude.{Option, Some, None}
 use Rattle.ip_defrag.specs.Fragment.{Fragment}
 use Rattle.ip_defrag.specs.Refusal.{refusal}

@@ -1,7 +1,7 @@
 -- What a packet that is added changes.
 use Rattle.std.specs.Prelude.{◌≡◌, ℕ, Bool, true, false, List, Option, Some, None, Result, Ok, Err, slice_get, slice_set, if◌then◌else◌}
 use Rattle.ip_defrag.specs.declared.progress.Progress.{Progress}
-use Rattle.ip_defrag.specs.declared.progress.Progress.TheVariants.{MoreWanted as More, Whole as All}
+use Rattle.ip_defrag.specs.declared.progress.Progress.TheVariants as progress
 use Rattle.ip_defragmenter.specs.FragmentOf.{FragmentParts}
 use Rattle.ip_defragmenter.specs.Slots.{place_of, slots_after}
 use Rattle.ip_defragmenter.specs.Memories.{IsStoredIn}
@@ -16,14 +16,14 @@ use Rattle.ip_defragmenter.specs.declared.outcome.DropReason.TheVariants.{Refuse
 
 -- what became of a fragment, by what the memory with this index returned
 abbrev pub outcome_of : ℕ → Result Progress StoreError → Outcome
-outcome_of i (Ok More) = MoreWanted
-outcome_of i (Ok All) = Whole i
+outcome_of i (Ok progress.MoreWanted) = MoreWanted
+outcome_of i (Ok progress.Whole) = Whole i
 outcome_of i (Err e) = Dropped (Refused e)
 
 -- The packet is whole.
 abbrev pub is_whole : Result Progress StoreError → Bool
-is_whole (Ok More) = false
-is_whole (Ok All) = true
+is_whole (Ok progress.MoreWanted) = false
+is_whole (Ok progress.Whole) = true
 is_whole (Err e) = false
 
 -- the slots, of which this one is free again or not

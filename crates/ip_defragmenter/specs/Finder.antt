@@ -1,5 +1,5 @@
 -- What the finder of fragment headers holds.
-use Rattle.std.specs.Prelude.{ℕ, ◌+◌, List, length, Option}
+use Rattle.std.specs.Prelude.{ℕ, ◌+◌, List, length}
 use Rattle.std.specs.Option.{option_map}
 use Rattle.std.specs.List.{find}
 use Rattle.ip_spec.specs.Chain.{ExtHeader, bytes_of}

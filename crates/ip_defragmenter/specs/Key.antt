@@ -1,5 +1,5 @@
 -- The keys of packets that arrive in fragments (RFC 791, section 3.2; RFC 8200, section 4.5), and their hashes.
-use Rattle.std.specs.Prelude.{ℕ, ◌+◌, ◌*◌, ◌%◌, Bool, false, ◌&&◌, ◌==◌, List, [], ◌∷◌, ◌++◌, slice_index}
+use Rattle.std.specs.Prelude.{ℕ, ◌+◌, ◌*◌, ◌%◌, Bool, false, ◌&&◌, ◌==◌, List, [], ◌∷◌, slice_index}
 use Rattle.std.specs.List.{fold}
 use Rattle.std.specs.Int.{from_be_bytes, w32}
 use Rattle.std.specs.Str.{bytes_eq}

@@ -1,5 +1,5 @@
 -- What the memory of a packet holds.
-use Rattle.std.specs.Prelude.{◌≡◌, ℕ, Bool, true, ◌&&◌, ◌==◌, nat_lt, nat_le, List, length, take, Option, Some, None, is_some, not, Result, Ok, Err, if◌then◌else◌}
+use Rattle.std.specs.Prelude.{ℕ, Bool, true, ◌&&◌, ◌==◌, nat_lt, nat_le, List, length, take, Option, Some, None, is_some, not, Result, Err, if◌then◌else◌}
 use Rattle.std.specs.Result.{result_map_both}
 use Rattle.ip_defrag.specs.Fragment.{Fragment, fragment_at}
 use Rattle.ip_defrag.specs.Payload.{payload_of}

@@ -1,7 +1,7 @@
 -- The slots of packets that aren't whole yet, and which one a packet has.
-use Rattle.std.specs.Prelude.{◌≡◌, ℕ, ◌+◌, ◌-◌, ◌*◌, ◌/◌, ◌%◌, Bool, true, false, not, nat_le, nat_lt, List, length, position, Option, Some, None, is_some, if◌then◌else◌, slice_range, slice_index_or, slice_set, min}
+use Rattle.std.specs.Prelude.{ℕ, ◌+◌, ◌-◌, ◌*◌, ◌/◌, ◌%◌, Bool, true, false, not, nat_le, nat_lt, List, length, position, Option, Some, None, is_some, if◌then◌else◌, slice_range, slice_index_or, slice_set, min}
 use Rattle.std.specs.List.{list_all}
-use Rattle.std.specs.Option.{option_map, option_map_or, option_and_then, option_or}
+use Rattle.std.specs.Option.{option_map, option_map_or, option_and_then}
 use Rattle.ip_defragmenter.specs.Key.{same_key, hash_of}
 use Rattle.ip_defragmenter.specs.declared.key.FragmentKey.{FragmentKey}
 use Rattle.ip_defragmenter.specs.declared.pending.Pending.{Pending}

@@ -1,8 +1,7 @@
-use Rattle.std.proofs.Common.{◌≡◌, ℕ, List, ap, subst, ◌∙◌, refl}
-use Rattle.std.specs.Prelude.{Option, Some}
+use Rattle.std.proofs.Common.{ap, subst, ◌∙◌, refl}
+use Rattle.std.specs.Prelude.{Option}
 use Rattle.ip_defragmenter.specs.FragmentOf.{parts_of}
 use Rattle.ip_defragmenter.specs.Added.{IsAddedBy, is_whole, freed}
-use Rattle.ip_defragmenter.specs.declared.pending.Pending.{Pending}
 use Rattle.ip_defragmenter.specs.declared.slots.Placement.{Placement}
 use Rattle.ip_defragmenter.proofs.defragmenter.add_fragment.Goals as goal
 

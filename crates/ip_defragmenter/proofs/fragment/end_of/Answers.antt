@@ -1,4 +1,4 @@
-use Rattle.ip_spec.proofs.Common.{◌≡◌, ◌+◌, rules, refl, ap, ◌∙◌, arith}
+use Rattle.ip_spec.proofs.Common.{◌+◌, rules, ap, arith}
 use Rattle.ip_dissect.specs.declared.outline.Outline.{Outline}
 use Rattle.ip_dissect.proofs.PacketLemmas.{outline_fits}
 use Rattle.ip_defragmenter.proofs.fragment.end_of.Goals as goal

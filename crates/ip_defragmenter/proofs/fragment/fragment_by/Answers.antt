@@ -1,4 +1,4 @@
-use Rattle.ip_spec.proofs.Common.{◌≡◌, ℕ, List, Option, Some, None, Result, Ok, Err, refl, sym, ap, ◌∙◌, option_map, option_map_or}
+use Rattle.ip_spec.proofs.Common.{◌≡◌, Option, Some, None, Result, Ok, Err, ap, ◌∙◌, option_map_or}
 use Rattle.ip_dissect.specs.Dissection.{DissectedParts, dissected}
 use Rattle.ip_defragmenter.specs.FragmentOf.{FragmentParts, parts_of, fragmented, unusable, fragment_by, fragment_in}
 use Rattle.ip_defragmenter.specs.declared.err.FragmentError.{FragmentError}

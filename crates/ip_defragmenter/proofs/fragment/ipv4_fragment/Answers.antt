@@ -1,4 +1,4 @@
-use Rattle.ip_spec.proofs.Common.{◌≡◌, ℕ, List, Option, Some, None, refl, sym, ap, subst, ◌∙◌, arith, length, ◌++◌, bytes_of, cond-true, cond-false}
+use Rattle.ip_spec.proofs.Common.{◌≡◌, ℕ, List, Some, None, refl, sym, ap, subst, ◌∙◌, arith, ◌++◌, bytes_of, cond-true, cond-false}
 use Rattle.ip_base.specs.Ipv4Header.{is_ipv4_fragmenting, protocol, ipv4_source_octets, ipv4_destination_octets, ipv4_fragment_offset, ipv4_more_fragments}
 use Rattle.ip_base.specs.BaseHeaderFields.{ipv4_identification}
 use Rattle.ip_base.specs.declared.ip_number_impl.IpNumber.{IpNumber}
@@ -7,8 +7,6 @@ use Rattle.ip_base.specs.Ipv4HeaderSlice as ipv4_header
 use Rattle.ip_dissect.specs.Dissection.{dissected}
 use Rattle.ip_dissect.specs.Outline.{IsBaseOf}
 use Rattle.ip_dissect.specs.declared.outline.Outline.{Outline}
-use Rattle.ip_dissect.specs.declared.dissection.BaseHeader.{BaseHeader}
-use Rattle.ip_defragmenter.specs.FragmentOf.{FragmentParts, parts_of, ipv4_parts}
 use Rattle.ip_defragmenter.proofs.FragmentLemmas.{ipv4_bytes, same_parts}
 use Rattle.ip_defragmenter.proofs.fragment.ipv4_fragment.Goals as goal
 

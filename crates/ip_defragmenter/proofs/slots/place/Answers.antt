@@ -1,5 +1,5 @@
-use Rattle.ip_spec.proofs.Common.{◌≡◌, ℕ, ◌+◌, List, Option, Some, None, sym, ap, ◌∙◌, refl, option_map, length, min, slice_range}
-use Rattle.ip_defragmenter.specs.Slots.{first_of, set_of, place_in, place_of}
+use Rattle.ip_spec.proofs.Common.{◌≡◌, ℕ, ◌+◌, List, Option, Some, None, ap, ◌∙◌, option_map, length, min, slice_range}
+use Rattle.ip_defragmenter.specs.Slots.{first_of, place_in, place_of}
 use Rattle.ip_defragmenter.specs.declared.key.FragmentKey.{FragmentKey}
 use Rattle.ip_defragmenter.specs.declared.pending.Pending.{Pending}
 use Rattle.ip_defragmenter.specs.declared.slots.Placement.{Placement}

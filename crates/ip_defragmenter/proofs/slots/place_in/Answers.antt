@@ -1,10 +1,9 @@
-use Rattle.ip_spec.proofs.Common.{◌≡◌, ℕ, List, Option, Some, None, sym, ap, ◌∙◌, refl, option_map_or}
+use Rattle.ip_spec.proofs.Common.{◌≡◌, ℕ, List, Option, Some, None, ap, ◌∙◌, refl, option_map_or}
 use Rattle.std.specs.Prelude.{position}
 use Rattle.std.specs.Option.{option_and_then}
 use Rattle.ip_defragmenter.specs.Slots.{has_key, is_free, is_oldest, own_in, new_place, displaced_in, place_in}
 use Rattle.ip_defragmenter.specs.declared.key.FragmentKey.{FragmentKey}
 use Rattle.ip_defragmenter.specs.declared.pending.Pending.{Pending}
-use Rattle.ip_defragmenter.specs.declared.slots.Placement.{Placement}
 use Rattle.ip_defragmenter.proofs.slots.place_in.Goals as goal
 
 -- The place by what the three searches found.

@@ -1,10 +1,10 @@
-use Rattle.std.proofs.Common.{◌≡◌, ℕ, Bool, true, List, ap, subst, sym, ◌∙◌, cond}
-use Rattle.std.specs.Prelude.{Option, None}
+use Rattle.std.proofs.Common.{ℕ, true, ap, subst, ◌∙◌}
+use Rattle.std.specs.Prelude.{Option}
 use Rattle.std.specs.Result.{is_ok}
 use Rattle.ip_defrag.specs.Received.{Received, received_nothing, received_all}
 use Rattle.ip_defragmenter.specs.FragmentOf.{parts_of}
-use Rattle.ip_defragmenter.specs.Memory.{HoldsReceived, WasStored, FirstParts, first_after, stored_after, stored_outcome}
-use Rattle.ip_defragmenter.specs.Memories.{kept_in, held_after}
+use Rattle.ip_defragmenter.specs.Memory.{HoldsReceived, FirstParts, first_after, stored_after, stored_outcome}
+use Rattle.ip_defragmenter.specs.Memories.{kept_in}
 use Rattle.ip_defragmenter.proofs.MemoryLemmas.{stored_is}
 use Rattle.ip_defragmenter.proofs.store.store_one.Goals as goal
 

@@ -1,4 +1,4 @@
-use Rattle.ip_spec.proofs.Common.{◌≡◌, ℕ, List, true, false, Option, Some, None, refl, sym, ◌∙◌, ap, is_some, cases_Bool, inl, inr, if◌then◌else◌, cond-true, cond-false, ExtHeader}
+use Rattle.ip_spec.proofs.Common.{◌≡◌, ℕ, true, false, Option, Some, None, refl, sym, ◌∙◌, ap, is_some, cases_Bool, inl, inr, if◌then◌else◌, cond-true, cond-false, ExtHeader}
 use Rattle.ip_dissect.specs.Fragment.{fragments}
 use Rattle.ip_defragmenter.specs.Finder.{found_at, found_after}
 use Rattle.ip_defragmenter.specs.declared.finder.FoundHeader.{FoundHeader}

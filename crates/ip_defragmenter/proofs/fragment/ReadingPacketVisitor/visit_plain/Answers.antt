@@ -1,4 +1,4 @@
-use Rattle.ip_spec.proofs.Common.{◌≡◌, ℕ, List, [], ◌∷◌, true, false, refl, ap, sym, ◌∙◌, length, rules, ExtHeader, is_empty, is_some, not, ◌&&◌}
+use Rattle.ip_spec.proofs.Common.{◌≡◌, List, [], ◌∷◌, true, refl, ap, ◌∙◌, length, ExtHeader, is_empty, is_some, not, ◌&&◌}
 use Rattle.std.proofs.lemmas.Bool.{and_parts}
 use Rattle.ip_dissect.specs.Dissection.{dissected}
 use Rattle.ip_dissect.specs.End.{has_error}

@@ -1,4 +1,4 @@
-use Rattle.ip_spec.proofs.Common.{◌≡◌, ℕ, List, ap, sym, ◌∙◌, length}
+use Rattle.ip_spec.proofs.Common.{ℕ, List, ap, sym, ◌∙◌, length}
 use Rattle.ip_dissect.specs.Dissection.{dissected}
 use Rattle.ip_defragmenter.specs.Finder.{found_after}
 use Rattle.ip_defragmenter.proofs.fragment.ReadingPacketVisitor.visit_slow.Goals as goal

@@ -1,4 +1,4 @@
-use Rattle.std.proofs.Common.{◌≡◌, ℕ, Bool, true, List, [], subst}
+use Rattle.std.proofs.Common.{ℕ, Bool, true, [], subst}
 use Rattle.ip_defrag.specs.Received.{received_nothing, received_all}
 use Rattle.ip_defrag.specs.Split.{WasGiven}
 use Rattle.ip_defragmenter.proofs.MemoryLemmas.{keeps_all}

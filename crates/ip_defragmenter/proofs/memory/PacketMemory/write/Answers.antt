@@ -1,6 +1,6 @@
-use Rattle.std.proofs.Common.{◌≡◌, ℕ, Bool, true, List, sym, ◌∙◌, refl, cond}
+use Rattle.std.proofs.Common.{◌≡◌, true, ◌∙◌, refl}
 use Rattle.std.proofs.lemmas.Bool.{cond-true}
-use Rattle.std.specs.Prelude.{Option, Some, None, length}
+use Rattle.std.specs.Prelude.{Some, None}
 use Rattle.ip_defrag.specs.Split.{are_among}
 use Rattle.ip_defrag.specs.Received.{received_nothing, received_all}
 use Rattle.ip_defrag.proofs.GivenLemmas.{shown_pieces}

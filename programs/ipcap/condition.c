@@ -146,8 +146,13 @@ static const struct {
     const char *word;
     const char *ours;
 } libpcap_words[] = {
-    {"less", "length <= N"},       {"greater", "length >= N"},  {"len", "length"},     {"portrange", "port A-B"},
-    {"proto", "leads-to PROTOCOL"}, {"protochain", "header N, or leads-to N"}, {"tcp[tcpflags]", "tcp-flags FLAGS"},
+    {"less", "length <= N"},
+    {"greater", "length >= N"},
+    {"len", "length"},
+    {"portrange", "port A-B"},
+    {"proto", "leads-to PROTOCOL"},
+    {"protochain", "header N, or leads-to N"},
+    {"tcp[tcpflags]", "tcp-flags FLAGS"},
 };
 
 /* Says what is written instead of a word of libpcap's expressions. */

@@ -1,12 +1,14 @@
 # make run            answer the lines of standard input with the proved program ipexts
 # make try            answer sample lines within seconds, with run-time checks instead of proofs
 # make test           compare the documented contracts, errors, terms and figures with the code and the recorded run, run
-#                     the merge gate, check the spelling, and test the program, the library, ipcap, the package and the
-#                     page, and 20,000 comparisons with etherparse
+#                     the merge gate, check the documents and the spelling, and test the program, the library, ipcap,
+#                     the packages and the page, and 20,000 comparisons with etherparse
 # make lib            build the static C library and its header in build/ (TARGET=aarch64: for ARM64, in build/aarch64/,
 #                     with its shared library if Debian's cross-compiler is there)
 # make programs       build the shared libraries and the programs ipexts and ipcap, which needs a C compiler and libpcap;
 #                     with zlib, libzstd or liblzma, ipcap also reads compressed captures
+# make portable       build those of them that need libpcap so that they load it by either of its names, in build/portable/,
+#                     as `make wheel` and `make dist` pack them
 # make wheel          pack the Python package with the shared libraries, as build/wolfaren-VERSION-py3-none-linux_x86_64.whl
 # make install        install what `make programs` has built: the libraries, their headers, the programs, their manual
 #                     pages, and the completions for bash and zsh. Needs neither rt nor a compiler (PREFIX=/usr/local, also
@@ -34,7 +36,7 @@
 #
 # The last eight and make test-c take CARGO_FLAGS="..", additional flags for Cargo, such as one that locates the crate
 # on a machine without network access.
-.PHONY: run try test lib lib-x86_64 lib-aarch64 programs wheel install install-lib install-pcap-lib uninstall dist deb test-c page test-page mutants memory bench bench-border cost diff diff-test diff-fields fuzz fuzz-test
+.PHONY: run try test lib lib-x86_64 lib-aarch64 programs portable wheel install install-lib install-pcap-lib uninstall dist deb test-c page test-page mutants memory bench bench-border cost diff diff-test diff-fields fuzz fuzz-test
 .SILENT:
 
 RT_IS_THERE = command -v rt >/dev/null || { \
@@ -105,9 +107,13 @@ programs: lib
 	scripts/prove ipexts
 	cp build/ipcap.out/ipcap build/ipcap.out/*.so.0 crates/ipexts/out/ipexts build/
 
-wheel: programs
+portable: programs
+	$(MAKE) -C programs shared pcap-shared ipcap PCAP=loaded LIB=$(CURDIR)/build INCLUDE=$(CURDIR)/build \
+		OUT=$(CURDIR)/build/portable
+
+wheel: portable
 	$(PYTHON_IS_THERE)
-	scripts/wheel build build
+	scripts/wheel build build/portable
 
 PREFIX = /usr/local
 BINDIR = $(PREFIX)/bin
@@ -166,7 +172,7 @@ uninstall:
 	rm -f $(DESTDIR)$(MANDIR)/man1/ipcap.1 $(DESTDIR)$(MANDIR)/man1/ipexts.1
 	rm -f $(DESTDIR)$(BASHDIR)/ipcap $(DESTDIR)$(ZSHDIR)/_ipcap
 
-dist: programs page wheel
+dist: portable page wheel
 	scripts/dist
 	! command -v $(ARM64_CC) >/dev/null || { $(MAKE) lib TARGET=aarch64 && scripts/dist aarch64; }
 

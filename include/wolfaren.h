@@ -14,6 +14,9 @@
  *  - For packets that must be whole, where an error is a reason to drop them: wolfaren_find_payload, or
  *    wolfaren_parse_packet for the extension headers too. Neither stops at a later fragment, as wolfaren_dissect does.
  *  - For extension headers without an IP header: wolfaren_parse_chain, or wolfaren_next_header for one after another.
+ *  - For what is in an extension header: wolfaren_next_option, wolfaren_routing_fields and wolfaren_routing_address,
+ *    wolfaren_fragment_fields, wolfaren_authentication_fields.
+ *  - For fragments, which make packets whole: wolfaren_defragment and wolfaren_write_whole_packet.
  *  - For new chains, or headers in another order: wolfaren_link_headers and wolfaren_write_headers.
  *
  * The header needs C99 or C++11, or a later standard.
@@ -52,7 +55,7 @@
 #define WOLFAREN_VERSION (10000 * WOLFAREN_VERSION_MAJOR + 100 * WOLFAREN_VERSION_MINOR + WOLFAREN_VERSION_PATCH)
 
 /* A checksum of the structs, numbers and calls in this header, made by scripts/abi of the repository. */
-#define WOLFAREN_ABI 0x712ee9dbu
+#define WOLFAREN_ABI 0x3bb3fe11u
 
 #if !(defined(__x86_64__) && !defined(__ILP32__)) && !defined(_M_X64) && !defined(__aarch64__) && !defined(_M_ARM64)
 #error "libwolfaren needs a 64-bit machine: x86-64 or ARM64"
@@ -133,7 +136,7 @@ enum {
 struct wolfaren_fault {
     size_t required_len; /* number of bytes needed */
     size_t len;          /* number of bytes available */
-    size_t offset;       /* where the layer that needs them begins, in bytes from the start of the input */
+    size_t offset;       /* where that layer or the faulty header begins, in bytes from the start of the input */
     uint8_t kind;        /* WOLFAREN_NO_FAULT .. */
     uint8_t header;      /* the faulty extension header; WOLFAREN_NO_LAYER in errors about packets */
     uint8_t layer;       /* the layer that needs the bytes */
@@ -411,7 +414,8 @@ struct wolfaren_packet {
  *
  * On success, returns true, fills in `packet`, and stores the headers' positions in `headers` as wolfaren_parse_chain
  * does, but with offsets from the start of the packet; `fault` is left unchanged. On error, returns false and stores
- * the error in `fault`; `packet` and `headers` are left unchanged. `fault->offset` is set for WOLFAREN_TOO_SHORT.
+ * the error in `fault`; `packet` and `headers` are left unchanged. `fault->offset` is only set for
+ * WOLFAREN_TOO_SHORT.
  *
  * As in wolfaren_parse_chain, the bytes after an IPv6 fragment header are parsed as headers whatever its offset is. If
  * the offset isn't 0, they are from the middle of a payload that the sender chooses: the packet may be rejected for
@@ -493,6 +497,77 @@ bool wolfaren_authentication_fields(const uint8_t *bytes, size_t len, struct wol
     WOLFAREN_NONNULL(3);
 
 /*
+ * A position among the options of a hop-by-hop or destination options header (RFC 8200, section 4.2), and the end of the
+ * header. For a struct wolfaren_header h, a walk starts at `{h.offset + 2, h.offset + h.len}`. Any two numbers are a valid
+ * cursor.
+ */
+struct wolfaren_option_cursor {
+    size_t offset; /* number of bytes before the cursor */
+    size_t end;    /* number of bytes before the end of the header */
+};
+
+/* What a node does with a packet if it doesn't know an option in it: values of `if_unknown` in struct wolfaren_option. */
+enum {
+    WOLFAREN_SKIP_OPTION = 0,
+    WOLFAREN_DISCARD = 1,
+    WOLFAREN_DISCARD_AND_REPORT = 2,        /* discards the packet, and reports that to its source (ICMP) */
+    WOLFAREN_DISCARD_AND_REPORT_UNICAST = 3 /* the same, unless the destination is multicast */
+};
+
+/* An option. Pad1 has no data. */
+struct wolfaren_option {
+    size_t offset;       /* where the option begins, in bytes from the start of the input */
+    size_t data_offset;  /* where its data begins, in bytes from the start of the input */
+    size_t data_len;     /* length of its data in bytes: 0 to 255 */
+    uint8_t option_type; /* its type: 0 is Pad1, 1 is PadN */
+    uint8_t if_unknown;  /* the two highest bits of its type: WOLFAREN_SKIP_OPTION .. */
+    uint8_t may_change;  /* the third-highest bit of its type: 1 if the data can change on the way, 0 if not */
+};
+
+/*
+ * Advances a cursor by one option. Pass the same bytes in each step.
+ *
+ * Returns true if there is an option at the cursor that lies within the header and the bytes: it is stored in `option`, and
+ * the cursor moves to the first byte after it. Otherwise returns false and writes nothing. Then `offset` of the cursor is
+ * its `end` if all options were well formed; if it is less, a malformed option begins there, which goes past the end.
+ */
+WOLFAREN_USE_RESULT
+bool wolfaren_next_option(struct wolfaren_option_cursor *cursor, const uint8_t *bytes, size_t len,
+                          struct wolfaren_option *option) WOLFAREN_NONNULL(1, 4);
+
+/*
+ * The fields of a routing header (RFC 8200, section 4.4). It has addresses if its type is 2 (RFC 6275, section 6.4), 3
+ * (RFC 6554, section 3) or 4 (RFC 8754, section 2) and its fields fit its length; otherwise their number and lengths are 0.
+ */
+struct wolfaren_routing {
+    size_t len;              /* length of the header in bytes */
+    size_t addresses;        /* number of addresses, which doesn't depend on `segments_left`; the first is at byte 8 */
+    size_t address_len;      /* number of bytes of each address but the last that are in the header: 16, or less in type 3 */
+    size_t last_address_len; /* number of bytes of the last address that are in the header */
+    uint8_t routing_type;    /* the routing type */
+    uint8_t segments_left;   /* number of nodes that are still to be visited */
+    uint8_t next_header;     /* the protocol number of what follows the header */
+};
+
+/*
+ * Reads the fields of the routing header at the start of the `len` bytes, and returns true. If there are fewer bytes than the
+ * header has, returns false and writes nothing.
+ */
+WOLFAREN_USE_RESULT
+bool wolfaren_routing_fields(const uint8_t *bytes, size_t len, struct wolfaren_routing *fields) WOLFAREN_NONNULL(3);
+
+/*
+ * Stores address `index`, counted from 0, of the routing header at the start of the `len` bytes in `address`, which has 16
+ * bytes, and returns true. If there is no such address, returns false and writes nothing.
+ *
+ * `destination` has the 16 bytes of the IPv6 destination address. A header of type 3 leaves out the first bytes of an
+ * address if they are those of the destination (RFC 6554, section 3); no other header depends on it.
+ */
+WOLFAREN_USE_RESULT
+bool wolfaren_routing_address(const uint8_t *bytes, size_t len, size_t index, const uint8_t *destination,
+                              uint8_t *address) WOLFAREN_NONNULL(4, 5);
+
+/*
  * Links the headers in the array: sets `next_header` of each to the `number` of the one after it, and that of the last
  * to `last`. Changes nothing else. Returns the number of the first header, which is the value for the next header field
  * before it, or `last` if `count` is 0.
@@ -522,11 +597,126 @@ WOLFAREN_USE_RESULT
 bool wolfaren_write_headers(const uint8_t *bytes, size_t len, const struct wolfaren_header *headers, size_t count,
                             uint8_t *out, size_t room, size_t *written) WOLFAREN_NONNULL(7);
 
+/* A buffer size, in bytes, that is large enough for any packet of wolfaren_write_whole_packet. */
+#define WOLFAREN_WHOLE_PACKET_ROOM 65575
+
+/* What became of a packet that wolfaren_defragment got. */
+enum wolfaren_outcome {
+    WOLFAREN_NOT_FRAGMENT = 0,     /* no fragment, or an atomic one, which is a packet by itself (RFC 6946) */
+    WOLFAREN_MORE_WANTED = 1,      /* fragments of its packet are missing */
+    WOLFAREN_WHOLE = 2,            /* its packet is whole */
+    WOLFAREN_FAULTY_FRAGMENT = 3,  /* dropped: its extension headers are truncated or faulty (RFC 7112) */
+    WOLFAREN_NO_STATED_LENGTH = 4, /* dropped: its base header states a length of 0 */
+    WOLFAREN_BYTES_MISSING = 5,    /* dropped: fewer bytes are here than it states */
+    WOLFAREN_UNALIGNED = 6,        /* dropped: more fragments follow, and its length isn't a positive multiple of 8 */
+    WOLFAREN_TOO_LONG = 7,         /* dropped: it ends after byte 65,535 of the payload */
+    WOLFAREN_OVERLAP = 8,          /* dropped, and its packet abandoned: bytes of it have already arrived (RFC 5722) */
+    WOLFAREN_TWO_ENDS = 9,         /* dropped, and its packet abandoned: the fragments end at two places */
+    WOLFAREN_ABANDONED = 10,       /* dropped: its packet was abandoned */
+    WOLFAREN_HEADERS_TOO_LONG = 11, /* dropped: it is the first fragment, with headers of more than 4,096 bytes */
+    WOLFAREN_NO_SLOT = 12          /* dropped: there are no slots */
+};
+
+/* Which packet was given up for another one. */
+enum wolfaren_loss {
+    WOLFAREN_NO_LOSS = 0,
+    WOLFAREN_TIMED_OUT = 1, /* one that wasn't whole 60 seconds after its first fragment (RFC 8200, section 4.5) */
+    WOLFAREN_DISPLACED = 2  /* the oldest one of those that share slots with the other one */
+};
+
+/* A slot: that of a packet which isn't whole yet, or free. It is free if all its bytes are 0. The library reads and writes
+ * the fields. */
+struct wolfaren_slot {
+    uint64_t since;           /* when the packet's first fragment arrived */
+    uint8_t source[16];       /* the source address, of IPv4 in the first 4 bytes */
+    uint8_t destination[16];  /* the destination address */
+    uint32_t identification;  /* the identification */
+    uint8_t protocol;         /* the protocol number of an IPv4 packet */
+    uint8_t version;          /* 4 or 6; if it is another number, the slot is free */
+};
+
+/* What has arrived of a payload: a part of struct wolfaren_packet_memory. */
+struct wolfaren_reassembly {
+    size_t reach;        /* the largest end of a fragment */
+    size_t count;        /* number of bytes that have arrived */
+    uint8_t ended;       /* not 0 if a last fragment has arrived */
+    uint8_t abandoned;   /* not 0 if the packet was abandoned */
+    uint8_t kept;        /* not 0 if a conflict doesn't abandon the packet */
+    uint8_t marks[8192]; /* a mark for each unit of 8 bytes */
+};
+
+/*
+ * The fragments of one packet. There are none if all its bytes are 0. The library reads and writes the fields. It touches
+ * `marks`, `head` and `payload` only as far as the packet needs them: memory that the system fills with zeros, by calloc or
+ * mmap, is used page by page as packets need it.
+ */
+struct wolfaren_packet_memory {
+    size_t head_len;     /* length of the first fragment's headers, in bytes */
+    size_t link;         /* offset in them of the number of what follows them */
+    uint8_t first_here;  /* not 0 if the first fragment has arrived */
+    uint8_t next_header; /* the number of what the payload starts with */
+    struct wolfaren_reassembly reassembly;
+    uint8_t head[4096];     /* the first fragment's headers */
+    uint8_t payload[65536]; /* the payload */
+};
+
+/* Counts of packets that wolfaren_defragment got. Each stops at UINT64_MAX. Set all to 0 at first. */
+struct wolfaren_defragmenter_counts {
+    uint64_t outcomes[13]; /* packets by outcome: the index is an enum wolfaren_outcome */
+    uint64_t losses[3];    /* packets by which one was given up for them: the index is an enum wolfaren_loss */
+};
+
+/* What became of a packet. */
+struct wolfaren_added {
+    size_t slot;     /* the index of its packet's slot; 0 without one */
+    uint8_t outcome; /* an enum wolfaren_outcome */
+    uint8_t loss;    /* an enum wolfaren_loss */
+};
+
+/*
+ * Adds the packet at the start of the `len` bytes, which arrived at `time`, in nanoseconds since any moment. Stores what
+ * became of it in `*added`, and counts it.
+ *
+ * A fragment goes to its packet's slot and the memory with the slot's index (RFC 791, section 3.2; RFC 8200, section 4.5).
+ * A packet's key is its addresses and identification, and in IPv4 also its protocol. Fragments may arrive in any order, and
+ * repeated. If the outcome is WOLFAREN_WHOLE, wolfaren_write_whole_packet writes the packet of `memories[added->slot]`, until
+ * another packet is stored there; the slot is free again. With WOLFAREN_MORE_WANTED, and with the outcomes from
+ * WOLFAREN_UNALIGNED to WOLFAREN_HEADERS_TOO_LONG, `added->slot` is the slot of the fragment's packet. The remaining outcomes
+ * have no slot.
+ *
+ * A packet that isn't whole 60 seconds after its first fragment is given up when its next fragment arrives, or another packet
+ * needs its slot. Of more than 8 slots, 8 are for packets with the same hash. If all of them are in use, the packet with the
+ * oldest first fragment is given up. The hash depends on `factor`, which should be a random number that senders don't know,
+ * and the same at each call.
+ *
+ * Returns false, and changes nothing, if there aren't as many memories as slots. A memory has 77,872 bytes. The memories
+ * may lie in fresh pages of zeros; a page is used when the first packet needs it.
+ */
+WOLFAREN_USE_RESULT
+bool wolfaren_defragment(struct wolfaren_slot *slots, size_t slot_count, struct wolfaren_packet_memory *memories,
+                         size_t memory_count, struct wolfaren_defragmenter_counts *counts, uint32_t factor, uint64_t time,
+                         const uint8_t *bytes, size_t len, struct wolfaren_added *added) WOLFAREN_NONNULL(5, 10);
+
+/*
+ * Writes the whole packet of a memory to the start of `out`, which has `room` bytes: the headers of the first fragment up to
+ * the fragment header, with the number of what follows it and the length of the whole packet, and the payload. In IPv4 the
+ * more fragments flag is cleared, and the header's checksum computed.
+ *
+ * On success, returns true and stores the number of bytes written in `*written`. Otherwise writes nothing to `out`, stores 0
+ * in `*written` and returns false: the packet isn't whole, its length field can't state its length (as with an IPv6 packet
+ * whose extension headers and payload have more than 65,535 bytes), or `room` is less than its length. If `room` is
+ * WOLFAREN_WHOLE_PACKET_ROOM, it is enough.
+ */
+WOLFAREN_USE_RESULT
+bool wolfaren_write_whole_packet(const struct wolfaren_packet_memory *memory, uint8_t *out, size_t room, size_t *written)
+    WOLFAREN_NONNULL(1, 4);
+
 /* A buffer size, in bytes, that is large enough for any text of wolfaren_fault_text and its terminating null byte. */
 #define WOLFAREN_TEXT_ROOM 256
 
 /*
- * Formats the fault as text: writes it and a terminating null byte to `text`, which has `room` bytes. Returns the
+ * Formats the fault as text, such as "not enough bytes for the routing header at offset 40: 8 needed, 1 there". It names
+ * the faulty extension header, if there is one, and otherwise the layer. Writes the text and a terminating null byte to `text`, which has `room` bytes. Returns the
  * length of the text in bytes, without the null byte. If the return value is `room` or more, nothing is written.
  * Returns 0 for a fault that no call reports, such as one of kind WOLFAREN_NO_FAULT or of an unknown kind.
  */
@@ -562,7 +752,8 @@ enum wolfaren_test {
     WOLFAREN_TEST_TCP_FLAGS = 22,          /* of the flags of TCP in `address_low`, exactly those in `number` are set */
     WOLFAREN_TEST_ROUTING_TYPE = 23,       /* a routing header has the type `number` */
     WOLFAREN_TEST_SEGMENTS_LEFT = 24,      /* the segments left of a routing header compare so with `number` */
-    WOLFAREN_TEST_OPTION = 25              /* hop-by-hop or destination options have one of type `number` */
+    WOLFAREN_TEST_OPTION = 25,             /* hop-by-hop or destination options have one of type `number` */
+    WOLFAREN_TEST_LAYER = 26               /* a flag in `address_low` is set by an error in the layer `number`: 1 .. 11 */
 };
 
 /*
@@ -595,9 +786,9 @@ enum wolfaren_comparison {
 
 /* A test of a filter. Fields that its kind doesn't use are ignored. */
 struct wolfaren_filter_test {
-    uint64_t number;       /* flags, the number of a term, what a quantity is compared with, or the lowest port */
+    uint64_t number;       /* flags, the number of a term, what a quantity is compared with, the lowest port, or a layer */
     uint64_t address_high; /* bytes 0 to 7 of an IPv6 network's address, as a big-endian number; ignored for IPv4 */
-    uint64_t address_low;  /* bytes 8 to 15 of it, an IPv4 network's address, the highest port, or flags of TCP */
+    uint64_t address_low;  /* bytes 8 to 15 of it, an IPv4 network's address, the highest port, flags of TCP, or flags */
     uint8_t kind;          /* WOLFAREN_TEST_FLAGS .. */
     uint8_t comparison;    /* WOLFAREN_EQUAL .. */
     uint8_t version;       /* IP version of a network's address: 4 or 6 */
@@ -609,8 +800,9 @@ struct wolfaren_filter_test {
 /*
  * A filter is a program. A packet starts at the test with index 0, and each test leads it to another one. The filter
  * matches a packet that is led to WOLFAREN_FILTER_PASSED. It doesn't match one that is led to any other index without a
- * test, or from a test to an index that isn't greater. wolfaren_parse_filter makes a program from a text: each term
- * becomes one test, in the order of the text, and `and`, `or` and `not` determine where tests lead.
+ * test, or from a test to an index that isn't greater. wolfaren_parse_filter makes a program from a text: `and`, `or` and
+ * `not` determine where tests lead. A program has at most one test for each term: terms of flags are joined to one test
+ * where one mask has their flags, and tests of flags come before others where the order doesn't matter.
  *
  * A filter is plain data, which a program may copy, store and modify. Any contents are valid: a count above
  * WOLFAREN_FILTER_TESTS means WOLFAREN_FILTER_TESTS, and no packet meets a test with an unknown code or with a number
@@ -660,7 +852,10 @@ struct wolfaren_filter_error {
  *   icmp, tcp, udp, dccp, gre, esp, icmp6, no-next, sctp, udp-lite       `leads-to` with this name
  *   fragment, first-fragment, later-fragment
  *   truncated, incomplete
- *   fault, fault KIND                    KIND is too-short, not-at-start, zero-length, unsupported-version or
+ *   truncated LAYER                      LAYER is IP-header, IPv4-header, IPv4-packet, authentication, IPv6-header,
+ *                                        IPv6-packet, IPv6-extension, hop-by-hop, destination-options, routing or
+ *                                        fragment
+ *   fault, fault KIND, fault KIND LAYER  KIND is too-short, not-at-start, zero-length, unsupported-version or
  *                                        header-length
  *   headers OP N, chain-bytes OP N, payload OP N       OP is =, !=, <, <=, > or >=
  *   length OP N                          the length that the IP header states; false if it states none
@@ -748,7 +943,7 @@ static inline const char *wolfaren_kind_name(uint8_t kind)
     return name.text;
 }
 
-/* Returns the name of a header or packet, as wolfaren_fault_text has it: "Ipv6HopByHopHeader". */
+/* Returns the name of a header or packet in errors of Rust: "Ipv6HopByHopHeader". */
 static inline const char *wolfaren_layer_name(uint8_t layer)
 {
     struct wolfaren_name name;
@@ -756,7 +951,7 @@ static inline const char *wolfaren_layer_name(uint8_t layer)
     return name.text;
 }
 
-/* Returns the name of a length source, as wolfaren_fault_text has it: "Slice". */
+/* Returns the name of a length source in errors of Rust: "Slice". */
 static inline const char *wolfaren_len_source_name(uint8_t len_source)
 {
     struct wolfaren_name name;
@@ -796,6 +991,14 @@ WOLFAREN_LAYOUT(wolfaren_packet, 40, len_source, 38);
 WOLFAREN_LAYOUT(wolfaren_payload, 32, len_source, 30);
 WOLFAREN_LAYOUT(wolfaren_fragment, 8, next_header, 7);
 WOLFAREN_LAYOUT(wolfaren_authentication, 24, next_header, 16);
+WOLFAREN_LAYOUT(wolfaren_option_cursor, 16, end, 8);
+WOLFAREN_LAYOUT(wolfaren_option, 32, may_change, 26);
+WOLFAREN_LAYOUT(wolfaren_routing, 40, next_header, 34);
+WOLFAREN_LAYOUT(wolfaren_slot, 48, version, 45);
+WOLFAREN_LAYOUT(wolfaren_reassembly, 8216, marks, 19);
+WOLFAREN_LAYOUT(wolfaren_packet_memory, 77872, payload, 12336);
+WOLFAREN_LAYOUT(wolfaren_defragmenter_counts, 128, losses, 104);
+WOLFAREN_LAYOUT(wolfaren_added, 16, loss, 9);
 WOLFAREN_LAYOUT(wolfaren_filter_test, 32, if_not, 29);
 WOLFAREN_LAYOUT(wolfaren_filter, 2056, tests, 8);
 WOLFAREN_LAYOUT(wolfaren_filter_error, 16, expected, 8);

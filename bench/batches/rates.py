@@ -1,4 +1,4 @@
-"""Prints how many plain packets a second Python counts, filters and dissects, with one thread and with four."""
+"""Prints how many plain packets a second Python counts, filters and dissects: one by one, together, and with four threads."""
 
 import threading
 import time
@@ -7,7 +7,7 @@ import numpy
 
 import wolfaren
 
-COUNT, LEN = 1_000_000, 80
+COUNT, LEN, SINGLE, RUNS = 1_000_000, 80, 20_000, 5
 
 
 def packets():
@@ -17,27 +17,40 @@ def packets():
     return (ipv6 + ipv4) * (COUNT // 2), numpy.arange(COUNT) * LEN, numpy.full(COUNT, LEN)
 
 
-def rate(call, arguments, threads):
-    """Returns the packets a second of the fastest of five runs."""
-    best = 0.0
-    for _ in range(5):
-        running = [threading.Thread(target=call(), args=arguments) for _ in range(threads)]
-        began = time.perf_counter()
-        for thread in running:
-            thread.start()
-        for thread in running:
-            thread.join()
-        best = max(best, threads * COUNT / (time.perf_counter() - began))
-    return best
+def rate_of(count, run):
+    """Returns how many packets a second a run takes."""
+    began = time.perf_counter()
+    run()
+    return count / (time.perf_counter() - began)
+
+
+def in_threads(call, arguments, threads):
+    """Makes a call in each of several threads."""
+    running = [threading.Thread(target=call, args=arguments) for _ in range(threads)]
+    for thread in running:
+        thread.start()
+    for thread in running:
+        thread.join()
+
+
+def one_by_one(call, buffer):
+    """Makes a call for each of some packets."""
+    for offset in range(0, SINGLE * LEN, LEN):
+        call(buffer[offset:offset + LEN])
 
 
 def main():
-    arguments, udp = packets(), wolfaren.Filter("udp and not fault")
-    calls = {"count": lambda: wolfaren.Statistics().add_many, "filter": lambda: udp.matches_many,
-             "dissect": lambda: wolfaren.dissect_many}
-    for name, call in calls.items():
-        print(f"Python: {name:8} {rate(call, arguments, 1) / 1e6:5.1f} million a second, "
-              f"{rate(call, arguments, 4) / 1e6:5.1f} with four threads")
+    buffer, offsets, lengths = arguments = packets()
+    udp, counted = wolfaren.Filter("udp and not fault"), wolfaren.Statistics()
+    calls = {"count": (counted.add, lambda *it: wolfaren.Statistics().add_many(*it)),
+             "filter": (udp.matches, udp.matches_many), "dissect": (wolfaren.dissect, wolfaren.dissect_many)}
+    for name, (one, many) in calls.items():
+        runs = [(SINGLE, lambda: one_by_one(one, buffer)), (COUNT, lambda: many(*arguments)),
+                (4 * COUNT, lambda: in_threads(many, arguments, 4))]
+        turns = [[rate_of(*it) for it in runs] for _ in range(RUNS)]
+        single, together, four = (max(it) / 1e6 for it in zip(*turns))
+        print(f"Python: {name:8} {single:5.2f} million a second one by one, {together:6.1f} together: {together / single:.0f} times, "
+              f"{four:6.1f} with four threads")
 
 
 if __name__ == "__main__":

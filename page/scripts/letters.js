@@ -10,7 +10,7 @@ Wolfaren.letters = (function () {
         context.font = FONTS[font];
         return context.measureText(text).width;
     }
-    // Breaks a text into lines of at most this width. A word that is wider is broken, too.
+    // Breaks a text into lines of at most this width. A word that is wider is broken too: after a hyphen, or else anywhere.
     function linesOf(text, font, most) {
         const lines = [""];
         for (const word of text.split(" ").flatMap((it) => piecesOf(it, font, most))) {
@@ -22,10 +22,13 @@ Wolfaren.letters = (function () {
     }
     function piecesOf(word, font, most) {
         const pieces = [""];
-        for (const letter of word) {
-            const last = pieces[pieces.length - 1];
-            if (last !== "" && widthOf(last + letter, font) > most) pieces.push(letter);
-            else pieces[pieces.length - 1] += letter;
+        const isRoomFor = (text) => pieces[pieces.length - 1] === "" || widthOf(pieces[pieces.length - 1] + text, font) <= most;
+        for (const part of word.split(/(?<=-)/)) {
+            if (!isRoomFor(part)) pieces.push("");
+            for (const letter of part) {
+                if (!isRoomFor(letter)) pieces.push("");
+                pieces[pieces.length - 1] += letter;
+            }
         }
         return pieces;
     }

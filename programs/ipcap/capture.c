@@ -247,7 +247,8 @@ static bool read_from_blocks(struct capture *capture, struct packet *packet)
     return true;
 }
 
-bool read_packet(struct capture *capture, struct packet *packet)
+/* Reads the next packet, even if it is to be skipped. */
+static bool read_next(struct capture *capture, struct packet *packet)
 {
     if (!(capture->handle ? read_from_handle(capture, packet) : read_from_blocks(capture, packet))) return false;
     capture->number++;
@@ -255,6 +256,14 @@ bool read_packet(struct capture *capture, struct packet *packet)
     packet->is_short = packet->header.caplen < packet->header.len;
     packet->is_ip = !packet->is_left_out && find_ip(capture->link_layer, packet->frame, packet->header.caplen,
                                                     &packet->ip_offset, &packet->protocol);
+    return true;
+}
+
+bool read_packet(struct capture *capture, struct packet *packet)
+{
+    do
+        if (!read_next(capture, packet)) return false;
+    while (capture->pass && !capture->pass(capture, packet));
     return true;
 }
 

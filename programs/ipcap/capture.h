@@ -36,6 +36,8 @@ struct capture_blocks {
     char left_out_names[CAPTURE_ERROR_ROOM];
 };
 
+struct packet;
+
 struct capture {
     pcap_t *handle;   /* null for a pcapng file */
     const char *name; /* for messages */
@@ -46,6 +48,9 @@ struct capture {
     bool is_live;    /* the input is not a regular file, so packets may arrive as they are captured */
     uint64_t number; /* number of packets read so far */
     void (*follow)(struct capture *capture); /* called after each packet is read, unless it is null */
+    /* Called with each packet that was read, unless it is null. May change it. If it returns false, the packet is skipped. */
+    bool (*pass)(struct capture *capture, struct packet *packet);
+    void *passer; /* for `pass` */
     /*
      * Called with each block of a pcapng file that follows those in `head` and is no packet, unless it is null. If it
      * returns false, nothing more is read.

@@ -1,9 +1,9 @@
 #include "chain_key.h"
 
-#include <stdio.h>
 #include <string.h>
 
 #include "names.h"
+#include "text.h"
 
 /*
  * The bytes of a key: IP version, header count, the number after the headers, the end, the header numbers, and then the
@@ -71,36 +71,40 @@ bool chain_key(const struct path *path, const struct parts *parts, struct key *k
     return path->tunnels == 0 || add_path(key, path);
 }
 
-/* Appends the IP version and the header numbers of a packet to a text of `len` characters. Returns its new length. */
-static int write_headers(char text[CHAIN_TEXT_ROOM], int len, int version, const uint8_t *numbers, size_t count)
+/* Appends the IP version and the header numbers of a packet to a text. Returns its new end. */
+static char *append_headers(char *end, unsigned version, const uint8_t *numbers, size_t count)
 {
-    len += snprintf(text + len, CHAIN_TEXT_ROOM - (size_t)len, "IPv%d ", version);
-    for (size_t i = 0; i < count; i++)
-        len += snprintf(text + len, CHAIN_TEXT_ROOM - (size_t)len, i + 1 < count ? "%d," : "%d ", numbers[i]);
-    return len;
+    end = append_number(append_text(end, "IPv"), version);
+    *end++ = ' ';
+    for (size_t i = 0; i < count; i++) {
+        end = append_number(end, numbers[i]);
+        *end++ = i + 1 < count ? ',' : ' ';
+    }
+    return end;
 }
 
-/* Writes the outer packets of a path, which may be followed by zeros. Returns the length of the text. */
-static int write_path(const uint8_t *path, size_t room, char text[CHAIN_TEXT_ROOM])
+/* Writes the outer packets of a path, which may be followed by zeros. Returns the end of the text. */
+static char *write_path(const uint8_t *path, size_t room, char text[CHAIN_TEXT_ROOM])
 {
-    int len = 0;
+    char *end = text;
     for (size_t at = 0; at < room && path[at] != 0; at += (size_t)PATH_NUMBERS_AT + path[at + PATH_COUNT_AT]) {
         const uint8_t *packet = &path[at];
         const char *name = tunnel_name(packet[KIND_AT] & TUNNEL_MASK);
-        int version = packet[KIND_AT] >> VERSION_SHIFT;
-        len = write_headers(text, len, version, &packet[PATH_NUMBERS_AT], packet[PATH_COUNT_AT]);
-        len += snprintf(text + len, CHAIN_TEXT_ROOM - (size_t)len, "%s%s> ", name, *name ? " " : "");
+        unsigned version = packet[KIND_AT] >> VERSION_SHIFT;
+        end = append_headers(end, version, &packet[PATH_NUMBERS_AT], packet[PATH_COUNT_AT]);
+        end = append_text(append_text(end, name), *name ? " > " : "> ");
     }
-    return len;
+    return end;
 }
 
 void write_chain(const struct key *key, char text[CHAIN_TEXT_ROOM])
 {
     const uint8_t *bytes = key->bytes, *numbers = &bytes[NUMBERS_AT];
     size_t count = bytes[COUNT_AT];
-    int len = write_path(numbers + count, KEY_HEADERS - count, text);
-    len = write_headers(text, len, bytes[VERSION_AT], numbers, count);
-    snprintf(text + len, CHAIN_TEXT_ROOM - (size_t)len, "-> %d%s", bytes[NEXT_AT], end_words[bytes[END_AT]]);
+    char *end = write_path(numbers + count, KEY_HEADERS - count, text);
+    end = append_text(append_headers(end, bytes[VERSION_AT], numbers, count), "-> ");
+    end = append_text(append_number(end, bytes[NEXT_AT]), end_words[bytes[END_AT]]);
+    *end = '\0';
 }
 
 /* Advances `text` past the words if it begins with them. */

@@ -6,5 +6,6 @@ int run_stat(int count, char **arguments);
 int run_sum(int count, char **arguments);
 int run_filter(int count, char **arguments);
 int run_show(int count, char **arguments);
+int run_defrag(int count, char **arguments);
 
 #endif

@@ -9,6 +9,7 @@
 #include "network.h"
 #include "report.h"
 #include "text.h"
+#include "words.h"
 
 /* The arguments, joined with spaces. */
 struct text {
@@ -16,6 +17,7 @@ struct text {
     size_t *ends; /* where each argument ends */
     int count;
     size_t *origins; /* where each byte comes from, or the byte that it stands for; null for the arguments themselves */
+    const char *stand_in; /* what stands for a term of this program: a term of the library's with a number */
 };
 
 static void free_text(struct text *text)
@@ -39,7 +41,7 @@ static bool join(struct text *text, int count, char *const *arguments)
 {
     size_t len = 0;
     for (int i = 0; i < count; i++) len += strlen(arguments[i]) + 1;
-    *text = (struct text){calloc(len, 1), calloc((unsigned)count, sizeof *text->ends), count, NULL};
+    *text = (struct text){calloc(len, 1), calloc((unsigned)count, sizeof *text->ends), count, NULL, NULL};
     if (!has_memory(text, false)) return false;
     char *end = text->bytes;
     for (int i = 0; i < count; i++) {
@@ -50,29 +52,6 @@ static bool join(struct text *text, int count, char *const *arguments)
         *end++ = ' ';
     }
     return true;
-}
-
-static bool is_space(char byte)
-{
-    return strchr(" \t\n\r", byte);
-}
-
-/* Whether two signs are one word. */
-static bool is_pair(char first, char second)
-{
-    if (second == '=') return first == '!' || first == '<' || first == '>';
-    return first == second && (first == '&' || first == '|');
-}
-
-/* Returns the length of the word at the start of the `len` bytes: of signs, of a space, or of the bytes up to either. */
-static size_t word_len(const char *word, size_t len)
-{
-    static const char signs[] = "!&()<=>|", breaks[] = " \t\n\r!&()<=>|";
-    size_t size = 1;
-    if (is_space(word[0])) return 1;
-    if (strchr(signs, word[0])) return len > 1 && is_pair(word[0], word[1]) ? 2 : 1;
-    while (size < len && !strchr(breaks, word[size])) size++;
-    return size;
 }
 
 /* How many digits a port has at most. */
@@ -96,7 +75,16 @@ static void append(struct text *text, size_t *len, const char *bytes, size_t cou
     for (size_t i = 0; i < count; i++) text->origins[(*len)++] = origin + (is_copied ? i : 0);
 }
 
-/* Copies the words of the arguments, with the port of each service that is named after `port`. */
+/* Copies a word, or if `is_port` is set the port of the service that it names. For `==`, writes `=`. */
+static void copy_word(struct text *text, size_t *len, const char *word, size_t size, size_t origin, bool is_port)
+{
+    char digits[PORT_DIGITS + 1];
+    size_t port = is_port ? write_port(word, size, digits) : 0;
+    if (is_word(word, size, "==")) size = 1;
+    append(text, len, port ? digits : word, port ? port : size, origin, port == 0);
+}
+
+/* Copies the words of the arguments, except those that the library's filters don't know. */
 static void copy_words(struct text *text, const struct text *arguments)
 {
     size_t end = arguments->ends[arguments->count - 1], len = 0;
@@ -104,23 +92,25 @@ static void copy_words(struct text *text, const struct text *arguments)
     bool is_port = false;
     for (size_t at = 0, size; at < end; at += size) {
         const char *word = arguments->bytes + at;
-        char digits[PORT_DIGITS + 1];
         while (arguments->ends[argument] <= at) text->ends[argument++] = len;
         size = word_len(word, end - at);
-        size_t port = is_port ? write_port(word, size, digits) : 0;
-        append(text, &len, port ? digits : word, port ? port : size, at, port == 0);
-        if (!is_space(*word)) is_port = size == 4 && memcmp(word, "port", size) == 0;
+        if (is_own_term(word, size)) append(text, &len, text->stand_in, strlen(text->stand_in), at, false);
+        else copy_word(text, &len, word, size, at, is_port);
+        if (!is_space(*word)) is_port = is_word(word, size, "port");
     }
     while (argument < text->count) text->ends[argument++] = len;
     text->origins[len] = end;
 }
 
-/* Replaces the names of services by their ports. If memory runs out, reports it and returns false. */
-static bool name_ports(struct text *text, const struct text *arguments)
+/*
+ * Makes a text for the library's filters, with `stand_in` for each term of this program. If memory runs out, reports it
+ * and returns false.
+ */
+static bool replace_words(struct text *text, const struct text *arguments, const char *stand_in)
 {
     size_t len = arguments->ends[arguments->count - 1] + 1, count = (size_t)arguments->count;
     *text = (struct text){calloc(len, PORT_DIGITS), calloc(count, sizeof *text->ends), arguments->count,
-                          calloc(len, PORT_DIGITS * sizeof *text->origins)};
+                          calloc(len, PORT_DIGITS * sizeof *text->origins), stand_in};
     if (!has_memory(text, true)) return false;
     copy_words(text, arguments);
     return true;
@@ -213,16 +203,61 @@ static int take_condition(struct wolfaren_filter *condition, const struct text *
     return taken > 0 && error->offset == text->ends[taken - 1] + 1 ? taken : 0;
 }
 
-int read_condition(struct wolfaren_filter *condition, int count, char *const *arguments, bool is_whole, int *taken)
+/* Takes a test with a stand-in. */
+static void take_own_test(struct condition *condition, size_t test)
 {
-    struct text joined, text;
+    const struct wolfaren_filter_test *of = &condition->filter.tests[test];
+    condition->own[condition->own_count++] = (struct own_test){test, of->if_met, of->if_not};
+}
+
+/*
+ * Finds the tests for terms of this program in the first `taken` arguments: those whose number is another one with
+ * another stand-in. If memory runs out, reports it and returns false.
+ */
+static bool find_own_tests(struct condition *condition, const struct text *joined, int taken)
+{
+    struct text text;
+    struct wolfaren_filter other;
     struct wolfaren_filter_error error;
-    if (!join(&joined, count, arguments)) return STATUS_FAILED;
-    bool is_named = name_ports(&text, &joined);
-    if (is_named) *taken = take_condition(condition, &text, is_whole, &error);
-    if (is_named && *taken == 0) complain_of_condition(&joined, error.expected, text.origins[error.offset]);
-    free_text(&joined);
-    if (!is_named) return STATUS_FAILED;
+    if (!replace_words(&text, joined, "id 1")) return false;
+    condition->own_count = 0;
+    /* parsed as with the first stand-in */
+    bool is_parsed = wolfaren_parse_filter(text.bytes, text.ends[taken - 1], &other, &error);
+    for (size_t i = 0; is_parsed && i < condition->filter.count; i++)
+        if (condition->filter.tests[i].number != other.tests[i].number) take_own_test(condition, i);
     free_text(&text);
-    return *taken > 0 && !has_host_bits(condition) ? -1 : STATUS_USAGE;
+    return is_parsed;
+}
+
+/* Reads the condition in the joined arguments, as `read_condition` does. */
+static int read_joined(struct condition *condition, const struct text *joined, bool is_whole, int *taken)
+{
+    struct text text;
+    struct wolfaren_filter_error error;
+    if (!replace_words(&text, joined, "id 0")) return STATUS_FAILED;
+    *taken = take_condition(&condition->filter, &text, is_whole, &error);
+    if (*taken == 0) complain_of_condition(joined, error.expected, text.origins[error.offset]);
+    free_text(&text);
+    if (*taken == 0 || has_host_bits(&condition->filter)) return STATUS_USAGE;
+    return find_own_tests(condition, joined, *taken) ? -1 : STATUS_FAILED;
+}
+
+int read_condition(struct condition *condition, int count, char *const *arguments, bool is_whole, int *taken)
+{
+    struct text joined;
+    if (!join(&joined, count, arguments)) return STATUS_FAILED;
+    int status = read_joined(condition, &joined, is_whole, taken);
+    free_text(&joined);
+    return status;
+}
+
+const struct wolfaren_filter *filter_for(struct condition *condition, const struct packet *packet)
+{
+    bool is_met = condition->own_count > 0 && meets_own_term(packet);
+    for (size_t i = 0; i < condition->own_count; i++) {
+        const struct own_test *own = &condition->own[i];
+        struct wolfaren_filter_test *test = &condition->filter.tests[own->test];
+        test->if_met = test->if_not = is_met ? own->if_met : own->if_not;
+    }
+    return &condition->filter;
 }

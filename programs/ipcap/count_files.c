@@ -5,6 +5,7 @@
 #include <string.h>
 #include <time.h>
 
+#include "defragment.h"
 #include "input.h"
 
 /* Each thread may be ahead of the file that is handed over by this many files. */
@@ -37,11 +38,21 @@ static void count_file(struct counted_file *file, const struct files *files, siz
     file->is_open = begin_input(&input, file->path);
     if (!is_alone) input.capture.follow = NULL;
     if (file->is_open) {
-        file->is_memory_short = !count_capture(&file->counts, &input.capture);
+        if (files->has_whole) file->defragmenter = begin_defragmenter(DEFAULT_SLOTS, false);
+        if (file->defragmenter) pass_whole(file->defragmenter, &input.capture);
+        file->is_memory_short = (files->has_whole && !file->defragmenter) || !count_capture(&file->counts, &input.capture);
+        if (file->defragmenter) stop_defragmenter(file->defragmenter);
         end_input(&input);
     }
     file->name = input.capture.name;
     memcpy(file->error, input.capture.error, sizeof file->error);
+}
+
+/* Releases what is known of a file. */
+static void free_file(struct counted_file *file)
+{
+    free_counts(&file->counts);
+    end_defragmenter(file->defragmenter);
 }
 
 /* Counts files one after another. */
@@ -52,7 +63,7 @@ static void count_in_turn(const struct files *files, take_counted_file *take, vo
         struct counted_file file;
         count_file(&file, files, i, true);
         is_wanted = take(&file, taker);
-        free_counts(&file.counts);
+        free_file(&file);
     }
 }
 
@@ -106,7 +117,7 @@ static struct slot *wait_for(struct pool *pool, size_t number, struct files_prog
 /* Makes room for one more file, or lets no file be begun any more. */
 static void release(struct pool *pool, struct slot *slot, bool is_wanted)
 {
-    free_counts(&slot->file.counts);
+    free_file(&slot->file);
     pthread_mutex_lock(&pool->lock);
     slot->is_done = false;
     pool->taken++;
@@ -139,7 +150,7 @@ static bool count_by_threads(struct pool *pool, pthread_t *threads, size_t jobs,
     for (size_t i = 0; i < started; i++) pthread_join(threads[i], NULL);
     /* files that were counted ahead when `take` stopped */
     for (size_t i = 0; i < pool->room; i++)
-        if (pool->slots[i].is_done) free_counts(&pool->slots[i].file.counts);
+        if (pool->slots[i].is_done) free_file(&pool->slots[i].file);
     return true;
 }
 

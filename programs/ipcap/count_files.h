@@ -13,6 +13,7 @@ struct counted_file {
     const char *path;
     const char *name; /* for messages */
     struct counts counts;
+    struct defragmenter *defragmenter; /* what made packets whole, stopped, or null */
     bool is_open;                   /* it could be opened */
     bool is_memory_short;           /* memory ran out, so that the counts are incomplete */
     char error[CAPTURE_ERROR_ROOM]; /* why it couldn't be opened or read to its end, otherwise empty */
@@ -26,6 +27,7 @@ struct files {
     const char *const *paths;
     size_t count;
     bool has_tunnels; /* tunnels are followed */
+    bool has_whole;   /* whole packets are counted in place of their fragments */
 };
 
 /*

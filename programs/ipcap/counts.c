@@ -14,12 +14,40 @@ void init_counts(struct counts *counts, bool has_inner)
     wolfaren_init_statistics(&counts->inner.statistics);
 }
 
+/* A signature has, from the high bits to the low ones, the codes of the headers, the number after them, end and version. */
+enum { HEADER_BITS = 3, NUMBER_BITS = 8, END_BITS = 2, VERSION_BITS = 3, SIGNED_HEADERS = 16 };
+
+_Static_assert(SIGNED_HEADERS * HEADER_BITS + NUMBER_BITS + END_BITS + VERSION_BITS <= 64, "a signature must fit");
+
+/*
+ * Returns a number that determines the key of a packet's chain without a path, or 0 if the chain has too many headers for
+ * one. Making the key takes more time.
+ */
+static uint64_t chain_signature(const struct parts *parts)
+{
+    /* none is 0, so that the codes also say how many headers there are */
+    static const uint8_t codes[64] = {[WOLFAREN_HOP_BY_HOP] = 1,
+                                      [WOLFAREN_ROUTING] = 2,
+                                      [WOLFAREN_FRAGMENT] = 3,
+                                      [WOLFAREN_AUTHENTICATION] = 4,
+                                      [WOLFAREN_DESTINATION_OPTIONS] = 5};
+    const struct wolfaren_dissection *packet = &parts->packet;
+    uint64_t signature = 0;
+    if (packet->headers > SIGNED_HEADERS) return 0;
+    for (size_t i = 0; i < packet->headers; i++)
+        signature = signature << HEADER_BITS | codes[parts->headers[i].number % sizeof codes];
+    signature = signature << NUMBER_BITS | packet->payload_number;
+    signature = signature << END_BITS | packet->end;
+    return signature << VERSION_BITS | packet->version;
+}
+
 /* Adds the chain of a dissected packet to the table of chains. Returns false if memory runs out. */
 static bool count_chain(struct table *chains, const struct path *path, const struct parts *parts)
 {
     struct key key;
-    if (parts->packet.version == 0) return true;
-    if (chain_key(path, parts, &key)) return add_to_table(chains, &key, 1);
+    uint64_t signature = path->tunnels == 0 ? chain_signature(parts) : 0;
+    if (parts->packet.version == 0 || (signature != 0 && add_again(chains, signature))) return true;
+    if (chain_key(path, parts, &key)) return add_to_table(chains, &key, signature, 1);
     chains->other = add_counts(chains->other, 1);
     return true;
 }
@@ -29,9 +57,14 @@ static bool count_other(struct packet_counts *counts, const struct protocol *pro
 {
     struct key key;
     wolfaren_count_other_frame(&counts->statistics);
-    if (protocol_key(protocol, &key)) return add_to_table(&counts->protocols, &key, 1);
+    if (protocol_key(protocol, &key)) return add_to_table(&counts->protocols, &key, 0, 1);
     counts->protocols.other = add_counts(counts->protocols.other, 1);
     return true;
+}
+
+static void count_mismatched(struct packet_counts *counts)
+{
+    counts->mismatched = add_counts(counts->mismatched, 1);
 }
 
 /*
@@ -48,6 +81,7 @@ static bool count_packet(struct counts *counts, struct parts *parts, const struc
     for (;;) {
         if (packet->is_short) wolfaren_count_truncated_frame(&current->statistics);
         if (!inner.is_ip) return count_other(current, &inner.protocol);
+        if (is_mismatched(&inner.protocol, inner.bytes, inner.len)) count_mismatched(current);
         if (!parse_packet(parts, inner.bytes, inner.len, &current->statistics)) return false;
         if (!count_chain(&current->chains, &path, parts)) return false;
         if (!counts->has_inner || path.tunnels == PATH_TUNNELS || !find_inner(parts, &inner)) return true;
@@ -70,7 +104,7 @@ static bool merge_tables(struct table *total, const struct table *more)
 {
     total->other = add_counts(total->other, more->other);
     for (size_t i = 0; i < more->count; i++)
-        if (!add_to_table(total, &more->entries[i].key, more->entries[i].count)) return false;
+        if (!add_to_table(total, &more->entries[i].key, 0, more->entries[i].count)) return false;
     return true;
 }
 
@@ -78,6 +112,7 @@ static bool merge_packet_counts(struct packet_counts *total, const struct packet
 {
     /* false only if one of them isn't from init_counts */
     if (!wolfaren_merge_statistics(&total->statistics, &more->statistics)) return false;
+    total->mismatched = add_counts(total->mismatched, more->mismatched);
     return merge_tables(&total->chains, &more->chains) && merge_tables(&total->protocols, &more->protocols);
 }
 
@@ -116,6 +151,7 @@ static bool are_consistent(const struct packet_counts *counts)
     const uint64_t fragments[] = {of->atomic_fragments, of->first_fragments, of->middle_fragments, of->last_fragments};
     return add_counts(ip, of->without_header) == of->packets && SUM(ends) == of->packets
         && of->truncated_frames <= add_counts(of->packets, of->other_frames) && SUM(fragments) <= ip
+        && counts->mismatched <= of->packets
         && of->incomplete <= ip && SUM(of->chain_headers) == ip && SUM(of->chain_bytes) == ip
         && SUM(of->payload_numbers) == of->at_payload && SUM(of->later_fragment_numbers) == of->at_later_fragment
         && SUM(of->truncated_headers) == of->at_truncated_header && SUM(of->faults) == of->at_fault

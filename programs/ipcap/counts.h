@@ -1,6 +1,6 @@
 /*
  * Statistics of captured packets. The library counts and merges their struct wolfaren_statistics, and its calls are
- * proved. The tables of whole chains and of protocols are counted here, and are only tested.
+ * proved. Mismatched packets and the tables of whole chains and of protocols are counted here, and are only tested.
  */
 #ifndef IPCAP_COUNTS_H
 #define IPCAP_COUNTS_H
@@ -13,6 +13,7 @@
 
 struct packet_counts {
     struct wolfaren_statistics statistics;
+    uint64_t mismatched; /* packets whose IP version isn't the one that the number before them stands for */
     struct table chains;    /* of the packets with an IP header, by the numbers of the headers and what follows them */
     struct table protocols; /* of the frames without an IP packet, by the last number that says what they carry */
 };

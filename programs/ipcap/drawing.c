@@ -1,12 +1,12 @@
 #include "drawing.h"
 
-#include <stdio.h>
 #include <string.h>
 
+#include "fault_text.h"
 #include "names.h"
 
 /* A row shows 16 bytes, each in a cell of two digits and a space. */
-enum { ROW_BYTES = 16, CELL = 3, ROW_WIDTH = ROW_BYTES * CELL };
+enum { ROW_BYTES = 16, CELL = 3 };
 
 /* How many bytes are drawn of a packet whose IP header is unreadable. */
 enum { UNREAD_BYTES = 64 };
@@ -23,10 +23,13 @@ struct range {
 
 struct drawing {
     const struct parts *parts;
+    struct writer *writer;
     bool in_color;
-    int offset_width; /* digits of the offset at the start of a row */
-    size_t index;   /* of the range at the current position */
-    bool is_named;  /* whether the name of that range has been written */
+    size_t offset_width; /* digits of the offset at the start of a row */
+    size_t index;       /* of the range at the current position */
+    bool has_range;     /* there is one */
+    struct range range; /* that range */
+    bool is_named;      /* whether its name has been written */
 };
 
 static const char *header_color(uint8_t number)
@@ -67,38 +70,65 @@ static bool range_at(const struct parts *parts, size_t index, struct range *rang
 
 static void set_color(const struct drawing *drawing, const char *color)
 {
-    if (drawing->in_color) fputs(color, stdout);
+    if (drawing->in_color) put_text(drawing->writer, color);
 }
 
-/* Advances to the range that contains a byte. Returns false if there is none. */
-static bool range_of(struct drawing *drawing, size_t at, struct range *range)
+/* Changes from one colour to the next, unless they are equal. Returns the next one. */
+static const char *change_color(const struct drawing *drawing, const char *color, const char *next)
 {
-    while (range_at(drawing->parts, drawing->index, range) && range->end <= at) {
-        drawing->index++;
-        drawing->is_named = false;
+    if (drawing->in_color && strcmp(color, next) != 0) put_text(drawing->writer, next);
+    return next;
+}
+
+/* Moves to a range by its index. */
+static void move_to(struct drawing *drawing, size_t index)
+{
+    drawing->index = index;
+    drawing->has_range = range_at(drawing->parts, index, &drawing->range);
+    drawing->is_named = false;
+}
+
+/*
+ * Moves on to the range that contains a byte, and returns where it ends, but at most `end`. The ranges follow one another
+ * from byte 0 on: after the last one there is none.
+ */
+static size_t reach(struct drawing *drawing, size_t at, size_t end)
+{
+    while (drawing->has_range && drawing->range.end <= at) move_to(drawing, drawing->index + 1);
+    return drawing->has_range && drawing->range.end < end ? drawing->range.end : end;
+}
+
+/* Writes at least one byte in hexadecimal, with spaces between. */
+static void put_cells(struct writer *writer, const uint8_t *bytes, size_t count)
+{
+    static const char digits[] = "0123456789abcdef";
+    char *cell = next_bytes(writer, count * CELL);
+    for (size_t i = 0; i < count; i++, cell += CELL) {
+        cell[0] = digits[bytes[i] >> 4];
+        cell[1] = digits[bytes[i] & 0x0f];
+        cell[2] = ' ';
     }
-    return range_at(drawing->parts, drawing->index, range) && range->begin <= at;
+    add_bytes(writer, count * CELL - 1);
 }
 
 /* Writes the bytes of a row. Takes a copy of `drawing`, so that the marks can start from the same state. */
 static void write_bytes(struct drawing drawing, size_t row, size_t end)
 {
-    struct range range;
-    printf("%0*zx", drawing.offset_width, row);
     const char *color = plain_color;
-    for (size_t at = row; at < end; at++) {
-        const char *next = range_of(&drawing, at, &range) ? range.color : plain_color;
-        fputs(at > row ? " " : "  ", stdout);
-        if (strcmp(next, color) != 0) set_color(&drawing, next);
-        color = next;
-        printf("%02x", drawing.parts->bytes[at]);
+    put_hexadecimal(drawing.writer, row, drawing.offset_width);
+    if (row < end) put_byte(drawing.writer, ' ');
+    for (size_t at = row, next; at < end; at = next) {
+        next = reach(&drawing, at, end);
+        put_byte(drawing.writer, ' ');
+        color = change_color(&drawing, color, drawing.has_range ? drawing.range.color : plain_color);
+        put_cells(drawing.writer, drawing.parts->bytes + at, next - at);
     }
-    if (strcmp(color, plain_color) != 0) set_color(&drawing, plain_color);
-    putchar('\n');
+    change_color(&drawing, color, plain_color);
+    put_byte(drawing.writer, '\n');
 }
 
 /* Centres a name in a mark, with a space on either side if there is room. Returns false if the name doesn't fit. */
-static bool put_name(char *mark, size_t width, const char *name)
+static bool center_name(char *mark, size_t width, const char *name)
 {
     size_t len = strlen(name);
     if (len > width) return false;
@@ -110,57 +140,55 @@ static bool put_name(char *mark, size_t width, const char *name)
     return true;
 }
 
-/* Writes the mark of a range below the bytes from `begin` up to `end`, with its name if it fits. */
-static void write_mark(struct drawing *drawing, const struct range *range, size_t begin, size_t end)
+/* Writes the mark of the range below the bytes from `begin` up to `end`, with its name if it fits. */
+static void write_mark(struct drawing *drawing, size_t begin, size_t end)
 {
-    char mark[ROW_WIDTH + 1];
+    const struct range *range = &drawing->range;
     size_t width = (end - begin) * CELL - 1;
     size_t left = begin == range->begin, right = end == range->end;
+    set_color(drawing, range->color);
+    char *mark = next_bytes(drawing->writer, width);
     memset(mark, '-', width);
-    mark[width] = '\0';
     if (left) mark[0] = '[';
     if (right) mark[width - 1] = ']';
-    if (!drawing->is_named) drawing->is_named = put_name(mark + left, width - left - right, range->name);
-    set_color(drawing, range->color);
-    fputs(mark, stdout);
+    if (!drawing->is_named) drawing->is_named = center_name(mark + left, width - left - right, range->name);
+    add_bytes(drawing->writer, width);
     set_color(drawing, plain_color);
 }
 
 /* Writes spaces up to the cell of a row with this index. */
 static void indent(const struct drawing *drawing, size_t cell)
 {
-    printf("%*s", drawing->offset_width + 2 + (int)cell * CELL, "");
+    put_repeated(drawing->writer, ' ', drawing->offset_width + 2 + cell * CELL);
 }
 
 /* Writes the marks below a row. */
 static void write_marks(struct drawing *drawing, size_t row, size_t end)
 {
-    struct range range;
-    size_t at = row, column = 0;
-    while (at < end && range_of(drawing, at, &range)) {
-        size_t mark_end = range.end < end ? range.end : end;
-        if (column == 0) indent(drawing, 0);
-        if (column > 0) putchar(' ');
-        write_mark(drawing, &range, at, mark_end);
-        column += (mark_end - at) * CELL;
-        at = mark_end;
+    size_t at = row;
+    while (at < end) {
+        size_t next = reach(drawing, at, end);
+        if (!drawing->has_range) break;
+        if (at == row) indent(drawing, 0);
+        if (at > row) put_byte(drawing->writer, ' ');
+        write_mark(drawing, at, next);
+        at = next;
     }
-    if (column > 0) putchar('\n');
+    if (at > row) put_byte(drawing->writer, '\n');
 }
 
 /* Writes what is wrong with a header below the row in which it begins, with a caret below its first byte. */
 static void write_fault(const struct drawing *drawing, size_t row)
 {
     const struct parts *parts = drawing->parts;
-    char text[WOLFAREN_TEXT_ROOM];
     size_t at = fault_offset(parts);
     if (end_of_chain(parts) == CHAIN_WHOLE || at < row || at - row >= ROW_BYTES) return;
-    size_t len = wolfaren_fault_text(&parts->packet.fault, text, sizeof text);
     indent(drawing, at - row);
     set_color(drawing, fault_color);
-    printf("^ %s%s", has_fault(parts) ? "" : "truncated: ", len > 0 && len < sizeof text ? text : "fault");
+    put_text(drawing->writer, has_fault(parts) ? "^ " : "^ truncated: ");
+    put_fault(drawing->writer, parts);
     set_color(drawing, plain_color);
-    putchar('\n');
+    put_byte(drawing->writer, '\n');
 }
 
 /* Returns how many bytes are drawn: up to the end of the chain, and some more. */
@@ -172,18 +200,30 @@ static size_t shown_length(const struct parts *parts)
 }
 
 /* Returns how many digits all offsets up to the last one need: at least 4. */
-static int offset_width(size_t last)
+static size_t offset_width(size_t last)
 {
-    int width = 4;
+    size_t width = 4;
     while (width < 16 && last >> 4 * width > 0) width++;
     return width;
 }
 
-void draw_packet(const struct parts *parts, bool in_color)
+/* Writes how many bytes more there are, or are missing. */
+static void write_count(const struct drawing *drawing, const char *before, size_t count, const char *after)
+{
+    if (count == 0) return;
+    indent(drawing, 0);
+    put_text(drawing->writer, before);
+    put_number(drawing->writer, count);
+    put_text(drawing->writer, after);
+}
+
+void put_drawing(struct writer *writer, const struct parts *parts, bool in_color)
 {
     size_t shown = shown_length(parts);
     size_t last = end_of_chain(parts) == CHAIN_WHOLE ? 0 : fault_offset(parts);
-    struct drawing drawing = {parts, in_color, offset_width(shown > last ? shown - 1 : last), 0, false};
+    size_t width = offset_width(shown > last ? shown - 1 : last);
+    struct drawing drawing = {.parts = parts, .writer = writer, .in_color = in_color, .offset_width = width};
+    move_to(&drawing, 0);
     for (size_t row = 0; row < shown || row <= last; row += ROW_BYTES) {
         size_t left = shown > row ? shown - row : 0;
         size_t end = row + (left < ROW_BYTES ? left : ROW_BYTES);
@@ -191,7 +231,6 @@ void draw_packet(const struct parts *parts, bool in_color)
         write_marks(&drawing, row, end);
         write_fault(&drawing, row);
     }
-    int width = drawing.offset_width + 2;
-    if (shown < parts->len) printf("%*sand %zu bytes more\n", width, "", parts->len - shown);
-    if (parts->packet.missing > 0) printf("%*s%zu bytes missing\n", width, "", parts->packet.missing);
+    write_count(&drawing, "and ", parts->len - shown, " bytes more\n");
+    write_count(&drawing, "", parts->packet.missing, " bytes missing\n");
 }

@@ -5,8 +5,9 @@
 #include <stdbool.h>
 
 #include "parts.h"
+#include "writer.h"
 
-/* Draws a packet on standard output, in colour if `in_color` is set. */
-void draw_packet(const struct parts *parts, bool in_color);
+/* Draws a packet, in colour if `in_color` is set. */
+void put_drawing(struct writer *writer, const struct parts *parts, bool in_color);
 
 #endif

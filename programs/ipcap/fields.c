@@ -5,7 +5,7 @@
 
 #include "names.h"
 
-#define FIELD(field) #field, offsetof(struct wolfaren_statistics, field)
+#define FIELD(field) #field, offsetof(struct packet_counts, statistics.field)
 #define LEN(field) (sizeof((struct wolfaren_statistics *)0)->field / sizeof(uint64_t))
 
 enum { LAYERS = 16 };
@@ -50,7 +50,7 @@ static void write_layer(size_t layer, char name[ELEMENT_NAME_ROOM])
 static bool read_layer(const char *name, size_t *layer)
 {
     uint8_t found;
-    if (!find_layer(name, &found)) return false;
+    if (!find_layer(name, strlen(name), &found)) return false;
     *layer = found;
     return true;
 }
@@ -66,7 +66,8 @@ static bool read_fault(const char *name, size_t *element)
 {
     uint8_t kind, layer;
     const char *space = strchr(name, ' ');
-    if (!space || !find_kind(name, (size_t)(space - name), &kind) || !find_layer(space + 1, &layer)) return false;
+    if (!space || !find_kind(name, (size_t)(space - name), &kind)) return false;
+    if (!find_layer(space + 1, strlen(space + 1), &layer)) return false;
     *element = (size_t)kind * LAYERS + layer;
     return true;
 }
@@ -88,6 +89,8 @@ const struct scalar scalars[SCALARS] = {
     {FIELD(last_fragments), "last fragments"},
     {FIELD(incomplete), "packets with missing bytes"},
     {FIELD(payload_bytes), "payload bytes"},
+    [MISMATCHED] = {"mismatched", offsetof(struct packet_counts, mismatched),
+                    "IPv4 packets announced as IPv6, or IPv6 as IPv4"},
 };
 
 const struct array arrays[ARRAYS] = {
@@ -101,12 +104,12 @@ const struct array arrays[ARRAYS] = {
     {FIELD(faults), LEN(faults), "faults", write_fault, read_fault, false},
 };
 
-uint64_t *scalar_in(struct wolfaren_statistics *statistics, const struct scalar *scalar)
+uint64_t *scalar_in(struct packet_counts *counts, const struct scalar *scalar)
 {
-    return (uint64_t *)(void *)((char *)statistics + scalar->offset);
+    return (uint64_t *)(void *)((char *)counts + scalar->offset);
 }
 
-uint64_t *array_in(struct wolfaren_statistics *statistics, const struct array *array)
+uint64_t *array_in(struct packet_counts *counts, const struct array *array)
 {
-    return (uint64_t *)(void *)((char *)statistics + array->offset);
+    return (uint64_t *)(void *)((char *)counts + array->offset);
 }

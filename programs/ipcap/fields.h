@@ -1,4 +1,4 @@
-/* The counts of struct wolfaren_statistics, with their names in JSON and in the tables. */
+/* The counts of struct packet_counts, with their names in JSON and in the tables. */
 #ifndef IPCAP_FIELDS_H
 #define IPCAP_FIELDS_H
 
@@ -6,12 +6,13 @@
 #include <stddef.h>
 #include <stdint.h>
 
+#include "counts.h"
 #include "wolfaren.h"
 
 /* A single count. */
 struct scalar {
-    const char *name;  /* in JSON: that of the struct's field */
-    size_t offset;     /* of the field in the struct */
+    const char *name;  /* in JSON: that of the field */
+    size_t offset;     /* of the field in struct packet_counts */
     const char *words; /* in the tables */
 };
 
@@ -30,13 +31,16 @@ struct array {
 };
 
 /* The number of fields of each kind, and the largest number of elements of an array. */
-enum { SCALARS = 16, ARRAYS = 7, ARRAY_ELEMENTS = 256 };
+enum { SCALARS = 17, ARRAYS = 7, ARRAY_ELEMENTS = 256 };
+
+/* The index of the count of mismatched packets, which version 1.3 of JSON doesn't have. */
+enum { MISMATCHED = SCALARS - 1 };
 
 /*
  * The version of the JSON format. With another major number, members mean something else. With a larger minor number,
  * there are more members, each a count, an object of counts, or a text.
  */
-enum { FORMAT_MAJOR = 1, FORMAT_MINOR = 3 };
+enum { FORMAT_MAJOR = 1, FORMAT_MINOR = 4 };
 
 /* What is before the names of members that count the packets in tunnels. */
 #define INNER_PREFIX "inner_"
@@ -45,7 +49,7 @@ extern const struct scalar scalars[SCALARS];
 extern const struct array arrays[ARRAYS];
 
 /* Return the count of a field, and the first count of an array. */
-uint64_t *scalar_in(struct wolfaren_statistics *statistics, const struct scalar *scalar);
-uint64_t *array_in(struct wolfaren_statistics *statistics, const struct array *array);
+uint64_t *scalar_in(struct packet_counts *counts, const struct scalar *scalar);
+uint64_t *array_in(struct packet_counts *counts, const struct array *array);
 
 #endif

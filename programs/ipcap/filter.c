@@ -10,7 +10,9 @@
 #include "arguments.h"
 #include "commands.h"
 #include "condition.h"
+#include "defragment.h"
 #include "input.h"
+#include "long_output.h"
 #include "options.h"
 #include "output.h"
 #include "program.h"
@@ -33,6 +35,7 @@ static const char usage[] =
     "  --since TIME  only packets from this time on, such as 2026-11-28T08:00:00Z or 1795852800 (seconds since 1970)\n"
     "  --until TIME  only packets before this time\n"
     "  --packets A-B only the packets with these numbers in their capture, or with the number A if `-B` is left out\n"
+    "  --defrag      whole packets in place of their fragments\n"
     "  --show        print the tests that the condition is compiled to, and read no packets\n"
     "  --help-terms  print all terms, each with an example\n"
     "  --help        print this help\n"
@@ -40,7 +43,7 @@ static const char usage[] =
 
 /* The parsed arguments. */
 struct request {
-    struct wolfaren_filter condition;
+    struct condition *condition;
     const char *input;        /* the file of `-r`, or null */
     const char *const *files; /* the paths to read */
     int file_count;
@@ -48,6 +51,7 @@ struct request {
     uint64_t most;   /* how many packets are written at most */
     struct timespec since, until;
     struct number_range packets;
+    bool has_whole;  /* whole packets are filtered in place of their fragments */
     bool is_numeric; /* ignored */
     bool is_shown;   /* whether the condition is printed, and no capture is read */
     bool has_help;   /* whether the terms are printed, and nothing else is done */
@@ -63,6 +67,7 @@ static const struct option_row options[] = {
     {"since", read_time_argument, offsetof(struct request, since), time_words},
     {"until", read_time_argument, offsetof(struct request, until), time_words},
     {"packets", read_range_argument, offsetof(struct request, packets), "a number above 0, or two such as 5-10"},
+    {"defrag", set_flag, offsetof(struct request, has_whole), NULL},
     {"show", set_flag, offsetof(struct request, is_shown), NULL},
     {"help-terms", set_flag, offsetof(struct request, has_help), NULL},
 };
@@ -117,7 +122,7 @@ static bool open_output(struct target *target, const struct request *request, st
     FILE *file = is_standard ? stdout : fopen(request->output, "wb");
     if (!file) return refuse_output(target, strerror(errno));
     if (request->file_count == 1)
-        begin_output(&target->output, capture, file);
+        (request->has_whole ? begin_long_output : begin_output)(&target->output, capture, file);
     else if (begin_joint_output(&target->output, target->link_type, file) && capture->is_live)
         flush_output(&target->output);
     return is_written(target);
@@ -172,7 +177,7 @@ static bool is_timely(const struct request *request, const struct capture *captu
 static bool is_chosen(const struct request *request, const struct capture *capture, const struct packet *packet)
 {
     return capture->number >= request->packets.first && is_timely(request, capture, packet)
-        && does_match(&request->condition, packet);
+        && does_match(filter_for(request->condition, packet), packet);
 }
 
 /* Whether packets that aren't read yet may be written. */
@@ -194,6 +199,22 @@ static bool filter_packets(const struct request *request, struct target *target,
     return is_written(target) && !target->has_left_out;
 }
 
+/* Filters a capture with whole packets in place of their fragments. */
+static bool filter_whole_packets(const struct request *request, struct target *target, struct capture *capture)
+{
+    struct defragmenter *defragmenter = begin_defragmenter(DEFAULT_SLOTS, false);
+    if (!defragmenter) {
+        complain_of_memory();
+        return false;
+    }
+    pass_whole(defragmenter, capture);
+    bool is_done = filter_packets(request, target, capture);
+    stop_defragmenter(defragmenter);
+    report_fragments(defragmenter, capture->name);
+    end_defragmenter(defragmenter);
+    return is_done;
+}
+
 /* Whether a capture has no link layer, since it is a pcapng file without interfaces, and therefore without packets. */
 static bool has_no_link_type(const struct capture *capture)
 {
@@ -209,7 +230,7 @@ static bool filter_file(const struct request *request, struct target *target, co
     if (!is_standard_stream(request->output)) allow_progress(&input);
     if (request->file_count > 1 && has_no_link_type(capture)) return close_input(&input);
     bool is_open = target->output.file ? has_link_type(target, capture) : open_output(target, request, capture);
-    bool is_done = is_open && filter_packets(request, target, capture);
+    bool is_done = is_open && (request->has_whole ? filter_whole_packets : filter_packets)(request, target, capture);
     return close_input(&input) && is_done;
 }
 
@@ -226,7 +247,7 @@ static bool filter_files(const struct request *request)
 static bool show_condition(const struct request *request)
 {
     errno = 0;
-    print_program(&request->condition);
+    print_program(request->condition);
     return finish_output();
 }
 
@@ -257,7 +278,7 @@ static int read_operands(struct request *request, int count, char *const *operan
 {
     int taken;
     if (count == 0) return refuse_usage(usage, "filter needs a condition");
-    int status = read_condition(&request->condition, count, operands, request->input != NULL, &taken);
+    int status = read_condition(request->condition, count, operands, request->input != NULL, &taken);
     if (status >= 0) return status;
     if (request->is_shown)
         return request->input || request->output || taken < count
@@ -271,8 +292,9 @@ static int read_operands(struct request *request, int count, char *const *operan
 
 int run_filter(int count, char **arguments)
 {
-    struct request request = {.most = UINT64_MAX, .packets = {1, UINT64_MAX}, .since = {.tv_sec = INT64_MIN},
-                              .until = {.tv_sec = INT64_MAX}};
+    struct condition condition;
+    struct request request = {.condition = &condition, .most = UINT64_MAX, .packets = {1, UINT64_MAX},
+                              .since = {.tv_sec = INT64_MIN}, .until = {.tv_sec = INT64_MAX}};
     int status = read_options(count, arguments, usage, options, sizeof options / sizeof *options, &request);
     if (status < 0 && request.has_help) return list_terms() ? STATUS_DONE : STATUS_FAILED;
     if (status < 0) status = read_operands(&request, count - optind, arguments + optind);

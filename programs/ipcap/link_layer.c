@@ -78,10 +78,11 @@ static const struct link_layer link_layers[] = {
     {DLT_JUNIPER_ATM1, 0, LAYER_JUNIPER_ATM1},
 };
 
-/* The layer that a number stands for. */
+/* The layer that a number stands for, and the IP version, or 0. */
 struct carried {
     uint32_t number;
     enum layer layer;
+    unsigned version;
 };
 
 enum { MAX_CARRIED = 9 };
@@ -98,32 +99,33 @@ struct numbers {
  */
 static const struct numbers ethertypes = {
     PROTOCOL_ETHERTYPE,
-    {{0x0800, LAYER_IP},
-     {0x86dd, LAYER_IP},
-     {0x8100, LAYER_VLAN_TAG},
-     {0x88a8, LAYER_VLAN_TAG},
-     {0x9100, LAYER_VLAN_TAG},
-     {0x8847, LAYER_MPLS},
-     {0x8848, LAYER_MPLS},
-     {0x8864, LAYER_PPPOE},
-     {0x0004, LAYER_LLC}}};
+    {{0x0800, LAYER_IP, 4},
+     {0x86dd, LAYER_IP, 6},
+     {0x8100, LAYER_VLAN_TAG, 0},
+     {0x88a8, LAYER_VLAN_TAG, 0},
+     {0x9100, LAYER_VLAN_TAG, 0},
+     {0x8847, LAYER_MPLS, 0},
+     {0x8848, LAYER_MPLS, 0},
+     {0x8864, LAYER_PPPOE, 0},
+     {0x0004, LAYER_LLC, 0}}};
 
 /* IP (RFC 1332, RFC 5072) and MPLS (RFC 3032). */
 static const struct numbers ppp_protocols = {
-    PROTOCOL_PPP, {{0x0021, LAYER_IP}, {0x0057, LAYER_IP}, {0x0281, LAYER_MPLS}, {0x0283, LAYER_MPLS}}};
+    PROTOCOL_PPP, {{0x0021, LAYER_IP, 4}, {0x0057, LAYER_IP, 6}, {0x0281, LAYER_MPLS, 0}, {0x0283, LAYER_MPLS, 0}}};
 
 /* Network layer protocol identifiers: IPv4, IPv6 and SNAP (RFC 2427), and PPP (RFC 1973). */
 static const struct numbers nlpids = {
-    PROTOCOL_NLPID, {{0xcc, LAYER_IP}, {0x8e, LAYER_IP}, {0x80, LAYER_SNAP}, {0xcf, LAYER_PPP}}};
+    PROTOCOL_NLPID, {{0xcc, LAYER_IP, 4}, {0x8e, LAYER_IP, 6}, {0x80, LAYER_SNAP, 0}, {0xcf, LAYER_PPP, 0}}};
 
 /* AF_INET and AF_INET6 of Linux, for netfilter logs, and of Solaris. */
 static const struct numbers linux_families = {
-    PROTOCOL_FAMILY, {{2, LAYER_NFLOG_ATTRIBUTE}, {10, LAYER_NFLOG_ATTRIBUTE}}};
-static const struct numbers solaris_families = {PROTOCOL_FAMILY, {{2, LAYER_IP}, {26, LAYER_IP}}};
+    PROTOCOL_FAMILY, {{2, LAYER_NFLOG_ATTRIBUTE, 4}, {10, LAYER_NFLOG_ATTRIBUTE, 6}}};
+static const struct numbers solaris_families = {PROTOCOL_FAMILY, {{2, LAYER_IP, 4}, {26, LAYER_IP, 6}}};
 
 /* AF_INET is 2 everywhere; AF_INET6 is 10 on Linux, 24 on NetBSD and OpenBSD, 28 on FreeBSD, 30 on Darwin. */
 static const struct numbers families = {
-    PROTOCOL_FAMILY, {{2, LAYER_IP}, {10, LAYER_IP}, {24, LAYER_IP}, {28, LAYER_IP}, {30, LAYER_IP}}};
+    PROTOCOL_FAMILY,
+    {{2, LAYER_IP, 4}, {10, LAYER_IP, 6}, {24, LAYER_IP, 6}, {28, LAYER_IP, 6}, {30, LAYER_IP, 6}}};
 
 /* A header of fixed length with an EtherType. */
 struct typed_header {
@@ -154,10 +156,10 @@ static bool skip_bytes(struct rest *rest, const uint8_t *bytes, size_t len)
 /* Returns what is left of the frame by a number in a header. */
 static enum layer layer_of(struct rest *rest, const struct numbers *numbers, uint32_t number)
 {
-    rest->protocol = (struct protocol){numbers->kind, number};
-    for (size_t i = 0; i < MAX_CARRIED; i++)
-        if (numbers->carried[i].number == number) return numbers->carried[i].layer;
-    return LAYER_OTHER;
+    const struct carried *carried = numbers->carried, *end = carried + MAX_CARRIED;
+    while (carried < end && carried->number != number) carried++;
+    rest->protocol = (struct protocol){numbers->kind, number, carried < end ? carried->version : 0};
+    return carried < end ? carried->layer : LAYER_OTHER;
 }
 
 static enum layer skip_typed(struct rest *rest, const struct typed_header *header)
@@ -180,7 +182,7 @@ static enum layer skip_typed_or_length(struct rest *rest, const struct typed_hea
 static enum layer skip_llc(struct rest *rest)
 {
     static const uint8_t snap_follows[] = {0xaa, 0xaa, 0x03};
-    if (rest->len > 0) rest->protocol = (struct protocol){PROTOCOL_LLC, rest->bytes[0]};
+    if (rest->len > 0) rest->protocol = (struct protocol){PROTOCOL_LLC, rest->bytes[0], 0};
     return skip_bytes(rest, snap_follows, sizeof snap_follows) ? LAYER_SNAP : LAYER_OTHER;
 }
 
@@ -436,4 +438,10 @@ bool find_ip_after(unsigned ethertype, const uint8_t *bytes, size_t len, size_t 
     *offset = len - rest.len;
     *protocol = rest.protocol;
     return is_ip;
+}
+
+bool is_mismatched(const struct protocol *protocol, const uint8_t *packet, size_t len)
+{
+    unsigned version = len > 0 ? packet[0] >> 4 : 0;
+    return (protocol->version == 4 && version == 6) || (protocol->version == 6 && version == 4);
 }

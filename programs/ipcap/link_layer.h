@@ -21,6 +21,7 @@ enum protocol_kind {
 struct protocol {
     enum protocol_kind kind;
     uint32_t number;
+    unsigned version; /* the IP version that the number stands for, or 0 */
 };
 
 /* Returns the link layer with this number, one of libpcap's DLT_ values, or null if it isn't supported. */
@@ -36,5 +37,8 @@ bool find_ip(const struct link_layer *link_layer, const uint8_t *frame, size_t l
 
 /* Finds the IP packet in the `len` bytes after an EtherType, as `find_ip` does in a frame. */
 bool find_ip_after(unsigned ethertype, const uint8_t *bytes, size_t len, size_t *offset, struct protocol *protocol);
+
+/* Whether the `len` bytes of a packet begin with one IP version, 4 or 6, where its protocol stands for the other. */
+bool is_mismatched(const struct protocol *protocol, const uint8_t *packet, size_t len);
 
 #endif

@@ -1,18 +1,21 @@
 /* ipcap: counts, filters and draws chains of IP extension headers in captures. */
+#include <pcap/pcap.h>
 #include <stdio.h>
 #include <string.h>
 
 #include "commands.h"
 #include "options.h"
+#include "report.h"
 
 static const char usage[] =
-    "usage: ipcap stat [-j N] [--json] [--per-file] [--top N] [--tunnels] [FILE..]\n"
+    "usage: ipcap stat [-j N] [--defrag] [--json] [--per-file] [--top N] [--tunnels] [FILE..]\n"
     "       ipcap sum [--json] [--top N]\n"
     "       ipcap filter [OPTION..] COND [FILE..]\n"
     "       ipcap filter [OPTION..] -r FILE COND\n"
     "       ipcap filter --show COND\n"
     "       ipcap filter --help-terms\n"
-    "       ipcap show [-c N] [--color=WHEN | --one-line | --json | --csv] [FILE]\n"
+    "       ipcap show [-c N] [--defrag] [--color=WHEN | --one-line | --json | --csv] [FILE]\n"
+    "       ipcap defrag [--keep] [--slots N] [-w OUTPUT] [FILE]\n"
     "       ipcap --help | --version\n"
     "Counts, filters and draws chains of IP extension headers in captures.\n"
     "See `ipcap COMMAND --help` for each command, and the manual page ipcap(1).\n";
@@ -24,13 +27,14 @@ struct command {
 };
 
 static char stat_name[] = "ipcap stat", sum_name[] = "ipcap sum", filter_name[] = "ipcap filter",
-            show_name[] = "ipcap show";
+            show_name[] = "ipcap show", defrag_name[] = "ipcap defrag";
 
 static const struct command commands[] = {
     {"stat", stat_name, run_stat},
     {"sum", sum_name, run_sum},
     {"filter", filter_name, run_filter},
     {"show", show_name, run_show},
+    {"defrag", defrag_name, run_defrag},
 };
 
 int main(int count, char **arguments)
@@ -38,6 +42,10 @@ int main(int count, char **arguments)
     if (count < 2) return refuse_usage(usage, NULL);
     const char *name = arguments[1];
     if (strcmp(name, "--help") == 0 || strcmp(name, "-h") == 0) return print_help(usage);
+    if (!pcap_lib_version()) { /* that of load_pcap.c */
+        complain("libpcap can't be loaded");
+        return STATUS_FAILED;
+    }
     if (strcmp(name, "--version") == 0) return print_version();
     for (size_t i = 0; i < sizeof commands / sizeof *commands; i++) {
         if (strcmp(name, commands[i].name) != 0) continue;

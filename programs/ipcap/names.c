@@ -39,6 +39,21 @@ static const char *const layer_names[] = {
     [WOLFAREN_FRAGMENT_HEADER] = "fragment",
 };
 
+static const char *const words_of_layers[] = {
+    [WOLFAREN_NO_LAYER] = "a header",
+    [WOLFAREN_IP_HEADER] = "the IP header",
+    [WOLFAREN_IPV4_HEADER] = "the IPv4 header",
+    [WOLFAREN_IPV4_PACKET] = "the IPv4 packet",
+    [WOLFAREN_AUTHENTICATION_HEADER] = "the authentication header",
+    [WOLFAREN_IPV6_HEADER] = "the IPv6 header",
+    [WOLFAREN_IPV6_PACKET] = "the IPv6 packet",
+    [WOLFAREN_IPV6_EXTENSION_HEADER] = "the extension header",
+    [WOLFAREN_HOP_BY_HOP_HEADER] = "the hop-by-hop options header",
+    [WOLFAREN_DESTINATION_OPTIONS_HEADER] = "the destination options header",
+    [WOLFAREN_ROUTING_HEADER] = "the routing header",
+    [WOLFAREN_FRAGMENT_HEADER] = "the fragment header",
+};
+
 const char *number_name(uint8_t number)
 {
     return number_names[number] ? number_names[number] : "";
@@ -56,18 +71,27 @@ const char *layer_name(uint8_t layer)
     return layer < LAYERS ? layer_names[layer] : "";
 }
 
-bool find_kind(const char *name, size_t len, uint8_t *kind)
+const char *layer_words(uint8_t layer)
 {
-    for (*kind = 1; *kind < KINDS; ++*kind)
-        if (strlen(kind_names[*kind]) == len && memcmp(kind_names[*kind], name, len) == 0) return true;
+    return words_of_layers[layer < LAYERS ? layer : WOLFAREN_NO_LAYER];
+}
+
+/* Finds one of the names after the first, which is empty. */
+static bool find_name(const char *const *names, uint8_t count, const char *name, size_t len, uint8_t *index)
+{
+    for (*index = 1; *index < count; ++*index)
+        if (strlen(names[*index]) == len && memcmp(names[*index], name, len) == 0) return true;
     return false;
 }
 
-bool find_layer(const char *name, uint8_t *layer)
+bool find_kind(const char *name, size_t len, uint8_t *kind)
 {
-    for (*layer = 1; *layer < LAYERS; ++*layer)
-        if (strcmp(layer_names[*layer], name) == 0) return true;
-    return false;
+    return find_name(kind_names, KINDS, name, len, kind);
+}
+
+bool find_layer(const char *name, size_t len, uint8_t *layer)
+{
+    return find_name(layer_names, LAYERS, name, len, layer);
 }
 
 bool read_byte_number(const char **text, uint8_t *number)

@@ -134,22 +134,22 @@ static void begin_counts(FILE *file, const struct form *form)
     if (form->file && !form->json) putc('\n', file);
 }
 
-static void write_scalars(struct output *output, struct wolfaren_statistics *statistics)
+static void write_scalars(struct output *output, struct packet_counts *counts)
 {
     if (!output->json) fprintf(output->file, "%spackets\n", output->before_title);
     for (size_t i = 0; i < SCALARS; i++)
         write_named(output, output->before_name, output->json ? scalars[i].name : scalars[i].words,
-                    *scalar_in(statistics, &scalars[i]));
+                    *scalar_in(counts, &scalars[i]));
 }
 
 static void write_packet_counts(struct output *output, struct packet_counts *counts)
 {
-    write_scalars(output, &counts->statistics);
+    write_scalars(output, counts);
     begin_table(output, "protocols of frames without an IP packet", "other_protocols");
     write_entries(output, &counts->protocols, output->most_protocols, write_protocol);
     begin_table(output, "chains", "chains");
     write_entries(output, &counts->chains, output->most, write_chain);
-    for (size_t i = 0; i < ARRAYS; i++) write_array(output, &arrays[i], array_in(&counts->statistics, &arrays[i]));
+    for (size_t i = 0; i < ARRAYS; i++) write_array(output, &arrays[i], array_in(counts, &arrays[i]));
 }
 
 void print_counts(struct counts *counts, FILE *file, const struct form *form)

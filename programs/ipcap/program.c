@@ -2,6 +2,7 @@
 
 #include <stdio.h>
 
+#include "names.h"
 #include "network.h"
 
 #define FLAG(number) (UINT64_C(1) << (number))
@@ -50,19 +51,32 @@ static int print_never(void)
     return printf("never");
 }
 
-/* Prints the terms of which one has to hold, and returns the length. */
-static int print_flags(const char *word, const struct wolfaren_filter_test *test)
+/* Prints the terms for flags, each followed by a layer if it isn't empty, and returns the length. */
+static int print_flag_terms(uint64_t left, const char *layer)
 {
-    uint64_t left = test->number;
     int len = 0;
-    (void)word;
     for (size_t i = 0; i < COUNT(flag_terms); i++) {
         uint64_t flags = flag_terms[i].flags;
         if ((left & flags) != flags) continue;
-        len += printf("%s%s", len ? " or " : "", flag_terms[i].term);
+        len += printf("%s%s%s%s", len ? " or " : "", flag_terms[i].term, *layer ? " " : "", layer);
         left &= ~flags;
     }
     return len ? len : print_never();
+}
+
+/* Prints the terms of which one has to hold, and returns the length. */
+static int print_flags(const char *word, const struct wolfaren_filter_test *test)
+{
+    (void)word;
+    return print_flag_terms(test->number, "");
+}
+
+/* Prints the terms of which one has to hold for an error in a layer, and returns the length. */
+static int print_layer(const char *word, const struct wolfaren_filter_test *test)
+{
+    const char *layer = test->number <= UINT8_MAX ? layer_name((uint8_t)test->number) : "";
+    (void)word;
+    return *layer ? print_flag_terms(test->address_low, layer) : print_never();
 }
 
 static int print_word(const char *word, const struct wolfaren_filter_test *test)
@@ -144,6 +158,7 @@ static const struct {
     [WOLFAREN_TEST_ROUTING_TYPE] = {print_number, "routing-type"},
     [WOLFAREN_TEST_SEGMENTS_LEFT] = {print_count, "segments-left"},
     [WOLFAREN_TEST_OPTION] = {print_number, "option"},
+    [WOLFAREN_TEST_LAYER] = {print_layer, ""},
 };
 
 /* Prints a test, and returns the length. No packet meets a test of an unknown kind. */
@@ -162,13 +177,23 @@ static void write_index(size_t index, size_t count, char text[INDEX_ROOM])
         snprintf(text, INDEX_ROOM, "%s", index == WOLFAREN_FILTER_PASSED ? "pass" : "refuse");
 }
 
-void print_program(const struct wolfaren_filter *filter)
+/* Returns the test for the term of this program that has this index, or null if it is one of the library's. */
+static const struct own_test *own_test_at(const struct condition *condition, size_t index)
+{
+    for (size_t i = 0; i < condition->own_count; i++)
+        if (condition->own[i].test == index) return &condition->own[i];
+    return NULL;
+}
+
+void print_program(const struct condition *condition)
 {
     char if_met[INDEX_ROOM], if_not[INDEX_ROOM];
+    const struct wolfaren_filter *filter = &condition->filter;
     for (size_t i = 0; i < filter->count; i++) {
         const struct wolfaren_filter_test *test = &filter->tests[i];
+        const struct own_test *own = own_test_at(condition, i);
         printf("(%03zu) ", i);
-        int len = print_test(test);
+        int len = own ? print_own_term() : print_test(test);
         write_index(test->if_met, filter->count, if_met);
         write_index(test->if_not, filter->count, if_not);
         printf("%*s jt %-6s jf %s\n", len < TERM_WIDTH ? TERM_WIDTH - len : 0, "", if_met, if_not);

@@ -40,7 +40,7 @@ bool read_protocol(const char *text, struct key *key)
     unsigned long number = strtoul(space + 1, NULL, 0);
     for (enum protocol_kind kind = PROTOCOL_ETHERTYPE; kind <= PROTOCOL_FAMILY; kind++) {
         if (number > kinds[kind].most) continue;
-        protocol_key(&(struct protocol){kind, (uint32_t)number}, key);
+        protocol_key(&(struct protocol){kind, (uint32_t)number, 0}, key);
         write_protocol(key, written);
         if (strcmp(text, written) == 0) return true;
     }

@@ -164,7 +164,7 @@ static bool read_entry(struct reading *reading, struct table *table, const struc
     if (has_key(table, key)) return refuse(reading->input, "duplicate name in a table");
     if (table->count == TABLE_KEYS) return refuse(reading->input, "the table has too many names");
     if (!read_table_count(reading, &count)) return false;
-    if (add_to_table(table, key, count)) return true;
+    if (add_to_table(table, key, 0, count)) return true;
     complain_of_memory();
     return false;
 }
@@ -208,7 +208,7 @@ static bool read_element(struct reading *reading, const char *name)
 static bool read_array(struct reading *reading, const struct array *array)
 {
     reading->array = array;
-    reading->elements = array_in(&reading->counts->statistics, array);
+    reading->elements = array_in(reading->counts, array);
     return read_object(reading, read_element);
 }
 
@@ -269,6 +269,10 @@ static uint64_t bit(unsigned member)
 /* The set of the members of packets in tunnels. */
 static const uint64_t inner_members = ((uint64_t)1 << MEMBERS) - ((uint64_t)1 << INNER_AT);
 
+/* The last minor version without mismatched packets, and the set of the members that count these. */
+enum { LAST_WITHOUT_MISMATCHED = 3 };
+static const uint64_t mismatched_members = (uint64_t)1 << (SCALARS_AT + MISMATCHED) | (uint64_t)1 << (INNER_AT + MISMATCHED);
+
 /* Returns the member with the same name, except for the prefix, that isn't of packets in tunnels. */
 static unsigned without_prefix(unsigned member)
 {
@@ -307,7 +311,7 @@ static bool read_value(struct reading *reading, unsigned member)
     if (member == CHAINS_AT) return read_object(reading, read_chains);
     if (member == PROTOCOLS_AT) return read_object(reading, read_protocol_member);
     if (member >= ARRAYS_AT) return read_array(reading, &arrays[member - ARRAYS_AT]);
-    return read_count(reading->input, scalar_in(&reading->counts->statistics, &scalars[member - SCALARS_AT]));
+    return read_count(reading->input, scalar_in(reading->counts, &scalars[member - SCALARS_AT]));
 }
 
 static bool read_outer_member(struct reading *reading, const char *name)
@@ -323,14 +327,15 @@ static bool read_outer_member(struct reading *reading, const char *name)
 
 /*
  * Adds members that may be left out. Version 1.0 has no table of protocols: all frames without an IP packet are then of
- * other protocols. Only statistics of a single file have its name, and those of packets in tunnels have all members or
- * none.
+ * other protocols. Up to version 1.3, mismatched packets aren't counted. Only statistics of a single file have its name,
+ * and those of packets in tunnels have all members or none.
  */
 static void add_members(struct reading *reading)
 {
     struct counts *all = reading->all;
     all->has_inner = reading->done & inner_members;
     reading->done |= bit(FILE_AT) | (all->has_inner ? 0 : inner_members);
+    if (reading->minor <= LAST_WITHOUT_MISMATCHED) reading->done |= mismatched_members;
     if (reading->minor > 0 || reading->done & bit(PROTOCOLS_AT)) return;
     all->outer.protocols.other = all->outer.statistics.other_frames;
     reading->done |= bit(PROTOCOLS_AT);

@@ -4,17 +4,20 @@
 
 #include "capture.h"
 #include "parts.h"
+#include "writer.h"
 
 /* Writes a line with a JSON object. */
-void print_object(const struct capture *capture, const struct packet *packet, const struct parts *parts);
+void put_object(struct writer *writer, const struct capture *capture, const struct packet *packet,
+                const struct parts *parts);
 
 /* Writes a line with the names of the values of each row, separated by commas. */
-void print_names(void);
+void put_names(struct writer *writer);
 
 /*
  * Writes a line with the values, separated by commas. A value is empty if the packet doesn't have it. The numbers of the
  * headers are separated by spaces.
  */
-void print_row(const struct capture *capture, const struct packet *packet, const struct parts *parts);
+void put_row(struct writer *writer, const struct capture *capture, const struct packet *packet,
+             const struct parts *parts);
 
 #endif

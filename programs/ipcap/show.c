@@ -9,17 +9,20 @@
 
 #include "arguments.h"
 #include "commands.h"
+#include "defragment.h"
 #include "drawing.h"
 #include "input.h"
 #include "options.h"
 #include "record.h"
 #include "report.h"
 #include "title.h"
+#include "writer.h"
 
 static const char usage[] =
-    "usage: ipcap show [-c N] [--color=WHEN | --one-line | --json | --csv] [FILE]\n"
+    "usage: ipcap show [-c N] [--defrag] [--color=WHEN | --one-line | --json | --csv] [FILE]\n"
     "Draws each IP packet of FILE, or standard input, with its chain of extension headers.\n"
     "  -c N          stop after N packets\n"
+    "  --defrag      show whole packets in place of their fragments\n"
     "  --color=WHEN  use colours `always`, `never`, or `auto`: only on a terminal (default)\n"
     "  --one-line    print only the first line of each packet\n"
     "  --json        print each packet as a line with a JSON object\n"
@@ -64,46 +67,89 @@ struct request {
     bool is_one_line;
     bool json;
     bool csv;
-    uint64_t most; /* how many packets are shown at most */
+    bool has_whole; /* whole packets are shown in place of their fragments */
+    uint64_t most;  /* how many packets are shown at most */
 };
 
-/* Writes a packet in the form that the options ask for. `shown` is the number of packets that were written before. */
-static void write_packet(const struct request *request, const struct capture *capture, const struct packet *packet,
-                         const struct parts *parts, uint64_t shown)
+/* The state of showing a capture. */
+struct showing {
+    const struct request *request;
+    struct parts parts;
+    struct writer writer;
+    uint64_t shown; /* number of packets that were written */
+};
+
+/* Writes a packet in the form that the options ask for. */
+static void put_packet(struct showing *showing, const struct capture *capture, const struct packet *packet)
 {
+    const struct request *request = showing->request;
+    struct writer *writer = &showing->writer;
     if (request->json || request->csv) {
-        (request->json ? print_object : print_row)(capture, packet, parts);
+        (request->json ? put_object : put_row)(writer, capture, packet, &showing->parts);
         return;
     }
-    if (shown > 0 && !request->is_one_line) putchar('\n');
-    print_title(capture, packet, parts);
-    if (packet->is_ip && !request->is_one_line) draw_packet(parts, request->in_color);
+    if (showing->shown > 0 && !request->is_one_line) put_byte(writer, '\n');
+    put_title(writer, capture, packet, &showing->parts);
+    if (packet->is_ip && !request->is_one_line) put_drawing(writer, &showing->parts, request->in_color);
 }
 
-static bool show_packet(const struct request *request, const struct capture *capture, const struct packet *packet,
-                        struct parts *parts, uint64_t *shown)
+/* Shows a packet. A live capture is shown as it arrives. Returns false if it can't be shown, and reports why. */
+static bool show_packet(struct showing *showing, const struct capture *capture, const struct packet *packet)
 {
     if (packet->is_left_out) return true;
-    if (packet->is_ip && !parse_captured(parts, packet)) return false;
+    if (packet->is_ip && !parse_captured(&showing->parts, packet)) return false;
     errno = 0;
-    write_packet(request, capture, packet, parts, (*shown)++);
-    return capture->is_live ? finish_output() : !ferror(stdout) || finish_output();
+    put_packet(showing, capture, packet);
+    showing->shown++;
+    if (capture->is_live) end_text(&showing->writer);
+    return capture->is_live || ferror(stdout) ? finish_output() : true;
+}
+
+/* Writes what is left of the text. */
+static bool finish_text(struct writer *writer)
+{
+    errno = 0;
+    end_text(writer);
+    return finish_output();
+}
+
+/* Shows the packets of an open capture. */
+static bool show_packets(const struct request *request, struct capture *capture)
+{
+    struct packet packet;
+    struct showing showing = {.request = request};
+    bool is_shown = true;
+    if (request->csv) put_names(&showing.writer);
+    while (is_shown && showing.shown < request->most && read_packet(capture, &packet))
+        is_shown = show_packet(&showing, capture, &packet);
+    free_parts(&showing.parts);
+    bool is_written = ferror(stdout) || finish_text(&showing.writer);
+    return is_shown && is_written;
+}
+
+/* Shows the packets of an open capture, with whole packets in place of their fragments. */
+static bool show_whole_packets(const struct request *request, struct capture *capture)
+{
+    struct defragmenter *defragmenter = begin_defragmenter(DEFAULT_SLOTS, false);
+    if (!defragmenter) {
+        complain_of_memory();
+        return false;
+    }
+    pass_whole(defragmenter, capture);
+    bool is_shown = show_packets(request, capture);
+    stop_defragmenter(defragmenter);
+    report_fragments(defragmenter, capture->name);
+    end_defragmenter(defragmenter);
+    return is_shown;
 }
 
 static bool show_capture(const struct request *request, const char *path)
 {
     struct input input;
-    struct packet packet;
-    struct parts parts = {0};
-    bool is_shown = true;
-    uint64_t shown = 0;
     if (!open_input(&input, path)) return false;
-    if (request->csv) print_names();
-    while (is_shown && shown < request->most && read_packet(&input.capture, &packet))
-        is_shown = show_packet(request, &input.capture, &packet, &parts, &shown);
-    free_parts(&parts);
+    bool is_shown = (request->has_whole ? show_whole_packets : show_packets)(request, &input.capture);
     bool is_read = close_input(&input);
-    return is_shown && finish_output() && is_read;
+    return is_shown && is_read;
 }
 
 static const struct option_row options[] = {
@@ -112,6 +158,7 @@ static const struct option_row options[] = {
     {"one-line", set_flag, offsetof(struct request, is_one_line), NULL},
     {"json", set_flag, offsetof(struct request, json), NULL},
     {"csv", set_flag, offsetof(struct request, csv), NULL},
+    {"defrag", set_flag, offsetof(struct request, has_whole), NULL},
 };
 
 int run_show(int count, char **arguments)

@@ -10,6 +10,7 @@
 #include "commands.h"
 #include "count_files.h"
 #include "counts.h"
+#include "defragment.h"
 #include "input.h"
 #include "options.h"
 #include "print_counts.h"
@@ -17,9 +18,10 @@
 #include "report.h"
 
 static const char stat_usage[] =
-    "usage: ipcap stat [-j N] [--json] [--per-file] [--top N] [--tunnels] [FILE..]\n"
+    "usage: ipcap stat [-j N] [--defrag] [--json] [--per-file] [--top N] [--tunnels] [FILE..]\n"
     "Counts the packets of each FILE, or standard input, by their IP extension headers.\n"
     "  -j N        count at most N files side by side; without it, as many as there are processors\n"
+    "  --defrag    count whole packets in place of their fragments\n"
     "  --json      print a JSON object of counts, which `ipcap sum` reads, instead of tables\n"
     "  --per-file  print the counts of each file, with its name, instead of their sum\n"
     "  --top N     print at most N rows of each table, and the sum of the others; JSON has all rows\n"
@@ -40,6 +42,7 @@ struct request {
     bool json;
     bool is_per_file;
     bool has_tunnels;
+    bool has_whole; /* whole packets are counted in place of their fragments */
     uint64_t top;
     uint64_t jobs; /* 0 if not given */
 };
@@ -51,9 +54,10 @@ static const struct option_row options[] = {
     {"per-file", set_flag, offsetof(struct request, is_per_file), NULL},
     {"tunnels", set_flag, offsetof(struct request, has_tunnels), NULL},
     {"j", read_count_argument, offsetof(struct request, jobs), "a number above 0"},
+    {"defrag", set_flag, offsetof(struct request, has_whole), NULL},
 };
 
-enum { STAT_OPTIONS = sizeof options / sizeof *options, SUM_OPTIONS = STAT_OPTIONS - 3 };
+enum { STAT_OPTIONS = sizeof options / sizeof *options, SUM_OPTIONS = STAT_OPTIONS - 4 };
 
 /* Writes statistics, with the name of their file unless it is null. Returns false if writing fails. */
 static bool write_counts(const struct request *request, struct counts *counts, const char *file)
@@ -75,6 +79,7 @@ struct summary {
 /* Reports what failed while a file was read. Returns false if anything did. */
 static bool report_file(const struct counted_file *file)
 {
+    if (file->defragmenter) report_fragments(file->defragmenter, file->name);
     if (*file->error) complain("%s: %s", file->name, file->error);
     if (file->is_memory_short) complain_of_memory();
     return !*file->error && !file->is_memory_short;
@@ -113,7 +118,7 @@ static size_t choose_jobs(const struct request *request, const char *const *path
 static bool run_request(const struct request *request, const char *const *paths, size_t count)
 {
     struct summary summary = {.request = request, .is_done = true};
-    struct files files = {paths, count, request->has_tunnels};
+    struct files files = {paths, count, request->has_tunnels, request->has_whole};
     init_counts(&summary.total, request->has_tunnels);
     size_t jobs = choose_jobs(request, paths, count);
     count_files(&files, jobs, request->is_per_file ? write_file : add_file, &summary);

@@ -3,23 +3,18 @@
 #include <stdlib.h>
 #include <string.h>
 
-uint64_t add_counts(uint64_t count, uint64_t more)
-{
-    return more > UINT64_MAX - count ? UINT64_MAX : count + more;
-}
-
 static int compare_keys(const struct key *left, const struct key *right)
 {
     return memcmp(left->bytes, right->bytes, KEY_BYTES);
 }
 
-/* Returns the number of entries before the key: its index, or where it would be inserted. */
-static size_t place_of(const struct table *table, const struct key *key)
+/* Returns the number of keys before this one in sorted order. */
+static size_t rank_of(const struct table *table, const struct key *key)
 {
     size_t low = 0, high = table->count;
     while (low < high) {
         size_t middle = low + (high - low) / 2;
-        if (compare_keys(&table->entries[middle].key, key) < 0)
+        if (compare_keys(&table->entries[table->sorted[middle]].key, key) < 0)
             low = middle + 1;
         else
             high = middle;
@@ -32,9 +27,15 @@ static bool is_at(const struct table *table, size_t place, const struct key *key
     return place < table->count && compare_keys(&table->entries[place].key, key) == 0;
 }
 
+/* Whether the key with this rank is the one that it was determined for. */
+static bool has_rank(const struct table *table, size_t rank, const struct key *key)
+{
+    return rank < table->count && is_at(table, table->sorted[rank], key);
+}
+
 bool has_key(const struct table *table, const struct key *key)
 {
-    return is_at(table, place_of(table, key), key);
+    return has_rank(table, rank_of(table, key), key);
 }
 
 static bool make_room(struct table *table)
@@ -48,36 +49,55 @@ static bool make_room(struct table *table)
     return true;
 }
 
-static bool insert(struct table *table, size_t place, const struct key *key, uint64_t count)
+static bool insert(struct table *table, size_t rank, const struct key *key, uint64_t count)
 {
     if (!make_room(table)) return false;
-    struct entry *entry = &table->entries[place];
-    memmove(entry + 1, entry, (table->count - place) * sizeof *entry);
-    entry->key = *key;
-    entry->count = count;
-    table->count++;
+    uint16_t *sorted = &table->sorted[rank];
+    memmove(sorted + 1, sorted, (table->count - rank) * sizeof *sorted);
+    *sorted = (uint16_t)table->count;
+    table->entries[table->count++] = (struct entry){*key, count};
     return true;
 }
 
-/* Returns where the place of a key is remembered, by a hash of its first bytes. */
-static uint16_t *recent_of(struct table *table, const struct key *key)
+static void add_at(struct table *table, size_t place, uint64_t count)
 {
-    uint64_t first;
-    memcpy(&first, key->bytes, sizeof first);
-    return &table->recent[first * 0x9e3779b97f4a7c15U >> 56]; /* 2^64 divided by the golden ratio */
+    struct entry *entry = &table->entries[place];
+    entry->count = add_counts(entry->count, count);
 }
 
-bool add_to_table(struct table *table, const struct key *key, uint64_t count)
+/* Adds to the count of a key that is searched for, and stores its index unless the table is full. */
+static bool add_by_search(struct table *table, const struct key *key, uint64_t count, size_t *place)
 {
-    uint16_t *recent = recent_of(table, key);
-    size_t place = is_at(table, *recent, key) ? *recent : place_of(table, key);
-    if (is_at(table, place, key))
-        table->entries[place].count = add_counts(table->entries[place].count, count);
-    else if (table->count == TABLE_KEYS)
+    size_t rank = rank_of(table, key);
+    if (has_rank(table, rank, key)) {
+        *place = table->sorted[rank];
+        add_at(table, *place, count);
+        return true;
+    }
+    if (table->count == TABLE_KEYS) {
         table->other = add_counts(table->other, count);
-    else if (!insert(table, place, key, count))
+        return true;
+    }
+    *place = table->count;
+    return insert(table, rank, key, count);
+}
+
+/* Returns the number by which a key is remembered. */
+static uint64_t number_of(const struct key *key, uint64_t signature)
+{
+    if (signature == 0) memcpy(&signature, key->bytes, sizeof signature);
+    return signature;
+}
+
+bool add_to_table(struct table *table, const struct key *key, uint64_t signature, uint64_t count)
+{
+    struct recent *recent = recent_of(table, number_of(key, signature));
+    size_t place = recent->place;
+    if (is_at(table, place, key))
+        add_at(table, place, count);
+    else if (!add_by_search(table, key, count, &place))
         return false;
-    *recent = (uint16_t)place;
+    if (is_at(table, place, key)) *recent = (struct recent){signature, place};
     return true;
 }
 

@@ -25,8 +25,11 @@ static const struct {
     {"flow OP N", "the flow label of an IPv6 packet", "flow != 0"},
     {"fault", "the packet has an error", "fault"},
     {"fault KIND", "the packet has an error of this kind", "fault too-short"},
+    {"fault KIND LAYER", "the error is in this header or packet", "fault too-short routing"},
     {"truncated", "a header is truncated", "truncated"},
+    {"truncated LAYER", "this header is truncated", "truncated routing"},
     {"incomplete", "bytes of the stated length are missing", "incomplete"},
+    {"mismatched", "IPv4 announced as IPv6, or the reverse", "mismatched"},
     {"version N", "the IP version, 4 or 6", "version 6"},
     {"ip", "as version 4", "ip"},
     {"ip6", "as version 6", "ip6"},
@@ -54,8 +57,10 @@ static const char arguments[] =
     "PROTOCOL  a NAME, or as for HEADER\n"
     "NAME      icmp (1), tcp (6), udp (17), dccp (33), gre (47), esp (50), icmp6 (58), no-next (59), sctp (132),\n"
     "          udp-lite (136)\n"
-    "OP        = != < <= > >=\n"
+    "OP        = == != < <= > >=\n"
     "KIND      too-short, not-at-start, zero-length, unsupported-version, header-length\n"
+    "LAYER     IP-header, IPv4-header, IPv4-packet, authentication, IPv6-header, IPv6-packet, IPv6-extension, hop-by-hop,\n"
+    "          destination-options, routing, fragment\n"
     "N         a decimal number, or a hexadecimal one after 0x\n"
     "NETWORK   an IPv4 or IPv6 address, alone or with a slash and a number of bits\n"
     "ADDRESS   an IPv4 or IPv6 address\n"

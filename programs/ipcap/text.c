@@ -1,6 +1,21 @@
 #include "text.h"
 
-#include <stdint.h>
+#include <string.h>
+
+char *append_text(char *place, const char *text)
+{
+    size_t len = strlen(text);
+    memcpy(place, text, len);
+    return place + len;
+}
+
+char *append_number(char *place, uint64_t number)
+{
+    size_t count = 1;
+    for (uint64_t left = number; left >= 10; left /= 10) count++;
+    for (size_t at = count; at > 0; number /= 10) place[--at] = (char)('0' + number % 10);
+    return place + count;
+}
 
 bool is_control(char byte)
 {

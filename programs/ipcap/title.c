@@ -1,48 +1,57 @@
 #include "title.h"
 
-#include <arpa/inet.h>
-#include <inttypes.h>
-#include <stdio.h>
-#include <string.h>
 #include <time.h>
 
+#include "address.h"
 #include "chain_key.h"
+
+/* The year from which those of `struct tm` count. */
+enum { EPOCH = 1900 };
 
 /* Whether RFC 3339 has a form for a time, which then is stored as a date. Its years have four digits. */
 static bool has_date(const struct timespec *time, struct tm *date)
 {
-    enum { EPOCH = 1900, FIRST_YEAR = 1000, LAST_YEAR = 9999 };
+    enum { FIRST_YEAR = 1000, LAST_YEAR = 9999 };
     if (!gmtime_r(&time->tv_sec, date)) return false;
     return date->tm_year >= FIRST_YEAR - EPOCH && date->tm_year <= LAST_YEAR - EPOCH;
 }
 
-void write_time(const struct capture *capture, const struct packet *packet, char text[TIME_ROOM])
+/* Writes a byte, and a number of two digits. */
+static void put_two_digits(struct writer *writer, char before, int number)
+{
+    put_byte(writer, before);
+    put_digits(writer, (uint32_t)number, 2);
+}
+
+static void put_date(struct writer *writer, const struct tm *date)
+{
+    put_digits(writer, (uint32_t)(date->tm_year + EPOCH), 4);
+    put_two_digits(writer, '-', date->tm_mon + 1);
+    put_two_digits(writer, '-', date->tm_mday);
+    put_two_digits(writer, 'T', date->tm_hour);
+    put_two_digits(writer, ':', date->tm_min);
+    put_two_digits(writer, ':', date->tm_sec);
+}
+
+/* Writes a number of seconds, which may be negative. */
+static void put_seconds(struct writer *writer, int64_t seconds)
+{
+    if (seconds < 0) put_byte(writer, '-');
+    put_number(writer, seconds < 0 ? -(uint64_t)seconds : (uint64_t)seconds);
+}
+
+void put_time(struct writer *writer, const struct capture *capture, const struct packet *packet)
 {
     struct timespec time = time_of(capture, packet);
     struct tm date;
-    int digits = has_nanoseconds(capture) ? 9 : 6;
-    long fraction = digits == 9 ? time.tv_nsec : time.tv_nsec / 1000;
-    if (has_date(&time, &date)) {
-        size_t len = strftime(text, TIME_ROOM, "%Y-%m-%dT%H:%M:%S", &date);
-        snprintf(text + len, TIME_ROOM - len, ".%0*ldZ", digits, fraction);
-    } else {
-        snprintf(text, TIME_ROOM, "%lld.%0*ld", (long long)time.tv_sec, digits, fraction);
-    }
-}
-
-/* Where the source address is in the headers of both versions; the destination address follows it. */
-static const struct {
-    int family;
-    size_t offset;
-    size_t len;
-} addresses[] = {[4] = {AF_INET, 12, 4}, [6] = {AF_INET6, 8, 16}};
-
-/* Formats the source or the destination address of a packet with an IP header. */
-static void write_address(const struct parts *parts, bool is_destination, char text[INET6_ADDRSTRLEN])
-{
-    uint16_t version = parts->packet.version;
-    size_t offset = addresses[version].offset + (is_destination ? addresses[version].len : 0);
-    if (!inet_ntop(addresses[version].family, parts->bytes + offset, text, INET6_ADDRSTRLEN)) *text = '\0';
+    bool is_date = has_date(&time, &date), is_fine = has_nanoseconds(capture);
+    if (is_date)
+        put_date(writer, &date);
+    else
+        put_seconds(writer, time.tv_sec);
+    put_byte(writer, '.');
+    put_digits(writer, (uint32_t)(is_fine ? time.tv_nsec : time.tv_nsec / 1000), is_fine ? 9 : 6);
+    if (is_date) put_byte(writer, 'Z');
 }
 
 uint32_t frame_len(const struct packet *packet)
@@ -50,43 +59,69 @@ uint32_t frame_len(const struct packet *packet)
     return packet->header.len > packet->header.caplen ? packet->header.len : packet->header.caplen;
 }
 
-void print_addresses(const struct parts *parts, const char *format)
+static void put_addresses(struct writer *writer, const struct parts *parts)
 {
-    char source[INET6_ADDRSTRLEN], destination[INET6_ADDRSTRLEN];
-    if (parts->packet.version == 0) return;
-    write_address(parts, false, source);
-    write_address(parts, true, destination);
-    printf(format, source, destination);
+    put_text(writer, ", ");
+    put_address(writer, parts, false);
+    put_text(writer, " > ");
+    put_address(writer, parts, true);
 }
 
-static void print_chain(const struct parts *parts)
+/* Writes the chain of a packet that has more headers than a key. */
+static void put_long_chain(struct writer *writer, const struct parts *parts)
+{
+    put_text(writer, parts->packet.version == 4 ? "IPv4 " : "IPv6 ");
+    put_number(writer, parts->packet.headers);
+    put_text(writer, " headers -> ");
+    put_number(writer, parts->packet.payload_number);
+}
+
+static void put_chain(struct writer *writer, const struct parts *parts)
 {
     static const struct path no_tunnel;
     struct key key;
     char text[CHAIN_TEXT_ROOM];
     if (parts->packet.version == 0) {
-        puts("unread base header");
+        put_text(writer, "unread base header");
     } else if (chain_key(&no_tunnel, parts, &key)) {
         write_chain(&key, text);
-        puts(text);
+        put_text(writer, text);
     } else {
-        printf("IPv%d %zu headers -> %d\n", parts->packet.version, parts->packet.headers, parts->packet.payload_number);
+        put_long_chain(writer, parts);
     }
 }
 
-void print_title(const struct capture *capture, const struct packet *packet, const struct parts *parts)
+/* Writes how many bytes the frame has, and of a truncated one before that how many are there. */
+static void put_lengths(struct writer *writer, const struct packet *packet)
 {
-    char time[TIME_ROOM] = "no time";
-    if (packet->has_time) write_time(capture, packet, time);
-    printf("packet %" PRIu64 ": %s", capture->number, time);
-    if (packet->is_ip) print_addresses(parts, ", %s > %s");
-    fputs(", ", stdout);
-    if (packet->is_short) printf("%u of ", packet->header.caplen);
-    printf("%u bytes", frame_len(packet));
-    if (!packet->is_ip) {
-        puts(", not IP");
-        return;
+    put_text(writer, ", ");
+    if (packet->is_short) {
+        put_number(writer, packet->header.caplen);
+        put_text(writer, " of ");
     }
-    printf(", IP at %zu: ", packet->ip_offset);
-    print_chain(parts);
+    put_number(writer, frame_len(packet));
+    put_text(writer, " bytes");
+}
+
+void put_title(struct writer *writer, const struct capture *capture, const struct packet *packet,
+               const struct parts *parts)
+{
+    put_text(writer, "packet ");
+    put_number(writer, capture->number);
+    put_text(writer, ": ");
+    if (packet->has_time)
+        put_time(writer, capture, packet);
+    else
+        put_text(writer, "no time");
+    if (packet->is_ip && parts->packet.version != 0) put_addresses(writer, parts);
+    put_lengths(writer, packet);
+    if (packet->is_ip) {
+        put_text(writer, ", IP at ");
+        put_number(writer, packet->ip_offset);
+        put_text(writer, ": ");
+        put_chain(writer, parts);
+    } else {
+        put_text(writer, ", not IP");
+    }
+    put_byte(writer, '\n');
 }

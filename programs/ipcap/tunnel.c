@@ -89,7 +89,6 @@ static bool find_in_gtp_u(struct rest *rest, struct inner *inner)
     if ((header[0] & HAS_EXTENSIONS) && !skip_gtp_u_extensions(rest, optional[NEXT_TYPE_AT])) return false;
     unsigned version = rest->len > 0 ? rest->bytes[0] >> 4 : 0;
     inner->is_ip = version == 4 || version == 6;
-    inner->protocol = (struct protocol){0};
     set_packet(inner, rest, 0);
     return true;
 }
@@ -128,16 +127,17 @@ enum { NUMBER_UDP = 17 };
 /* By which numbers a tunnel is recognized. */
 static const struct {
     enum tunnel tunnel;
-    uint8_t number; /* the protocol number of the payload */
-    uint16_t port;  /* the destination port of UDP, otherwise 0 */
+    uint8_t number;   /* the protocol number of the payload */
+    uint16_t port;    /* the destination port of UDP, otherwise 0 */
+    unsigned version; /* the IP version that the protocol number stands for, or 0 */
     bool (*find)(struct rest *rest, struct inner *inner);
 } tunnels[] = {
-    {TUNNEL_IP, 4, 0, find_in_ip},
-    {TUNNEL_IP, 41, 0, find_in_ip},
-    {TUNNEL_GRE, 47, 0, find_in_gre},
-    {TUNNEL_GTP_U, NUMBER_UDP, 2152, find_in_gtp_u},
-    {TUNNEL_VXLAN, NUMBER_UDP, 4789, find_in_vxlan},
-    {TUNNEL_GENEVE, NUMBER_UDP, 6081, find_in_geneve},
+    {TUNNEL_IP, 4, 0, 4, find_in_ip},
+    {TUNNEL_IP, 41, 0, 6, find_in_ip},
+    {TUNNEL_GRE, 47, 0, 0, find_in_gre},
+    {TUNNEL_GTP_U, NUMBER_UDP, 2152, 0, find_in_gtp_u},
+    {TUNNEL_VXLAN, NUMBER_UDP, 4789, 0, find_in_vxlan},
+    {TUNNEL_GENEVE, NUMBER_UDP, 6081, 0, find_in_geneve},
 };
 
 /* RFC 768. A length of 0 states none, which only jumbograms may have (RFC 2675, section 4). */
@@ -164,6 +164,7 @@ bool find_inner(const struct parts *parts, struct inner *inner)
     for (size_t i = 0; i < sizeof tunnels / sizeof *tunnels; i++) {
         if (tunnels[i].number != packet->payload_number || tunnels[i].port != port) continue;
         inner->tunnel = tunnels[i].tunnel;
+        inner->protocol = (struct protocol){.version = tunnels[i].version};
         return tunnels[i].find(&rest, inner);
     }
     return false;

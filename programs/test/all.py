@@ -6,6 +6,7 @@ import harness
 import test_completion
 import test_compression
 import test_conditions
+import test_defrag
 import test_filter
 import test_library
 import test_link_layers
@@ -16,7 +17,7 @@ import test_sum
 import test_tunnels
 import test_use
 
-GROUPS = [("link layers", test_link_layers.link_layers), ("short frames", test_link_layers.short_frames),
+GROUPS = [("link layers", test_link_layers.link_layers), ("mismatched packets", test_link_layers.mismatched), ("short frames", test_link_layers.short_frames),
           ("truncated frames", test_link_layers.truncated_frames), ("hostile frames", test_link_layers.hostile_frames),
           ("protocols of other frames", test_link_layers.other_protocols),
           ("faults", test_stat.faults), ("incomplete packets", test_stat.incomplete_packets),
@@ -41,6 +42,8 @@ GROUPS = [("link layers", test_link_layers.link_layers), ("short frames", test_l
           ("chains without an end in libpcap", test_filter.endless_chains),
           ("conditions on upper layers", test_filter.upper_layers),
           ("conditions on flags of TCP and fields of extension headers", test_filter.flags),
+          ("conditions on mismatched packets", test_filter.mismatched),
+          ("faults by their names", test_filter.faults_of_stat),
           ("programs of conditions", test_filter.programs), ("lists of terms", test_filter.help_terms),
           ("forms of what is written", test_filter.forms_of_files), ("between programs", test_filter.between_programs),
           ("several files", test_filter.several_files), ("numbers of packets to write", test_filter.counts),
@@ -55,6 +58,13 @@ GROUPS = [("link layers", test_link_layers.link_layers), ("short frames", test_l
           ("packets in rows", test_show.rows),
           ("large offsets", test_show.large_offsets),
           ("places of faults", test_show.places_of_faults), ("long packets", test_show.long_packets),
+          ("addresses", test_show.addresses), ("texts in parts", test_show.buffers),
+          ("orders of fragments", test_defrag.orders), ("places of whole packets", test_defrag.places),
+          ("fragments that make nothing whole", test_defrag.refused), ("keys of fragments", test_defrag.keys),
+          ("times of fragments", test_defrag.times), ("slots for fragments", test_defrag.slots),
+          ("long whole packets", test_defrag.long_packets), ("whole packets in forms of files", test_defrag.forms_of_files),
+          ("random fragments", test_defrag.plain_agrees), ("whole packets as tshark has them", test_defrag.tshark_agrees),
+          ("whole packets as scapy makes them", test_defrag.scapy_agrees), ("whole packets in other commands", test_defrag.other_commands), ("wrong usage of defrag", test_defrag.wrong_usage),
           ("colours", test_show.colors), ("help and version", test_use.helps), ("completions", test_completion.completions), ("wrong usage", test_use.wrong_usage),
           ("names of files", test_use.names_of_files),
           ("full outputs", test_use.full_outputs), ("terminals", test_use.terminals),

@@ -6,7 +6,7 @@ import shutil
 import subprocess
 
 FOLDER = os.path.join(os.path.dirname(os.path.abspath(__file__)), "..", "ipcap", "completion")
-COMMANDS = ["stat", "sum", "filter", "show"]
+COMMANDS = ["stat", "sum", "filter", "show", "defrag"]
 SCRIPT = 'source "$0"; COMP_WORDS=("$@"); COMP_CWORD=$(($# - 1)); _ipcap; printf "%s\\n" "${COMPREPLY[@]}"'
 
 

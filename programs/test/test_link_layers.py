@@ -147,6 +147,25 @@ def link_layers(harness):
         harness.equal((found["packets"], found["ipv%d" % version]), (1, 1), "link layer", link_layer)
 
 
+def mismatched(harness):
+    """Packets of one IP version that their frame announces as the other are counted where they are, and as mismatched."""
+    six, four, five = ipv6_chain([0, 43]), ipv4(51, authentication(6) + TCP), b"\x50" + bytes(60)
+    for links, count in [(fixed_links(), 3), (from_hex(LINKS_BY_VERSION), 0)]:
+        for name, number, before_six, before_four, other, _ in links:
+            kept = 0 if number == 8 else count  # SLIP announces nothing
+            frames = [before_six + four, before_four + six, before_six + b"\x40", before_six + six, before_four + four, other]
+            found, _ = harness.stat(content=capture(frames, number))
+            harness.equal((found["mismatched"], found["ipv4"], found["ipv6"], found["other_frames"]), (kept, 2, 2, 1), name)
+            if count:
+                found, _ = harness.stat(content=capture([before_six + five, before_four + five, before_six, other], number))
+                harness.equal((found["mismatched"], found["packets"]), (0, 3), name, "other versions")
+    for link_layer in [RAW, IPV4, IPV6]:
+        harness.equal(harness.stat(content=capture([six, four], link_layer))[0]["mismatched"], 0, "link layer", link_layer)
+    frame = ethernet(six, (0x8100,), 0x0800)
+    found = harness.run("stat", harness.file(capture([frame, ethernet(four)])))[1].decode()
+    harness.check("           1  IPv4 packets announced as IPv6, or IPv6 as IPv4\n" in found, "the table", found)
+
+
 def short_frames(harness):
     """Frames that end within the link-layer header, or directly after it."""
     for link_layer, frame, before, protocols in [

@@ -2,8 +2,11 @@
 
 import csv
 import json
+import random
+import socket
 
 from captures import *
+from test_stat import random_frames
 
 DRAWN = """packet 1: 1970-01-01T00:16:40.000005Z, 2001:db8::1 > 2001:db8::2, 90 bytes, IP at 14: IPv6 0,43,44 -> 17
 0000  60 00 00 00 00 24 00 40 20 01 0d b8 00 00 00 00
@@ -33,7 +36,7 @@ packet 4: 1970-01-01T00:16:40.000005Z, 2001:db8::1 > 2001:db8::2, 62 of 78 bytes
 0020  00 00 00 00 00 00 00 02 2c 00 01 04 00 00 00 00
       ----------------------] [ destination-options ]
 0030
-      ^ truncated: not enough bytes for Ipv6FragHeader at offset 48: 8 needed, 0 there by Slice
+      ^ truncated: not enough bytes for the fragment header at offset 48: 8 needed, 0 there
       16 bytes missing
 
 packet 5: 1970-01-01T00:16:40.000005Z, 2001:db8::1 > 2001:db8::2, 70 bytes, IP at 14: IPv6 44 -> 60
@@ -172,28 +175,38 @@ def carets(found):
 
 def places_of_faults(harness):
     """The caret is below the first byte of the faulty header."""
-    cases = [(ipv6(0, options(43, 3) + routing(17)[:5]), 40 + 32, "offset 72: 8 needed, 5 there"),
-             (ipv6_chain([43, 60, 0]), 56, "not directly after the IPv6 header"),
-             (ipv6(51, b"\x11\0" + bytes(14)), 40, "too small (0)"),
-             (ipv4(51, b"\x11\0" + bytes(14)), 20, "too small (0)"),
-             (ipv6(60, b""), 40, "truncated: not enough bytes for Ipv6ExtHeader at offset 40: 8 needed, 0 there"),
-             (ipv6_chain([60, 60, 60], 44, b""), 64, "8 needed, 0 there"),
-             (ipv4(17, UDP, total_len=19), 0, "20 needed, 19 there"),
-             (b"\x50" + bytes(40), 0, "'5'"), (ipv4(17, UDP, words=4), 0, "'4'"),
-             (b"", 0, "truncated: not enough bytes for IpHeader at offset 0: 1 needed, 0 there"),
-             (ipv4(51, authentication(17)[:9], words=7, option_bytes=bytes(8)), 28, "12 needed, 9 there")]
+    short, cut, length = "not enough bytes for the ", "truncated: not enough bytes for the ", "the length field of the "
+    cases = [(ipv6(0, options(43, 3) + routing(17)[:5]), 40 + 32,
+              short + "routing header at offset 72: 8 needed, 5 there by the payload length"),
+             (ipv6(43, b"\x11"), 40, short + "routing header at offset 40: 8 needed, 1 there by the payload length"),
+             (ipv6_chain([43, 60, 0]), 56,
+              "the hop-by-hop options header at offset 56 doesn't follow the IPv6 header directly"),
+             (ipv6(51, b"\x11\0" + bytes(14)), 40, length + "authentication header at offset 40 is 0"),
+             (ipv4(51, b"\x11\0" + bytes(14)), 20, length + "authentication header at offset 20 is 0"),
+             (ipv6(60, b""), 40, cut + "destination options header at offset 40: 8 needed, 0 there"),
+             (ipv6(0, b""), 40, cut + "hop-by-hop options header at offset 40: 8 needed, 0 there"),
+             (ipv6_chain([60, 60, 60], 44, b""), 64,
+              short + "fragment header at offset 64: 8 needed, 0 there by the payload length"),
+             (ipv4(17, UDP, total_len=19), 0, short + "IPv4 packet at offset 0: 20 needed, 19 there by the total length"),
+             (b"\x50" + bytes(40), 0, "the IP version is 5, where 4 or 6 is required"),
+             (ipv4(17, UDP, words=4), 0,
+              "the internet header length of the IPv4 header is 4, where at least 5 is required"),
+             (b"", 0, cut + "IP header at offset 0: 1 needed, 0 there"),
+             (ipv4(17, b"")[:19], 0, cut + "IPv4 header at offset 0: 20 needed, 19 there"),
+             (ipv4(51, authentication(17)[:9], words=7, option_bytes=bytes(8)), 28,
+              short + "authentication header at offset 28: 12 needed, 9 there by the total length")]
     for packet, place, words in cases:
         status, found, _, _ = harness.run("show", content=capture([ethernet(packet)]))
         drawn = list(carets(found))
         harness.equal((status, len(drawn), drawn[0][0] if drawn else None), (0, 1, place), packet.hex(),
                       found.decode())
-        harness.check(words in drawn[0][1], packet.hex(), drawn[0][1])
+        harness.equal(drawn[0][1], words, packet.hex())
     for kept, place, needed in [(0, 0, 1), (16, 0, 40), (39, 0, 40), (40, 40, 8), (47, 40, 8), (48, 48, 8), (55, 48, 8),
                                 (56, 48, 24), (71, 48, 24), (72, 72, 8)]:
         frame = ethernet(ipv6(0, options(43) + routing(44, 2) + fragment(17) + UDP))
         found = harness.run("show", content=file_header() + record(frame, 14 + kept))[1]
         drawn = [(at, words.startswith("truncated: "), words[words.index("offset"):]) for at, words in carets(found)]
-        harness.equal(drawn, [(place, True, "offset %d: %d needed, %d there by Slice" % (place, needed, kept - place))],
+        harness.equal(drawn, [(place, True, "offset %d: %d needed, %d there" % (place, needed, kept - place))],
                       kept, "bytes kept")
 
 
@@ -204,6 +217,32 @@ def long_packets(harness):
     found = harness.run("show", content=capture([ethernet(ipv6_chain([60] * 2000, 17, b""))]))[1].decode()
     harness.check("IPv6 2000 headers -> 17\n" in found, "a long chain")
     harness.equal(found.count(" destination-options "), 2000, "headers of a long chain")
+
+
+def addresses(harness):
+    """Addresses are as the system writes them."""
+    draw = random.Random(1)
+    values = [bytes(16), bytes(15) + b"\1", bytes(12) + b"\xc0\0\2\1", bytes(10) + b"\xff\xff\xc0\0\2\1", b"\xff" * 16,
+              bytes(10) + b"\xff\xff" + bytes(4), bytes(10) + b"\0\1" + bytes(4), bytes(13) + b"\1\0\0"]
+    for bits in range(256):
+        values.append(b"".join(draw.choice([b"\0\1", b"\x0a\0", b"\xff\xff"]) if bits >> i & 1 else b"\0\0" for i in range(8)))
+    frames = [ethernet(ipv6(59, b"")[:8] + one + other) for one, other in zip(values, values[1:] + values[:1])]
+    frames += [ethernet(ipv4(59, b"")[:12] + one[:8]) for one in values]
+    found = list(csv.DictReader(harness.run("show", "--csv", content=capture(frames))[1].decode().splitlines()))
+    wanted = [(socket.inet_ntop(socket.AF_INET6, one), socket.inet_ntop(socket.AF_INET6, other))
+              for one, other in zip(values, values[1:] + values[:1])]
+    wanted += [(socket.inet_ntop(socket.AF_INET, one[:4]), socket.inet_ntop(socket.AF_INET, one[4:8])) for one in values]
+    harness.equal([(row["src"], row["dst"]) for row in found], wanted, "addresses")
+
+
+def buffers(harness):
+    """Each form has the same text packet by packet, as from a pipe, and in larger parts."""
+    content = capture(random_frames(1500, 3))
+    path = harness.file(content)
+    for form in [[], ["--one-line"], ["--json"], ["--csv"], ["--color=always"]]:
+        whole = harness.run("show", *form, path)
+        harness.check(len(whole[1]) > 1 << 16 and whole[0] == 0, form, len(whole[1]))
+        harness.equal(harness.run("show", *form, content=content), whole, form)
 
 
 def colors(harness):

@@ -100,6 +100,16 @@ def fragments(harness):
         found, _ = harness.stat(content=capture([packet], RAW))
         harness.equal((found["chains"], expected.fragments(found), found["faults"]), ({chain_text: 1}, fragments_wanted, {}),
                       "packet", packet.hex())
+    # The kind is that of the first fragment header that makes the payload a fragment. So middle and last fragments are as
+    # many as end at a later fragment, but for a first fragment that does too, and IPv4 fragments with a fault.
+    names = ["atomic_fragments", "first_fragments", "middle_fragments", "last_fragments", "at_later_fragment"]
+    for packet, wanted in [(ipv6(44, fragment(44, 0, 1) + fragment(17, 3, 1) + UDP), [0, 1, 0, 0, 1]),
+                           (ipv6(44, fragment(44, 0, 0) + fragment(17, 3, 1) + UDP), [0, 0, 1, 0, 1]),
+                           (ipv6(44, fragment(44, 0, 0) + fragment(17, 0, 0) + UDP), [1, 0, 0, 0, 0]),
+                           (ipv6(44, fragment(44, 3, 0) + fragment(17, 0, 1) + UDP), [0, 0, 0, 1, 1]),
+                           (ipv4(17, UDP, 5, total_len=19), [0, 0, 0, 1, 0]), (ipv4(17, UDP, 0x2005), [0, 0, 1, 0, 1])]:
+        found, _ = harness.stat(content=capture([packet], RAW))
+        harness.equal([found[name] for name in names], wanted, "several fragment headers", packet.hex())
 
 
 def snapped(version, ends, numbers, final, kept, before):
@@ -207,12 +217,12 @@ def files_apart(harness):
         with open(paths[-1], "wb") as file:
             file.write(other)
         in_tables.append(b"file %s/%s\n" % (folder.encode(), shown[0]))
-        in_json.append(b'{"version":"1.3","file":"%s/%s",' % (folder.encode(), shown[1].encode()))
+        in_json.append(b'{"version":"1.4","file":"%s/%s",' % (folder.encode(), shown[1].encode()))
     first, second = [harness.run("stat", content=it)[1] for it in (one, other)]
     wanted = b"file -\n" + first + b"".join(head + second for head in in_tables)
     harness.equal(harness.run("stat", "--per-file", "-", *paths, content=one), (0, wanted, "", None), "tables")
     first, second = [harness.run("stat", "--json", content=it)[1].partition(b",")[2] for it in (one, other)]
-    wanted = b'{"version":"1.3","file":"-",' + first + b"".join(head + second for head in in_json)
+    wanted = b'{"version":"1.4","file":"-",' + first + b"".join(head + second for head in in_json)
     harness.equal(harness.run("stat", "--per-file", "--json", "-", *paths, content=one), (0, wanted, "", None), "JSON")
     harness.equal([json.loads(line)["file"] for line in wanted.splitlines()], ["-"] + paths, "the names in JSON")
     total = harness.run("stat", "--json", "-", *paths, content=one)
@@ -420,6 +430,7 @@ def tables(harness):
            0  last fragments
            0  packets with missing bytes
           44  payload bytes
+           0  IPv4 packets announced as IPv6, or IPv6 as IPv4
 protocols of frames without an IP packet
            1  EtherType 0x0806
 chains

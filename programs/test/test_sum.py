@@ -31,7 +31,7 @@ def sums(harness):
     one = json.loads(whole)
     wanted = {name: {k: v * 3 for k, v in part.items()} if isinstance(part, dict) else part * 3
               for name, part in one.items() if name != "version"}
-    harness.equal(total, {"version": "1.3", **wanted}, "three times the whole")
+    harness.equal(total, {"version": "1.4", **wanted}, "three times the whole")
 
 
 def refuse(harness, content, words, name):
@@ -84,7 +84,7 @@ def malformed(harness):
               ({"faults": {"too-short": 1}}, "not in \"faults\""), ({"faults": {"routing": 1}}, "not in \"faults\""),
               ({"faults": {"too-short x": 1}}, "not in"), ({"faults": {" routing": 1}}, "not in"),
               ({"faults": {"too-short ": 1}}, "not in"), ({"truncated_headers": {"": 1}}, "not in \"truncated_headers\""),
-              ({"without_header": 1}, "don't add up"), ({"truncated_frames": 2}, "don't add up"),
+              ({"without_header": 1}, "don't add up"), ({"truncated_frames": 2}, "don't add up"), ({"mismatched": 2}, "don't add up"),
               ({"first_fragments": 2}, "don't add up"), ({"incomplete": 2}, "don't add up"), ({"at_fault": 1}, "don't add up"),
               ({"packets": 2**64 - 1, "without_header": 2**64 - 1}, "don't add up"),
               ({"other_frames": 1}, "don't add up"), ({"other_protocols": {"other": 1}}, "don't add up"),
@@ -122,6 +122,11 @@ def versions(harness):
     found = harness.run("sum", "--json", content=json.dumps(first).encode() + good(other_frames=1, other_protocols={"PPP 0xc021": 1}))
     harness.equal(json.loads(found[1])["other_protocols"], {"PPP 0xc021": 1, "other": 3}, "version 1.0")
     harness.equal(harness.run("sum", "--json", content=good(version="1.1")), wanted, "version 1.1")
+    third = json.loads(good(version="1.3"))
+    del third["mismatched"]
+    found = harness.run("sum", "--json", content=json.dumps(third).encode() + good(mismatched=1))
+    harness.equal(json.loads(found[1])["mismatched"], 1, "version 1.3")
+    refuse(harness, json.dumps({**third, "version": "1.4"}).encode(), "the object has no \"mismatched\"", "version 1.4")
 
 
 def names_in_json(harness):

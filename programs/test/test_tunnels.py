@@ -197,7 +197,7 @@ def counted(harness):
     found, errors = harness.stat("--tunnels", content=content)
     wanted = inner_statistics(
         other_frames=1, truncated_frames=2, packets=8, without_header=1, ipv4=3, ipv6=4, at_payload=4, at_later_fragment=1,
-        at_truncated_header=1, at_fault=2, first_fragments=1, middle_fragments=1, incomplete=2,
+        at_truncated_header=1, at_fault=2, first_fragments=1, middle_fragments=1, incomplete=2, mismatched=1,
         payload_bytes=len(TCP) + len(UDP) + len(UDP) + len(UDP) + 47,
         other_protocols={"EtherType 0x0806": 1},
         chains={"IPv4 GRE > IPv6 0,43 -> 6": 1, "IPv6 44 > IPv4 51 -> 17": 1, "IPv4 > IPv6 44 -> 17": 1,
@@ -413,6 +413,7 @@ def tables(harness):
            0  last fragments
            0  packets with missing bytes
           20  payload bytes
+           0  IPv4 packets announced as IPv6, or IPv6 as IPv4
 in tunnels: protocols of frames without an IP packet
            1  EtherType 0x0806
 in tunnels: chains
@@ -479,7 +480,7 @@ def malformed(harness):
     for parts, words in [({"inner_packets": 2}, "don't add up"), ({"inner_chains": {}}, "don't add up"),
                          ({"inner_other_frames": 1}, "don't add up"), ({"inner_headers": {"256": 1}}, "not in \"headers\""),
                          ({"inner_chains": 1}, "'1'"), ({"inner_packets": {}}, "'{'"),
-                         ({"inner_file": "a"}, "unknown member"), ({"inner_version": "1.3"}, "unknown member"),
+                         ({"inner_file": "a"}, "unknown member"), ({"inner_version": "1.4"}, "unknown member"),
                          ({"inner_": 1}, "unknown member"), ({"inner_inner_packets": 1}, "unknown member")]:
         refuse(harness, good(**parts), words, parts)
     refuse(harness, good()[:-1] + b',"inner_packets":1}', "duplicate name in the object", "twice")

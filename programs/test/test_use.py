@@ -10,7 +10,7 @@ import subprocess
 
 from captures import *
 
-COMMANDS = ["stat", "sum", "filter", "show"]
+COMMANDS = ["stat", "sum", "filter", "show", "defrag"]
 
 
 def helps(harness):

@@ -82,7 +82,7 @@ static void nothing_at_all(void)
 
 static void texts(void)
 {
-    const char *words = "not enough bytes for Ipv6ExtHeader at offset 0: 8 needed, 0 there by Slice";
+    const char *words = "not enough bytes for the destination options header at offset 0: 8 needed, 0 there";
     struct wolfaren_chain chain;
     wolfaren_parse_chain(60, NULL, 0, NULL, 0, &chain);
     char text[WOLFAREN_TEXT_ROOM];
@@ -112,7 +112,10 @@ static void cursors_from_anywhere(void)
     cursor.offset = 8;
     cursor.number = WOLFAREN_HOP_BY_HOP;
     wolfaren_fault_at(&cursor, SIX, sizeof SIX, &fault);
-    check(fault.kind == WOLFAREN_HOP_BY_HOP_NOT_AT_START, "misplaced hop-by-hop options");
+    check(fault.kind == WOLFAREN_HOP_BY_HOP_NOT_AT_START && fault.offset == 8, "misplaced hop-by-hop options");
+    char text[WOLFAREN_TEXT_ROOM];
+    const char *words = "the hop-by-hop options header at offset 8 doesn't follow the IPv6 header directly";
+    check(wolfaren_fault_text(&fault, text, sizeof text) == strlen(words) && strcmp(text, words) == 0, "their text");
     cursor.number = WOLFAREN_DESTINATION_OPTIONS;
     check(wolfaren_next_header(&cursor, SIX, sizeof SIX, &header) && same_header(&header, &SPANS[1]), "a step");
     check(cursor.offset == 16 && cursor.number == WOLFAREN_ROUTING, "the cursor after a step");
@@ -202,6 +205,12 @@ static void names_of_codes(void)
 {
     static const char *const KINDS[] = {"", "TooShort", "HopByHopNotAtStart", "ZeroPayloadLen", "UnsupportedIpVersion",
                                         "Ipv4HeaderLength", ""};
+    static const char *const LAYERS[] = {"", "IpHeader", "Ipv4Header", "Ipv4Packet", "IpAuthHeader", "Ipv6Header", "Ipv6Packet",
+                                         "Ipv6ExtHeader", "Ipv6HopByHopHeader", "Ipv6DestOptionsHeader", "Ipv6RouteHeader",
+                                         "Ipv6FragHeader"};
+    static const char *const TEXTS[] = {"", "IP header", "IPv4 header", "IPv4 packet", "authentication header", "IPv6 header",
+                                        "IPv6 packet", "extension header", "hop-by-hop options header",
+                                        "destination options header", "routing header", "fragment header"};
     static const char *const SOURCES[] = {"", "Slice", "Ipv4HeaderTotalLen", "Ipv6HeaderPayloadLen", ""};
     static const struct {
         uint8_t number;
@@ -220,11 +229,11 @@ static void names_of_codes(void)
     check_name(wolfaren_layer_name(WOLFAREN_NO_LAYER), "");
     check_name(wolfaren_layer_name(200), "");
     for (uint8_t layer = 1; layer < 12; layer++) {
+        check_name(wolfaren_layer_name(layer), LAYERS[layer]);
         const struct wolfaren_fault fault = {.kind = WOLFAREN_TOO_SHORT, .layer = layer, .len_source = WOLFAREN_SLICE};
         char text[WOLFAREN_TEXT_ROOM], words[WOLFAREN_TEXT_ROOM];
         check(wolfaren_fault_text(&fault, text, sizeof text) > 0, "the text of a layer");
-        const char *name = wolfaren_layer_name(layer);
-        snprintf(words, sizeof words, "not enough bytes for %s at offset 0: 0 needed, 0 there by Slice", name);
+        snprintf(words, sizeof words, "not enough bytes for the %s at offset 0: 0 needed, 0 there", TEXTS[layer]);
         check_name(words, text);
     }
     for (size_t i = 0; i < sizeof NUMBERS / sizeof NUMBERS[0]; i++) {

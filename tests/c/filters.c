@@ -135,7 +135,7 @@ static void any_contents(void)
         for (size_t i = 0; i < sizeof filter; i++) ((uint8_t *)&filter)[i] = next_byte();
         for (size_t i = 0; i < WOLFAREN_FILTER_TESTS; i++) {
             struct wolfaren_filter_test *test = &filter.tests[i];
-            test->kind %= WOLFAREN_TEST_OPTION + 2;
+            test->kind %= WOLFAREN_TEST_LAYER + 2;
             if (round % 3 == 0) continue;
             test->if_met = (uint8_t)(i + test->if_met % 16);
             test->if_not = (uint8_t)(i + test->if_not % 16);
@@ -279,6 +279,9 @@ static void parsed_tests(void)
         {"segments-left > 3", WOLFAREN_TEST_SEGMENTS_LEFT, 3, 0},
         {"tcp-flags cwr,fin", WOLFAREN_TEST_TCP_FLAGS, 0x81, 0x81},
         {"tcp-flags syn/syn,ack", WOLFAREN_TEST_TCP_FLAGS, 2, 0x12},
+        {"truncated routing", WOLFAREN_TEST_LAYER, WOLFAREN_ROUTING_HEADER, 1 << WOLFAREN_FLAG_TRUNCATED},
+        {"fault zero-length authentication", WOLFAREN_TEST_LAYER, WOLFAREN_AUTHENTICATION_HEADER,
+         1 << WOLFAREN_FLAG_ZERO_PAYLOAD_LEN},
         {"host 192.0.2.1", WOLFAREN_TEST_EITHER, 0, 0xc0000201},
     };
     for (size_t i = 0; i < sizeof rows / sizeof *rows; i++) {

@@ -185,9 +185,8 @@ class Packets(Scratch):
         os.mkfifo(pipe)
         with contextlib.ExitStack() as files:
             def begin():
-                writer = files.enter_context(open(pipe, "wb", buffering=0))
-                writer.write(file_header() + record(ethernet(PACKETS[0])))
-                writers.append(writer)
+                writers.append(files.enter_context(open(pipe, "wb", buffering=0)))
+                writers[0].write(file_header() + record(ethernet(PACKETS[0])))
             writers = []
             threading.Thread(target=begin, daemon=True).start()
             found = packets(pipe)

@@ -137,14 +137,14 @@ class Json(unittest.TestCase):
 
     def test_versions(self):
         text = counted(PACKETS).to_json()
-        added = text.replace('"1.3"', '"1.7"')[:-1] + ',"new":{"a":1},"text":"b"}'
+        added = text.replace('"1.4"', '"1.7"')[:-1] + ',"new":{"a":1},"text":"b"}'
         self.assertEqual(Statistics.from_json(added), counted(PACKETS))
-        named = text.replace('"1.3"', '"1.3","file":"\\u00e9\\udcff"')
+        named = text.replace('"1.4"', '"1.4","file":"\\u00e9\\udcff"')
         self.assertEqual(Statistics.from_json(named), counted(PACKETS))
         for version in ["2.0", "0.9", "1", "x", ""]:
             with self.assertRaisesRegex(ValueError, "version"):
-                Statistics.from_json(text.replace("1.3", version))
-        first = text.replace('"1.3"', '"1.0"').replace('"other_protocols":{},', "").replace('"other_frames":0', '"other_frames":2')
+                Statistics.from_json(text.replace("1.4", version))
+        first = text.replace('"1.4"', '"1.0"').replace('"other_protocols":{},', "").replace('"other_frames":0', '"other_frames":2')
         self.assertEqual(Statistics.from_json(first).other_protocols, {"other": 2})
 
     def test_refused(self):
@@ -182,6 +182,27 @@ class Captures(unittest.TestCase):
         added.add_truncated_frame()
         self.assertEqual(found, added)
         self.assertEqual(found.to_json() + "\n", ipcap("stat", "--json", self.path))
+
+    def test_mismatched(self):
+        path = write(self.folder.name, "b.pcap", capture([ethernet(ipv6_chain([44]), (), 0x0800), *map(ethernet, PACKETS[:2])]))
+        found = statistics_of(path)
+        self.assertEqual((found.mismatched, found.packets), (1, 3))
+        self.assertEqual(found.to_json() + "\n", ipcap("stat", "--json", path))
+        added = counted([ipv6_chain([44]), *PACKETS[:2]])
+        self.assertNotEqual(found, added)
+        added.add_mismatched()
+        self.assertEqual(found, added)
+        self.assertEqual(Statistics.from_json(found.to_json()), found)
+        self.assertEqual((found + found).mismatched, 2)
+        self.assertEqual(ipcap("sum", "--json", text=found.to_json()), found.to_json() + "\n")
+        before = found.to_json().replace('"1.4"', '"1.3"').replace('"mismatched":1,', "")
+        self.assertEqual(Statistics.from_json(before).mismatched, 0)
+        for text, words in [(before.replace('"1.3"', '"1.4"'), '"mismatched" is not a count'),
+                            (found.to_json().replace('"mismatched":1', '"mismatched":4'), "add up")]:
+            with self.assertRaisesRegex(ValueError, words):
+                Statistics.from_json(text)
+        added.clear()
+        self.assertEqual(added, Statistics())
 
     def test_other_protocols(self):
         names = ["EtherType 0x88cc"] * 2 + ["PPP 0xc021", "other", "EtherType 0x0806", "NLPID 0x08", "LLC 0x42", "family 30",
@@ -412,6 +433,22 @@ class Plots(unittest.TestCase):
         self.assertEqual(faults.get_title(), "faults")
         with tempfile.TemporaryDirectory() as folder:
             figure.savefig(f"{folder}/a.png")
+
+    def test_notebook(self):
+        """A figure has the image that notebooks ask for, as does its copy, without a magic word or an import by the user."""
+        try:
+            import matplotlib
+        except ImportError:
+            self.skipTest("no matplotlib")
+        figure = counted(PACKETS).plot()
+        for shown in [figure, pickle.loads(pickle.dumps(figure))]:
+            self.assertEqual(shown._repr_png_()[:8], b"\x89PNG\r\n\x1a\n")
+        try:
+            from IPython.core.formatters import DisplayFormatter
+        except ImportError:
+            self.skipTest("no IPython")
+        (shown, _) = DisplayFormatter().format(figure)
+        self.assertEqual(shown["image/png"], figure._repr_png_())
 
     def test_without_matplotlib(self):
         with mock.patch.dict(sys.modules, {"matplotlib.figure": None, "matplotlib": None}):

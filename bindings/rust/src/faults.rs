@@ -159,53 +159,6 @@ impl Fault {
 
 #[cfg(all(test, not(miri)))]
 mod tests {
-    use crate::library::{self, fault_text, Cursor, Fault};
-    use std::string::ToString;
-    use std::vec;
-
-    /// Rejected packets, each for a different reason.
-    fn refused_packets() -> [vec::Vec<u8>; 8] {
-        let packet = |first, next_header, len| {
-            let mut bytes = vec![0; len];
-            (bytes[0], bytes[3], bytes[5]) = (first, len as u8, len as u8 - 40);
-            (bytes[6], bytes[9]) = (next_header, next_header);
-            bytes
-        };
-        [
-            vec![],
-            packet(0x50, 0, 40),
-            packet(0x44, 0, 40),
-            packet(0x4f, 0, 40),
-            packet(0x45, 51, 40),
-            packet(0x60, 44, 45),
-            packet(0x60, 60, 60),
-            packet(0x60, 51, 60),
-        ]
-    }
-
-    #[test]
-    fn errors_say_what_the_library_says() {
-        for bytes in refused_packets() {
-            let fault = library::parse_packet(&bytes).err().expect("it is refused");
-            let is_ipv4 = bytes.first().is_some_and(|byte| byte >> 4 == 4);
-            assert_eq!(fault.of_packet(is_ipv4).to_string(), fault_text(&fault));
-        }
-    }
-
-    #[test]
-    fn errors_of_chains_say_what_the_library_says() {
-        for number in [0, 43, 44, 51, 60] {
-            for len in [0, 7, 11, 12, 20] {
-                let bytes = vec![1; len];
-                let cursor = Cursor { offset: 0, number };
-                let fault: Fault = library::fault_at(&cursor, &bytes);
-                if !fault.is_none() {
-                    assert_eq!(fault.of_chain().to_string(), fault_text(&fault));
-                }
-            }
-        }
-    }
-
     /// Returns the value of a constant in the library's header.
     fn code(name: &str) -> u8 {
         let page = include_str!(env!("WOLFAREN_HEADER"));

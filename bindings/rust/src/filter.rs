@@ -41,9 +41,11 @@ impl Filter {
     /// | `icmp`, `tcp`, `udp`, `dccp`, `gre`, `esp`, `icmp6`, `no-next`, `sctp`, `udp-lite` | as `leads-to` with this name |
     /// | `fragment`, `first-fragment`, `later-fragment` | the packet is such a fragment, and not an atomic one |
     /// | `truncated` | a header is truncated |
+    /// | `truncated LAYER` | a header of this layer is truncated: `IP-header`, `IPv4-header`, `IPv4-packet`, `authentication`, `IPv6-header`, `IPv6-packet`, `IPv6-extension`, `hop-by-hop`, `destination-options`, `routing` or `fragment` |
     /// | `incomplete` | bytes of the stated length are missing |
     /// | `fault` | a header is faulty |
     /// | `fault KIND` | it is faulty like this: `too-short`, `not-at-start`, `zero-length`, `unsupported-version` or `header-length` |
+    /// | `fault KIND LAYER` | it is, and of this layer |
     /// | `headers OP N`, `chain-bytes OP N`, `payload OP N` | the number of extension headers, their length in bytes or the number of payload bytes compares so; `OP` is `=`, `!=`, `<`, `<=`, `>` or `>=` |
     /// | `length OP N` | the length that the IP header states compares so; false if it states none |
     /// | `hop-limit OP N`, `ttl OP N` | the hop limit, or IPv4's time to live, compares so |

@@ -1,6 +1,6 @@
 use crate::err::LenError;
 use crate::library::{self, Cursor};
-use crate::{ip_number, IpNumber};
+use crate::{ip_number, HeaderOptions, IpNumber, RoutingAddresses};
 
 /// Name of this type in earlier versions of the interface.
 #[deprecated(note = "use `Ipv6RawExtHeaderSlice`")]
@@ -83,5 +83,31 @@ impl<'a> Ipv6RawExtHeaderSlice<'a> {
     #[must_use]
     pub fn payload(&self) -> &'a [u8] {
         &self.slice[2..]
+    }
+
+    /// Returns the options of a hop-by-hop or destination options header.
+    #[inline]
+    pub fn options(&self) -> HeaderOptions<'a> {
+        HeaderOptions::new(self.slice)
+    }
+
+    /// Returns the type of a routing header.
+    #[inline]
+    #[must_use]
+    pub fn routing_type(&self) -> u8 {
+        self.slice[2]
+    }
+
+    /// Returns how many segments a routing header has left: the nodes that are still to be visited.
+    #[inline]
+    #[must_use]
+    pub fn segments_left(&self) -> u8 {
+        self.slice[3]
+    }
+
+    /// Returns the addresses of a routing header of type 2, 3 or 4; none of one with another type, or with fields that don't
+    /// fit its length.
+    pub fn addresses(&self) -> RoutingAddresses<'a> {
+        RoutingAddresses::new(self.slice)
     }
 }

@@ -84,7 +84,9 @@
 //! `err::ipv6_exts::HeaderLimitedReadError`, `err::ipv6_exts::HeaderWriteError`.
 //!
 //! Only here: `Dissection`, `BaseHeader`, `Fragment`, `FragmentKind`, `End`, `Filter`, `Statistics`, `FaultKind`,
-//! `PacketSpan`, `Ipv6ExtensionsBuilder`, `err::BuildError`, `err::FilterError`, `err::Expected`, `err::SpanError`.
+//! `HeaderOptions`, `HeaderOption`, `UnknownOption`, `RoutingAddresses`, `RoutingAddress`, `PacketSpan`, `Defragmenter`,
+//! `Added`, `Outcome`, `DropReason`, `Loss`, `Ipv6ExtensionsBuilder`, `err::BuildError`, `err::FilterError`,
+//! `err::Expected`, `err::SpanError`.
 //!
 //! The table has all names of etherparse's layer of extension headers. Of the layer below, that is IP headers, protocol
 //! numbers, `IpFragOffset`, `LenSource` and `Layer`, etherparse has more names than the table lists. The constants of
@@ -105,10 +107,13 @@ extern crate std;
 #[doc = include_str!("../README.md")]
 struct Readme;
 
+#[cfg(feature = "alloc")]
+mod defragmenter;
 mod dissection;
 pub mod err;
 mod faults;
 mod filter;
+mod header_options;
 mod ip_auth_header_slice;
 mod ip_frag_offset;
 pub mod ip_number;
@@ -135,10 +140,14 @@ mod packet_span;
 mod parse_packet;
 #[cfg(test)]
 mod plain_tests;
+mod routing_addresses;
 mod statistics;
 
+#[cfg(feature = "alloc")]
+pub use defragmenter::{Added, Defragmenter, DropReason, Loss, Outcome};
 pub use dissection::{BaseHeader, Dissection, End, Fragment, FragmentKind};
 pub use filter::Filter;
+pub use header_options::{HeaderOption, HeaderOptions, UnknownOption};
 #[allow(deprecated)]
 pub use ip_auth_header_slice::{IpAuthHeaderSlice, IpAuthenticationHeaderSlice};
 pub use ip_frag_offset::IpFragOffset;
@@ -162,4 +171,5 @@ pub use ipv6_raw_ext_header_slice::{Ipv6RawExtHeaderSlice, Ipv6RawExtensionHeade
 pub use ipv6_slice::Ipv6Slice;
 pub use len_source::LenSource;
 pub use packet_span::PacketSpan;
+pub use routing_addresses::{RoutingAddress, RoutingAddresses};
 pub use statistics::{FaultKind, Statistics};

@@ -5,6 +5,10 @@
 use crate::err::SpanError;
 use crate::{PacketSpan, Statistics};
 #[cfg(feature = "alloc")]
+use alloc::alloc::{alloc_zeroed, handle_alloc_error, Layout};
+#[cfg(feature = "alloc")]
+use alloc::boxed::Box;
+#[cfg(feature = "alloc")]
 use alloc::vec::Vec;
 use core::mem::{size_of, MaybeUninit};
 use core::{ptr, slice};
@@ -31,6 +35,62 @@ pub(crate) struct Header {
     pub len: usize,
     pub number: u8,
     pub next_header: u8,
+}
+
+/// `struct wolfaren_slot`: a slot of a defragmenter. All fields are numbers.
+#[cfg(feature = "alloc")]
+#[repr(C)]
+pub(crate) struct Slot {
+    since: u64,
+    source: [u8; 16],
+    destination: [u8; 16],
+    identification: u32,
+    protocol: u8,
+    version: u8,
+}
+
+/// `struct wolfaren_packet_memory`: the fragments of a packet. All fields are numbers.
+#[cfg(feature = "alloc")]
+#[repr(C)]
+pub(crate) struct PacketMemory {
+    head_len: usize,
+    link: usize,
+    first_here: u8,
+    next_header: u8,
+    reassembly: Reassembly,
+    head: [u8; 4096],
+    payload: [u8; 65536],
+}
+
+/// `struct wolfaren_reassembly`: what has arrived of a payload. All fields are numbers.
+#[cfg(feature = "alloc")]
+#[repr(C)]
+struct Reassembly {
+    reach: usize,
+    count: usize,
+    ended: u8,
+    abandoned: u8,
+    kept: u8,
+    marks: [u8; 8192],
+}
+
+/// `struct wolfaren_defragmenter_counts`: counts of packets by what became of them.
+#[cfg(feature = "alloc")]
+#[repr(C)]
+#[derive(Default)]
+pub(crate) struct DefragmenterCounts {
+    pub outcomes: [u64; 13],
+    pub losses: [u64; 3],
+}
+
+/// `struct wolfaren_added`: what became of a packet.
+#[cfg(feature = "alloc")]
+#[repr(C)]
+#[derive(Default)]
+pub(crate) struct Added {
+    pub slot: usize,
+    pub outcome: u8,
+    pub loss: u8,
 }
 
 /// `struct wolfaren_chain`: a chain of extension headers, and the error that ended it, if any.
@@ -83,6 +143,39 @@ pub(crate) struct Dissection {
 pub(crate) struct Cursor {
     pub offset: usize,
     pub number: u8,
+}
+
+/// `struct wolfaren_option_cursor`: a position among the options of a header, and the end of the header.
+#[repr(C)]
+#[derive(Clone, Copy, Debug)]
+pub(crate) struct OptionCursor {
+    pub offset: usize,
+    pub end: usize,
+}
+
+/// `struct wolfaren_option`: an option.
+#[repr(C)]
+#[derive(Clone, Copy, Debug)]
+pub(crate) struct HeaderOption {
+    pub offset: usize,
+    pub data_offset: usize,
+    pub data_len: usize,
+    pub option_type: u8,
+    pub if_unknown: u8,
+    pub may_change: u8,
+}
+
+/// `struct wolfaren_routing`: the fields of a routing header.
+#[repr(C)]
+#[derive(Clone, Copy, Debug)]
+pub(crate) struct Routing {
+    pub len: usize,
+    pub addresses: usize,
+    pub address_len: usize,
+    pub last_address_len: usize,
+    pub routing_type: u8,
+    pub segments_left: u8,
+    pub next_header: u8,
 }
 
 /// `WOLFAREN_FILTER_TESTS`: the greatest number of tests that a filter uses.
@@ -138,6 +231,9 @@ const _: () = {
     assert!(size_of::<Payload>() == 32);
     assert!(size_of::<Dissection>() == 104);
     assert!(size_of::<Cursor>() == 16);
+    assert!(size_of::<OptionCursor>() == 16);
+    assert!(size_of::<HeaderOption>() == 32);
+    assert!(size_of::<Routing>() == 40);
     assert!(size_of::<FilterTest>() == 32);
     assert!(size_of::<Filter>() == 2056);
     assert!(size_of::<FilterError>() == 16);
@@ -146,7 +242,7 @@ const _: () = {
 
 /// `WOLFAREN_ABI`: the checksum of the header that this file was written for (`scripts/abi` of the repository).
 #[cfg(all(test, not(miri)))]
-pub(crate) const ABI: u32 = 0x712e_e9db;
+pub(crate) const ABI: u32 = 0x3bb3_fe11;
 
 unsafe extern "C" {
     fn wolfaren_parse_chain(
@@ -222,6 +318,28 @@ unsafe extern "C" {
 
     fn wolfaren_filter_matches_other(filter: *const Filter) -> bool;
 
+    #[cfg(feature = "alloc")]
+    fn wolfaren_defragment(
+        slots: *mut Slot,
+        slot_count: usize,
+        memories: *mut PacketMemory,
+        memory_count: usize,
+        counts: *mut DefragmenterCounts,
+        factor: u32,
+        time: u64,
+        bytes: *const u8,
+        len: usize,
+        added: *mut Added,
+    ) -> bool;
+
+    #[cfg(feature = "alloc")]
+    fn wolfaren_write_whole_packet(
+        memory: *const PacketMemory,
+        out: *mut u8,
+        room: usize,
+        written: *mut usize,
+    ) -> bool;
+
     fn wolfaren_init_statistics(statistics: *mut Statistics);
 
     fn wolfaren_count_packet(statistics: *mut Statistics, bytes: *const u8, len: usize);
@@ -264,8 +382,14 @@ unsafe extern "C" {
         written: *mut usize,
     ) -> bool;
 
-    #[cfg(all(test, not(miri)))]
-    fn wolfaren_fault_text(fault: *const Fault, text: *mut u8, room: usize) -> usize;
+    fn wolfaren_next_option(
+        cursor: *mut OptionCursor,
+        bytes: *const u8,
+        len: usize,
+        option: *mut HeaderOption,
+    ) -> bool;
+
+    fn wolfaren_routing_fields(bytes: *const u8, len: usize, fields: *mut Routing) -> bool;
 
     fn wolfaren_find_number_name(number: u8, name: *mut Name);
 
@@ -678,14 +802,37 @@ pub(crate) fn append_headers(bytes: &[u8], headers: &[Header], out: &mut Vec<u8>
     is_written
 }
 
-/// Returns the library's text for a fault.
-#[cfg(all(test, not(miri)))]
-pub(crate) fn fault_text(fault: &Fault) -> std::string::String {
-    let mut text = [0; 256];
-    // SAFETY: the fault is borrowed, and the call only reads it. `text` is an array of that length and doesn't overlap
-    // the fault.
-    let len = unsafe { wolfaren_fault_text(fault, text.as_mut_ptr(), text.len()) };
-    std::string::String::from_utf8(text[..len].to_vec()).expect("the text is UTF-8")
+/// Returns the type and the data of the option at the cursor, and moves the cursor past it. Returns `None`, and leaves the
+/// cursor where it is, if no option there ends within the header.
+#[inline(always)]
+pub(crate) fn next_option<'a>(
+    cursor: &mut OptionCursor,
+    bytes: &'a [u8],
+) -> Option<(u8, &'a [u8])> {
+    let (start, len) = (bytes.as_ptr(), bytes.len());
+    let mut option = MaybeUninit::uninit();
+    // SAFETY: the cursor is borrowed exclusively. The bytes are a slice, which the call only reads. `option` has room for
+    // an option and doesn't overlap the other arguments.
+    if !unsafe { wolfaren_next_option(cursor, start, len, option.as_mut_ptr()) } {
+        return None;
+    }
+    // SAFETY: the call returned true, so it has written all fields of the option, whose data lies within the bytes.
+    unsafe {
+        let option: &HeaderOption = option.assume_init_ref();
+        let data = slice::from_raw_parts(start.add(option.data_offset), option.data_len);
+        Some((option.option_type, data))
+    }
+}
+
+/// Returns the fields of the routing header at the start of the bytes, if they have all of it.
+pub(crate) fn routing_fields(bytes: &[u8]) -> Option<Routing> {
+    let mut fields = MaybeUninit::uninit();
+    // SAFETY: the bytes are a slice, which the call only reads. `fields` has room for the fields and doesn't overlap the
+    // bytes, and the call writes all of them if it returns true.
+    unsafe {
+        let is_there = wolfaren_routing_fields(bytes.as_ptr(), bytes.len(), fields.as_mut_ptr());
+        is_there.then(|| fields.assume_init())
+    }
 }
 
 /// Returns the keyword that IANA has assigned to a protocol number, which is empty if there is none.
@@ -703,7 +850,10 @@ pub(crate) fn number_name(number: u8) -> &'static str {
 
 #[cfg(all(test, not(miri)))]
 mod tests {
-    use super::{Chain, Cursor, Dissection, Fault, Header, PacketSpan, Payload, Statistics};
+    use super::{
+        Chain, Cursor, Dissection, Fault, Header, HeaderOption, OptionCursor, PacketSpan, Payload,
+        Routing, Statistics,
+    };
     use core::mem::{offset_of, size_of};
     use std::vec::Vec;
 
@@ -782,7 +932,7 @@ mod tests {
     }
 
     #[test]
-    fn structs_are_those_of_the_header() {
+    fn structs_of_chains_are_those_of_the_header() {
         check!(
             Fault,
             "wolfaren_fault",
@@ -817,6 +967,32 @@ mod tests {
             len_source
         );
         check!(Cursor, "wolfaren_cursor", offset, number);
+        check!(OptionCursor, "wolfaren_option_cursor", offset, end);
+        check!(
+            HeaderOption,
+            "wolfaren_option",
+            offset,
+            data_offset,
+            data_len,
+            option_type,
+            if_unknown,
+            may_change
+        );
+        check!(
+            Routing,
+            "wolfaren_routing",
+            len,
+            addresses,
+            address_len,
+            last_address_len,
+            routing_type,
+            segments_left,
+            next_header
+        );
+    }
+
+    #[test]
+    fn structs_of_packets_are_those_of_the_header() {
         check!(
             Dissection,
             "wolfaren_dissection",
@@ -866,4 +1042,75 @@ mod tests {
             faults
         );
     }
+}
+
+/// A struct of numbers, so that zeros are a value of it.
+#[cfg(feature = "alloc")]
+pub(crate) trait Numbers {}
+
+#[cfg(feature = "alloc")]
+impl Numbers for Slot {}
+
+#[cfg(feature = "alloc")]
+impl Numbers for PacketMemory {}
+
+/// Returns an array of zeros on the heap, of which nothing is written here.
+#[cfg(feature = "alloc")]
+pub(crate) fn zeroed<T: Numbers>(count: usize) -> Box<[T]> {
+    let Ok(layout) = Layout::array::<T>(count) else {
+        panic!("capacity overflow");
+    };
+    if layout.size() == 0 {
+        return Box::new([]);
+    }
+    // SAFETY: the layout isn't empty. The memory is for `count` values of `T`, of which zeros are one, and is freed with the
+    // same layout when the box is dropped.
+    unsafe {
+        let first: *mut T = alloc_zeroed(layout).cast();
+        if first.is_null() {
+            handle_alloc_error(layout);
+        }
+        Box::from_raw(ptr::slice_from_raw_parts_mut(first, count))
+    }
+}
+
+/// Adds the packet at the start of the bytes. There are as many memories as slots.
+#[cfg(feature = "alloc")]
+pub(crate) fn defragment(
+    slots: &mut [Slot],
+    memories: &mut [PacketMemory],
+    counts: &mut DefragmenterCounts,
+    factor: u32,
+    time: u64,
+    bytes: &[u8],
+) -> Added {
+    let mut added = Added::default();
+    // SAFETY: slots, memories and counts are borrowed exclusively. The bytes are a slice, which the call only reads.
+    let are_as_many = unsafe {
+        wolfaren_defragment(
+            slots.as_mut_ptr(),
+            slots.len(),
+            memories.as_mut_ptr(),
+            memories.len(),
+            counts,
+            factor,
+            time,
+            bytes.as_ptr(),
+            bytes.len(),
+            &raw mut added,
+        )
+    };
+    debug_assert!(are_as_many);
+    added
+}
+
+/// Writes the whole packet of a memory to the start of `out`, if there is one and it fits, and returns its length.
+#[cfg(feature = "alloc")]
+pub(crate) fn write_whole_packet(memory: &PacketMemory, out: &mut [u8]) -> Option<usize> {
+    let mut written = 0;
+    // SAFETY: the memory is borrowed, and the call only reads it. `out` is borrowed exclusively.
+    let is_written = unsafe {
+        wolfaren_write_whole_packet(memory, out.as_mut_ptr(), out.len(), &raw mut written)
+    };
+    is_written.then_some(written)
 }

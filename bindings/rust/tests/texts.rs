@@ -20,8 +20,8 @@ fn table() -> BTreeMap<(String, String), String> {
     let page = include_str!("../../../docs/errors.md");
     let rows = page
         .lines()
-        .skip_while(|line| *line != "## Texts and sources")
-        .skip(4);
+        .skip_while(|line| *line != "| Error | Variant | Text |")
+        .skip(2);
     rows.take_while(|line| line.starts_with('|'))
         .flat_map(|line| {
             let cells: Vec<&str> = line.split('|').map(str::trim).collect();

@@ -58,6 +58,26 @@ impl<'a> Batch<'a> {
         let span = self.spans[index];
         &self.buffer[span.offset..span.offset + span.len]
     }
+
+    /// Returns whether the packet at this index, if there is one, begins as one of IPv6. Loops ask this one packet ahead and
+    /// choose a place by it, one of two with the same code: a processor that predicts the version wrongly then needn't wait
+    /// for the packet's bytes to find that out.
+    #[inline(always)]
+    pub(crate) fn begins_as_ipv6(&self, index: usize) -> bool {
+        if index < self.spans.len() {
+            return begins_as_ipv6(self.packet(index));
+        }
+        false
+    }
+}
+
+/// Returns whether the bytes begin as a packet of IPv6.
+#[inline(always)]
+fn begins_as_ipv6(bytes: &[u8]) -> bool {
+    match bytes {
+        [first, ..] => *first >= 0x60,
+        [] => false,
+    }
 }
 
 /// Returns the index of the first span that ends after the buffer.

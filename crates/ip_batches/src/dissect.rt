@@ -19,27 +19,42 @@ impl Batch<'_> {
             (parts_of (packets_at self.now.buffer.now self.now.spans.now)) parts.old }
     {
         let count = self.spans.len().min(parts.len());
+        let mut next = self.begins_as_ipv6(0);
         'packets: for index in 0..count {
-            put_parts(self.packet(index), &mut parts[index]);
+            let begins_as_ipv6 = next;
+            next = self.begins_as_ipv6(index + 1);
+            put_either(self.packet(index), begins_as_ipv6, &mut parts[index]);
         }
+    }
+}
+
+/// Stores the parts of the packet at the start of `bytes`, in one of two places.
+#[inline(always)]
+fn put_either(bytes: &[u8], begins_as_ipv6: bool, parts: &mut DissectionParts)
+    ensures { parts.new ≡ dissection_parts (dissected bytes.now) }
+{
+    if begins_as_ipv6 {
+        put_parts::<true>(bytes, parts);
+    } else {
+        put_parts::<false>(bytes, parts);
     }
 }
 
 /// Stores the parts of the packet at the start of `bytes`.
 #[inline(always)]
-fn put_parts(bytes: &[u8], parts: &mut DissectionParts)
+fn put_parts<const IPV6: bool>(bytes: &[u8], parts: &mut DissectionParts)
     ensures { parts.new ≡ dissection_parts (dissected bytes.now) }
 {
-    let _ = Packet::visit(bytes, &mut Dissecting { parts });
+    let _ = Packet::visit(bytes, &mut Dissecting::<IPV6> { parts });
 }
 
 /// A visitor that stores the parts of packets, and no positions of extension headers.
 #[derive(Debug, Drop)]
-struct Dissecting<'p> {
+struct Dissecting<'p, const IPV6: bool> {
     parts: &'p mut DissectionParts,
 }
 
-impl<'a> PacketVisitor<'a> for Dissecting<'_> {
+impl<'a, const IPV6: bool> PacketVisitor<'a> for Dissecting<'_, IPV6> {
     type Plain = ();
 
     type Slow = ();

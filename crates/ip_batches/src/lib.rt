@@ -5,5 +5,6 @@ mod batch;
 mod count;
 mod dissect;
 mod matches;
+mod plain;
 
 pub use batch::{Batch, PacketSpan};

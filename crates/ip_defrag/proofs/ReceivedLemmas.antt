@@ -10,14 +10,13 @@ use Rattle.std.proofs.lemmas.Bool.Decides.{same_from_decides}
 use Rattle.std.proofs.lemmas.List.Edits.{get_or-between, length-between}
 use Rattle.ip_defrag.specs.declared.err.AddError.{AddError}
 use Rattle.ip_defrag.specs.declared.err.AddError.TheVariants.{Unaligned, TooLong, Overlap, TwoEnds, Abandoned}
-use Rattle.ip_defrag.specs.declared.reassembly.Reassembly.{Reassembly}
 use Rattle.ip_defrag.specs.Payload.{payload_of}
 use Rattle.ip_defrag.specs.Refusal.{refusal}
 use Rattle.std.specs.Prelude.{Ok, Err}
 use Rattle.std.proofs.lemmas.List.{get_or-replicate, get_or_past, length-replicate}
 use Rattle.ip_defrag.specs.Refusal.{is_conflict}
 use Rattle.ip_defrag.specs.Received.{Received, received_nothing, with_fragment, progress_of, outcome_by, outcome_of, received_by, received_after}
-use Rattle.ip_defrag.specs.Reassembly.{HasReceived, IsNew}
+use Rattle.ip_defrag.specs.Reassembly.{Fields, AreReceived, IsNew}
 use Rattle.ip_defrag.proofs.FragmentLemmas.{same_among, whole_units, in_bounds, is_in_bounds, out_of_bounds, overlaps_at}
 use Rattle.ip_defrag.proofs.MemberLemmas.{any_from_member, member_sound, member_within, member_ended, member_last, ends_elsewhere, two_ends_from, one_end_from, member_one_end}
 use Rattle.ip_defrag.proofs.MarkLemmas.{HasShape, first_mark_in, later_mark_in, mark_at_in, mark_at_out, none_overlaps, unmarked, IsMarked, has_shape, member_marks, member_mark_ends, unmarked_after}
@@ -52,11 +51,11 @@ not_refused s f n = elim (cases_Bool (list_any (is_same f) s.fragments)) [
 ]
 
 -- Units are free exactly if the fragment overlaps no other.
-pub free_units : (r : Reassembly) (s : Received) (first next : ℕ) (more : Bool) (bytes : List ℕ) → HasReceived r s → next ≡ (8 * first + length bytes) / 8 + min 1 ((8 * first + length bytes) % 8) → ((i : ℕ) → first ≤ i → i < next → get_or r.marks i 0 ≡ 0) → list_any (overlaps (fragment_at first more bytes)) s.fragments ≡ false
+pub free_units : (r : Fields) (s : Received) (first next : ℕ) (more : Bool) (bytes : List ℕ) → AreReceived r s → next ≡ (8 * first + length bytes) / 8 + min 1 ((8 * first + length bytes) % 8) → ((i : ℕ) → first ≤ i → i < next → get_or r.marks i 0 ≡ 0) → list_any (overlaps (fragment_at first more bytes)) s.fragments ≡ false
 free_units r s first next more bytes h n free =
     none_overlaps s.limit s.fragments (fragment_at first more bytes) h.consistent (omega arith) (λ i low high. sym (h.marks i) ∙ free i (omega (arith, low)) (omega (arith, high, n)))
 
-pub occupied_units : (r : Reassembly) (s : Received) (first next : ℕ) (more : Bool) (bytes : List ℕ) → HasReceived r s → next ≡ (8 * first + length bytes) / 8 + min 1 ((8 * first + length bytes) % 8) → (((i : ℕ) → first ≤ i → i < next → get_or r.marks i 0 ≡ 0) → ⊥) → list_any (overlaps (fragment_at first more bytes)) s.fragments ≡ true
+pub occupied_units : (r : Fields) (s : Received) (first next : ℕ) (more : Bool) (bytes : List ℕ) → AreReceived r s → next ≡ (8 * first + length bytes) / 8 + min 1 ((8 * first + length bytes) % 8) → (((i : ℕ) → first ≤ i → i < next → get_or r.marks i 0 ≡ 0) → ⊥) → list_any (overlaps (fragment_at first more bytes)) s.fragments ≡ true
 occupied_units r s first next more bytes h n occupied = true_from_ne_false (list_any (overlaps (fragment_at first more bytes)) s.fragments) (λ none.
     occupied (λ i low high. h.marks i ∙ unmarked s.fragments (fragment_at first more bytes) i none (omega (arith, low)) (omega (arith, high, n))))
 
@@ -65,7 +64,7 @@ pub same_overlaps : (fs : List Fragment) (f : Fragment) → list_any (is_same f)
 same_overlaps fs f among positive = any_from_member (overlaps f) fs f among (overlaps_at f f f.offset (omega arith) (omega (arith, positive)) (omega arith) (omega (arith, positive)))
 
 -- A fragment that is there has the units of one fragment.
-pub repeated_units : (r : Reassembly) (s : Received) (first next : ℕ) (more : Bool) (bytes : List ℕ) → HasReceived r s → IsSound s.limit (fragment_at first more bytes) → 0 < length bytes → next ≡ (8 * first + length bytes) / 8 + min 1 ((8 * first + length bytes) % 8) → ((get_or r.marks first 0 ≡ first_mark more) × ((i : ℕ) → first + 1 ≤ i → i < next → get_or r.marks i 0 ≡ 3) × (get_or r.marks next 0 ≡ 3 → ⊥) → ⊥) → list_any (is_same (fragment_at first more bytes)) s.fragments ≡ false
+pub repeated_units : (r : Fields) (s : Received) (first next : ℕ) (more : Bool) (bytes : List ℕ) → AreReceived r s → IsSound s.limit (fragment_at first more bytes) → 0 < length bytes → next ≡ (8 * first + length bytes) / 8 + min 1 ((8 * first + length bytes) % 8) → ((get_or r.marks first 0 ≡ first_mark more) × ((i : ℕ) → first + 1 ≤ i → i < next → get_or r.marks i 0 ≡ 3) × (get_or r.marks next 0 ≡ 3 → ⊥) → ⊥) → list_any (is_same (fragment_at first more bytes)) s.fragments ≡ false
 repeated_units r s first next more bytes h sound positive n other = false_from_ne_true (list_any (is_same (fragment_at first more bytes)) s.fragments) (λ among.
     let f : Fragment = fragment_at first more bytes in
     other (
@@ -75,24 +74,24 @@ repeated_units r s first next more bytes h sound positive n other = false_from_n
           (subst (λ (k : ℕ). mark_at s.fragments k ≡ 3) (let at : next ≡ (end_of f + 7) / 8 = omega (arith, n) in at) (sym (h.marks next) ∙ e))),
     ))
 
-pub repeated_end : (r : Reassembly) (s : Received) (f : Fragment) → HasReceived r s → f.more ≡ false → (end_of f ≡ r.reach → ⊥) → list_any (is_same f) s.fragments ≡ false
+pub repeated_end : (r : Fields) (s : Received) (f : Fragment) → AreReceived r s → f.more ≡ false → (end_of f ≡ r.reach → ⊥) → list_any (is_same f) s.fragments ≡ false
 repeated_end r s f h last other = false_from_ne_true (list_any (is_same f) s.fragments) (λ among.
     other (sym (member_last s.limit s.fragments f h.consistent among last) ∙ sym h.reach))
 
 -- The buffer has the bytes of a fragment that is there.
-pub member_slice : (r : Reassembly) (s : Received) (f : Fragment) → HasReceived r s → list_any (is_same f) s.fragments ≡ true → slice_range r.buffer.now f.offset (end_of f) ≡ f.bytes
+pub member_slice : (r : Fields) (s : Received) (f : Fragment) → AreReceived r s → list_any (is_same f) s.fragments ≡ true → slice_range r.buffer f.offset (end_of f) ≡ f.bytes
 member_slice r s f h among =
     let sound = member_sound s.limit s.fragments f h.consistent among in
-    let len : length (slice_range r.buffer.now f.offset (end_of f)) ≡ length f.bytes = omega (arith, length-between {X = ℕ} r.buffer.now f.offset (end_of f), sound.within, h.limit) in
-    ext_get_or 0 (slice_range r.buffer.now f.offset (end_of f)) f.bytes len (λ k less.
+    let len : length (slice_range r.buffer f.offset (end_of f)) ≡ length f.bytes = omega (arith, length-between {X = ℕ} r.buffer f.offset (end_of f), sound.within, h.limit) in
+    ext_get_or 0 (slice_range r.buffer f.offset (end_of f)) f.bytes len (λ k less.
     let inside : is_in f (f.offset + k) ≡ true = is_in_bounds f (f.offset + k) (omega arith) (omega (arith, less, len)) in
     let at : f.offset + k - f.offset ≡ k = omega arith in
-    get_or-between r.buffer.now f.offset (end_of f) k 0 (omega (arith, less, len))
+    get_or-between r.buffer f.offset (end_of f) k 0 (omega (arith, less, len))
     ∙ (h.bytes (f.offset + k) (get_or f.bytes (f.offset + k - f.offset) 0) (member_byte s.limit s.fragments f (f.offset + k) h.consistent among inside)
     ∙ ap (λ (i : ℕ). get_or f.bytes i 0) at))
 
 -- The marks of a fragment's units are those of one that is there.
-units_marked : (r : Reassembly) (s : Received) (first next : ℕ) (more : Bool) (bytes : List ℕ) → HasReceived r s → next ≡ (8 * first + length bytes) / 8 + min 1 ((8 * first + length bytes) % 8) → (get_or r.marks first 0 ≡ first_mark more) × ((i : ℕ) → first + 1 ≤ i → i < next → get_or r.marks i 0 ≡ 3) × (get_or r.marks next 0 ≡ 3 → ⊥) → IsMarked s.fragments (fragment_at first more bytes)
+units_marked : (r : Fields) (s : Received) (first next : ℕ) (more : Bool) (bytes : List ℕ) → AreReceived r s → next ≡ (8 * first + length bytes) / 8 + min 1 ((8 * first + length bytes) % 8) → (get_or r.marks first 0 ≡ first_mark more) × ((i : ℕ) → first + 1 ≤ i → i < next → get_or r.marks i 0 ≡ 3) × (get_or r.marks next 0 ≡ 3 → ⊥) → IsMarked s.fragments (fragment_at first more bytes)
 units_marked r s first next more bytes h n units =
     let f : Fragment = fragment_at first more bytes in
     record {
@@ -104,41 +103,41 @@ units_marked r s first next more bytes h n units =
     }
 
 -- A fragment of the shape of f that ends where f should has the end of f.
-same_end : (r : Reassembly) (s : Received) (f g : Fragment) → HasReceived r s → is_unaligned f ≡ false → list_any (is_same g) s.fragments ≡ true → g.offset ≡ f.offset → g.more ≡ f.more → (end_of g + 7) / 8 ≡ (end_of f + 7) / 8 → (f.more ≡ false → end_of f ≡ r.reach) → end_of g ≡ end_of f
+same_end : (r : Fields) (s : Received) (f g : Fragment) → AreReceived r s → is_unaligned f ≡ false → list_any (is_same g) s.fragments ≡ true → g.offset ≡ f.offset → g.more ≡ f.more → (end_of g + 7) / 8 ≡ (end_of f + 7) / 8 → (f.more ≡ false → end_of f ≡ r.reach) → end_of g ≡ end_of f
 same_end r s f g h aligned among offset flag units ends = elim (cases_Bool f.more) [
   | inl follow ↦ omega (arith, units, offset, whole_units g (member_sound s.limit s.fragments g h.consistent among).aligned (flag ∙ follow), whole_units f aligned follow)
   | inr last ↦ sym (member_last s.limit s.fragments g h.consistent among (flag ∙ last)) ∙ (sym h.reach ∙ sym (ends last))
 ]
 
 -- A fragment with the offset, the flag and the end of one that is there repeats it exactly if the buffer has its bytes.
-same_bytes : (r : Reassembly) (s : Received) (f g : Fragment) → HasReceived r s → list_any (is_same g) s.fragments ≡ true → g.offset ≡ f.offset → g.more ≡ f.more → end_of g ≡ end_of f → bytes_eq (slice_range r.buffer.now f.offset (end_of f)) f.bytes ≡ list_any (is_same f) s.fragments
+same_bytes : (r : Fields) (s : Received) (f g : Fragment) → AreReceived r s → list_any (is_same g) s.fragments ≡ true → g.offset ≡ f.offset → g.more ≡ f.more → end_of g ≡ end_of f → bytes_eq (slice_range r.buffer f.offset (end_of f)) f.bytes ≡ list_any (is_same f) s.fragments
 same_bytes r s f g h among offset flag end =
-    let stored : slice_range r.buffer.now f.offset (end_of f) ≡ g.bytes =
-    ap (λ (i : ℕ). slice_range r.buffer.now i (end_of f)) (sym offset) ∙ (ap (slice_range r.buffer.now g.offset) (sym end) ∙ member_slice r s g h among) in
-    same_from_decides (bytes_eq (slice_range r.buffer.now f.offset (end_of f)) f.bytes) (list_any (is_same f) s.fragments)
-    (bytes_eq-Decides (slice_range r.buffer.now f.offset (end_of f)) f.bytes)
+    let stored : slice_range r.buffer f.offset (end_of f) ≡ g.bytes =
+    ap (λ (i : ℕ). slice_range r.buffer i (end_of f)) (sym offset) ∙ (ap (slice_range r.buffer g.offset) (sym end) ∙ member_slice r s g h among) in
+    same_from_decides (bytes_eq (slice_range r.buffer f.offset (end_of f)) f.bytes) (list_any (is_same f) s.fragments)
+    (bytes_eq-Decides (slice_range r.buffer f.offset (end_of f)) f.bytes)
     ((λ there. member_slice r s f h there), λ same. same_among s.fragments g f among offset flag (sym stored ∙ same))
 
-pub repeated_bytes : (r : Reassembly) (s : Received) (first next : ℕ) (more : Bool) (bytes : List ℕ) → HasReceived r s → IsSound s.limit (fragment_at first more bytes) → 0 < length bytes → next ≡ (8 * first + length bytes) / 8 + min 1 ((8 * first + length bytes) % 8) → (get_or r.marks first 0 ≡ first_mark more) × ((i : ℕ) → first + 1 ≤ i → i < next → get_or r.marks i 0 ≡ 3) × (get_or r.marks next 0 ≡ 3 → ⊥) → (more ≡ false → 8 * first + length bytes ≡ r.reach) → bytes_eq (slice_range r.buffer.now (8 * first) (8 * first + length bytes)) bytes ≡ list_any (is_same (fragment_at first more bytes)) s.fragments
+pub repeated_bytes : (r : Fields) (s : Received) (first next : ℕ) (more : Bool) (bytes : List ℕ) → AreReceived r s → IsSound s.limit (fragment_at first more bytes) → 0 < length bytes → next ≡ (8 * first + length bytes) / 8 + min 1 ((8 * first + length bytes) % 8) → (get_or r.marks first 0 ≡ first_mark more) × ((i : ℕ) → first + 1 ≤ i → i < next → get_or r.marks i 0 ≡ 3) × (get_or r.marks next 0 ≡ 3 → ⊥) → (more ≡ false → 8 * first + length bytes ≡ r.reach) → bytes_eq (slice_range r.buffer (8 * first) (8 * first + length bytes)) bytes ≡ list_any (is_same (fragment_at first more bytes)) s.fragments
 repeated_bytes r s first next more bytes h sound positive n units ends =
     with_shape (has_shape s.limit s.fragments (fragment_at first more bytes) first refl h.consistent positive (units_marked r s first next more bytes h n units)) where
-      with_shape : HasShape s.fragments (fragment_at first more bytes) → bytes_eq (slice_range r.buffer.now (8 * first) (8 * first + length bytes)) bytes ≡ list_any (is_same (fragment_at first more bytes)) s.fragments
+      with_shape : HasShape s.fragments (fragment_at first more bytes) → bytes_eq (slice_range r.buffer (8 * first) (8 * first + length bytes)) bytes ≡ list_any (is_same (fragment_at first more bytes)) s.fragments
       with_shape shape = same_bytes r s (fragment_at first more bytes) shape.other h shape.among shape.offset shape.more
           (same_end r s (fragment_at first more bytes) shape.other h sound.aligned shape.among shape.offset shape.more shape.units ends)
 
 -- The first bytes of the payload, if they are there, are those of the buffer.
-bytes_in_buffer : (r : Reassembly) (s : Received) (n : ℕ) (o : Option (List ℕ)) → HasReceived r s → n ≤ length r.buffer.now → first_bytes s.fragments n ≡ o → is_some o ≡ true → first_bytes s.fragments n ≡ Some (take n r.buffer.now)
+bytes_in_buffer : (r : Fields) (s : Received) (n : ℕ) (o : Option (List ℕ)) → AreReceived r s → n ≤ length r.buffer → first_bytes s.fragments n ≡ o → is_some o ≡ true → first_bytes s.fragments n ≡ Some (take n r.buffer)
 bytes_in_buffer r s n None h l e some = absurd (both_ways false refl some)
 bytes_in_buffer r s n (Some t) h l e some =
     let each = first_bytes_each s.fragments n t e in
-    first_bytes_are s.fragments r.buffer.now n l (λ i less. each.1 i less ∙ ap Some (sym (h.bytes i (get_or t i 0) (each.1 i less))))
+    first_bytes_are s.fragments r.buffer n l (λ i less. each.1 i less ∙ ap Some (sym (h.bytes i (get_or t i 0) (each.1 i less))))
 
-pub whole_in_buffer : (r : Reassembly) (s : Received) → HasReceived r s → r.is_ended ≡ true → r.count ≡ r.reach → (r.reach ≤ length r.buffer.now) × (payload_of s.fragments ≡ Some (take r.reach r.buffer.now))
+pub whole_in_buffer : (r : Fields) (s : Received) → AreReceived r s → r.is_ended ≡ true → r.count ≡ r.reach → (r.reach ≤ length r.buffer) × (payload_of s.fragments ≡ Some (take r.reach r.buffer))
 whole_in_buffer r s h ended all =
     let fs_ended : is_ended s.fragments ≡ true = sym h.ended ∙ ended in
     let fs_all : count_of s.fragments ≡ reach_of s.fragments = sym h.count ∙ (all ∙ h.reach) in
     let there : present s.fragments (reach_of s.fragments) ≡ reach_of s.fragments = present_all s.limit s.fragments (reach_of s.fragments) h.consistent (omega arith) ∙ fs_all in
-    let within : r.reach ≤ length r.buffer.now = omega (arith, h.reach, h.limit, reach_most s.limit s.fragments h.consistent) in (
+    let within : r.reach ≤ length r.buffer = omega (arith, h.reach, h.limit, reach_most s.limit s.fragments h.consistent) in (
       within,
       payload_is s.limit s.fragments h.consistent fs_ended
           ∙ (ap (first_bytes s.fragments) (sym h.reach)
@@ -146,17 +145,17 @@ whole_in_buffer r s h ended all =
           (ap (λ (n : ℕ). is_some (first_bytes s.fragments n)) h.reach ∙ first_bytes_there s.fragments (reach_of s.fragments) there)),
     )
 
-pub not_whole : (r : Reassembly) (s : Received) → HasReceived r s → (r.is_ended ≡ true → r.count ≡ r.reach → ⊥) → payload_of s.fragments ≡ None
+pub not_whole : (r : Fields) (s : Received) → AreReceived r s → (r.is_ended ≡ true → r.count ≡ r.reach → ⊥) → payload_of s.fragments ≡ None
 not_whole r s h less = elim (cases_Bool (is_ended s.fragments)) [
   | inr none ↦ payload_without_end s.fragments none
   | inl ended ↦ payload_with_hole s.limit s.fragments h.consistent ended (λ all. less (h.ended ∙ ended) (h.count ∙ (all ∙ sym h.reach)))
 ]
 
 -- The fields after a fragment was stored.
-pub record IsStored (r q : Reassembly) (first next : ℕ) (more : Bool) (bytes : List ℕ) : Type 0 where
+pub record IsStored (r q : Fields) (first next : ℕ) (more : Bool) (bytes : List ℕ) : Type 0 where
   pub next_unit : next ≡ (8 * first + length bytes) / 8 + min 1 ((8 * first + length bytes) % 8)
-  pub buffer : (i : ℕ) → get_or q.buffer.now i 0 ≡ cond (leb (8 * first) i && ltb i (8 * first + length bytes)) (get_or bytes (i - 8 * first) 0) (get_or r.buffer.now i 0)
-  pub room : length q.buffer.now ≡ length r.buffer.now
+  pub buffer : (i : ℕ) → get_or q.buffer i 0 ≡ cond (leb (8 * first) i && ltb i (8 * first + length bytes)) (get_or bytes (i - 8 * first) 0) (get_or r.buffer i 0)
+  pub room : length q.buffer ≡ length r.buffer
   pub marks : (i : ℕ) → get_or q.marks i 0 ≡ cond (leb first i && ltb i next) (cond (eqb i first) (first_mark more) 3) (get_or r.marks i 0)
   pub reach : q.reach ≡ max r.reach (8 * first + length bytes)
   pub count : r.count + length bytes ≤ 65535 → q.count ≡ r.count + length bytes
@@ -175,7 +174,7 @@ units_in first next more bytes i n = elim (cases_Bool (is_in (fragment_at first 
   ]
 ]
 
-stored_marks : (r q : Reassembly) (s : Received) (first next : ℕ) (more : Bool) (bytes : List ℕ) (i : ℕ) → HasReceived r s → IsStored r q first next more bytes → get_or q.marks i 0 ≡ mark_at (fragment_at first more bytes ∷ s.fragments) i
+stored_marks : (r q : Fields) (s : Received) (first next : ℕ) (more : Bool) (bytes : List ℕ) (i : ℕ) → AreReceived r s → IsStored r q first next more bytes → get_or q.marks i 0 ≡ mark_at (fragment_at first more bytes ∷ s.fragments) i
 stored_marks r q s first next more bytes i h k =
     let f : Fragment = fragment_at first more bytes in
     k.marks i ∙ elim (cases_Bool (is_in f (8 * i))) [
@@ -189,17 +188,17 @@ stored_marks r q s first next more bytes i h k =
           ∙ (h.marks i ∙ sym (mark_at_out f s.fragments i outside))
     ]
 
-stored_bytes : (r q : Reassembly) (s : Received) (first next : ℕ) (more : Bool) (bytes : List ℕ) (i byte : ℕ) → HasReceived r s → IsStored r q first next more bytes → byte_at (fragment_at first more bytes ∷ s.fragments) i ≡ Some byte → get_or q.buffer.now i 0 ≡ byte
+stored_bytes : (r q : Fields) (s : Received) (first next : ℕ) (more : Bool) (bytes : List ℕ) (i byte : ℕ) → AreReceived r s → IsStored r q first next more bytes → byte_at (fragment_at first more bytes ∷ s.fragments) i ≡ Some byte → get_or q.buffer i 0 ≡ byte
 stored_bytes r q s first next more bytes i byte h k e =
     let f : Fragment = fragment_at first more bytes in
     k.buffer i ∙ elim (cases_Bool (is_in f i)) [
-      | inl inside ↦ cond-true (is_in f i) (get_or bytes (i - 8 * first) 0) (get_or r.buffer.now i 0) inside
+      | inl inside ↦ cond-true (is_in f i) (get_or bytes (i - 8 * first) 0) (get_or r.buffer i 0) inside
           ∙ same_Some (get_or bytes (i - 8 * first) 0) byte (sym (own_byte f i inside) ∙ (sym (byte_at_in f s.fragments i inside) ∙ e))
-      | inr outside ↦ cond-false (is_in f i) (get_or bytes (i - 8 * first) 0) (get_or r.buffer.now i 0) outside
+      | inr outside ↦ cond-false (is_in f i) (get_or bytes (i - 8 * first) 0) (get_or r.buffer i 0) outside
           ∙ h.bytes i byte (sym (byte_at_out f s.fragments i outside) ∙ e)
     ]
 
-stored : (r q : Reassembly) (s : Received) (first next : ℕ) (more : Bool) (bytes : List ℕ) → HasReceived r s → IsNew s (fragment_at first more bytes) → IsStored r q first next more bytes → HasReceived q (record s { fragments = fragment_at first more bytes ∷ s.fragments })
+stored : (r q : Fields) (s : Received) (first next : ℕ) (more : Bool) (bytes : List ℕ) → AreReceived r s → IsNew s (fragment_at first more bytes) → IsStored r q first next more bytes → AreReceived q (record s { fragments = fragment_at first more bytes ∷ s.fragments })
 stored r q s first next more bytes h n k =
     let f : Fragment = fragment_at first more bytes in
     let consistent : AreConsistent s.limit (f ∷ s.fragments) = (n.sound, n.apart, n.one_end, h.consistent) in
@@ -221,7 +220,7 @@ or_left_false true y e = absurd (both_ways true e refl)
 or_left_false false y e = refl
 
 -- A fragment without bytes that is there already adds nothing.
-stored_again : (q : Reassembly) (s : Received) (f : Fragment) → HasReceived q (record s { fragments = f ∷ s.fragments }) → length f.bytes ≡ 0 → list_any (is_same f) s.fragments ≡ true → HasReceived q s
+stored_again : (q : Fields) (s : Received) (f : Fragment) → AreReceived q (record s { fragments = f ∷ s.fragments }) → length f.bytes ≡ 0 → list_any (is_same f) s.fragments ≡ true → AreReceived q s
 stored_again q s f h none among =
     let nowhere : (i : ℕ) → is_in f i ≡ false = (λ i. false_from_ne_true (is_in f i) (λ e. let b = in_bounds f i e in omega (arith, b.0, b.1, none))) in
     record {
@@ -239,13 +238,13 @@ stored_again q s f h none among =
       count = omega (arith, h.count, none);
     }
 
-pub kept : (r q : Reassembly) (s : Received) (first next : ℕ) (more : Bool) (bytes : List ℕ) → HasReceived r s → IsNew s (fragment_at first more bytes) → IsStored r q first next more bytes → HasReceived q (record s { fragments = with_fragment s.fragments (fragment_at first more bytes) })
+pub kept : (r q : Fields) (s : Received) (first next : ℕ) (more : Bool) (bytes : List ℕ) → AreReceived r s → IsNew s (fragment_at first more bytes) → IsStored r q first next more bytes → AreReceived q (record s { fragments = with_fragment s.fragments (fragment_at first more bytes) })
 kept r q s first next more bytes h n k =
     let f : Fragment = fragment_at first more bytes in
-    let after : HasReceived q (record s { fragments = f ∷ s.fragments }) = stored r q s first next more bytes h n k in
+    let after : AreReceived q (record s { fragments = f ∷ s.fragments }) = stored r q s first next more bytes h n k in
     elim (cases_Bool (list_any (is_same f) s.fragments)) [
-      | inr other ↦ subst (λ (fs : List Fragment). HasReceived q (record s { fragments = fs })) (sym (cond-false (list_any (is_same f) s.fragments) s.fragments (f ∷ s.fragments) other)) after
-      | inl same ↦ subst (λ (fs : List Fragment). HasReceived q (record s { fragments = fs })) (sym (cond-true (list_any (is_same f) s.fragments) s.fragments (f ∷ s.fragments) same))
+      | inr other ↦ subst (λ (fs : List Fragment). AreReceived q (record s { fragments = fs })) (sym (cond-false (list_any (is_same f) s.fragments) s.fragments (f ∷ s.fragments) other)) after
+      | inl same ↦ subst (λ (fs : List Fragment). AreReceived q (record s { fragments = fs })) (sym (cond-true (list_any (is_same f) s.fragments) s.fragments (f ∷ s.fragments) same))
           (stored_again q s f after (elim (cases_eq (length bytes) 0) [
             | inl none ↦ none
             | inr some ↦ absurd (both_ways (list_any (overlaps f) s.fragments) n.apart (same_overlaps s.fragments f same (omega (arith, some))))
@@ -269,8 +268,13 @@ outcome_accepted s f a r = (cond-false s.abandoned _ _ a ∙ ap (outcome_by s.fr
 pub with_same : (fs : List Fragment) (f : Fragment) → list_any (is_same f) fs ≡ true → with_fragment fs f ≡ fs
 with_same fs f same = cond-true (list_any (is_same f) fs) fs (f ∷ fs) same
 
+-- Two negations.
+pub not_not : (x : Bool) → not (not x) ≡ x
+not_not true = refl
+not_not false = refl
+
 -- Nothing has been received.
-pub has_nothing : (r : Reassembly) (abandons : Bool) → ((i : ℕ) → get_or r.marks i 0 ≡ 0) → r.reach ≡ 0 → r.count ≡ 0 → r.is_ended ≡ false → r.is_abandoned ≡ false → r.abandons ≡ abandons → HasReceived r (received_nothing (min (length r.buffer.now) 65535) abandons)
+pub has_nothing : (r : Fields) (abandons : Bool) → ((i : ℕ) → get_or r.marks i 0 ≡ 0) → r.reach ≡ 0 → r.count ≡ 0 → r.is_ended ≡ false → r.is_abandoned ≡ false → r.abandons ≡ abandons → AreReceived r (received_nothing (min (length r.buffer) 65535) abandons)
 has_nothing r abandons marks reach count ended abandoned same = record {
   limit = refl;
   abandons = same;
@@ -290,7 +294,7 @@ zeros n i = elim (cases_lt i n) [
 ]
 
 -- The state of the fields says whether the payload is whole.
-pub whole_is : (r : Reassembly) (s : Received) → HasReceived r s → (r.is_ended && eqb r.count r.reach) ≡ is_some (payload_of s.fragments)
+pub whole_is : (r : Fields) (s : Received) → AreReceived r s → (r.is_ended && eqb r.count r.reach) ≡ is_some (payload_of s.fragments)
 whole_is r s h = elim (cases_Bool (r.is_ended && eqb r.count r.reach)) [
   | inl whole ↦ let parts = and_parts r.is_ended (eqb r.count r.reach) whole in
       whole ∙ sym (ap is_some (whole_in_buffer r s h parts.0 (eqb-true r.count r.reach parts.1)).1)
@@ -298,21 +302,21 @@ whole_is r s h = elim (cases_Bool (r.is_ended && eqb r.count r.reach)) [
 ]
 
 -- No payload is there unless the fields say so.
-pub no_payload : (r : Reassembly) (s : Received) → HasReceived r s → (r.is_ended && eqb r.count r.reach) ≡ false → payload_of s.fragments ≡ None
+pub no_payload : (r : Fields) (s : Received) → AreReceived r s → (r.is_ended && eqb r.count r.reach) ≡ false → payload_of s.fragments ≡ None
 no_payload r s h less = not_whole r s h (λ ended all. both_ways (r.is_ended && eqb r.count r.reach) less (and_from r.is_ended (eqb r.count r.reach) ended (eq-eqb r.count r.reach all)))
 
 -- The verdicts of the tests.
-pub tested_overlap : (r : Reassembly) (s : Received) (first next : ℕ) (more : Bool) (bytes : List ℕ) → HasReceived r s → IsSound s.limit (fragment_at first more bytes) → next ≡ (8 * first + length bytes) / 8 + min 1 ((8 * first + length bytes) % 8) → (((i : ℕ) → first ≤ i → i < next → get_or r.marks i 0 ≡ 0) → ⊥) → (IsSound s.limit (fragment_at first more bytes) → list_any (is_same (fragment_at first more bytes)) s.fragments ≡ false) → refusal s.limit s.fragments (fragment_at first more bytes) ≡ Some Overlap
+pub tested_overlap : (r : Fields) (s : Received) (first next : ℕ) (more : Bool) (bytes : List ℕ) → AreReceived r s → IsSound s.limit (fragment_at first more bytes) → next ≡ (8 * first + length bytes) / 8 + min 1 ((8 * first + length bytes) % 8) → (((i : ℕ) → first ≤ i → i < next → get_or r.marks i 0 ≡ 0) → ⊥) → (IsSound s.limit (fragment_at first more bytes) → list_any (is_same (fragment_at first more bytes)) s.fragments ≡ false) → refusal s.limit s.fragments (fragment_at first more bytes) ≡ Some Overlap
 tested_overlap r s first next more bytes h sound n occupied other =
     refused_overlap s.limit s.fragments (fragment_at first more bytes) sound.aligned sound.within (other sound) (occupied_units r s first next more bytes h n occupied)
 
 -- The test of the ends by the fields.
-ends_by_fields : (r : Reassembly) (s : Received) (f : Fragment) (b : Bool) → HasReceived r s → ((r.is_ended && ltb r.reach (end_of f)) || (not f.more && ltb (end_of f) r.reach)) ≡ b → ends_elsewhere s.fragments f ≡ b
+ends_by_fields : (r : Fields) (s : Received) (f : Fragment) (b : Bool) → AreReceived r s → ((r.is_ended && ltb r.reach (end_of f)) || (not f.more && ltb (end_of f) r.reach)) ≡ b → ends_elsewhere s.fragments f ≡ b
 ends_by_fields r s f b h e =
     subst (λ (m : ℕ). ((is_ended s.fragments && ltb m (end_of f)) || (not f.more && ltb (end_of f) m)) ≡ b) h.reach
     (subst (λ (l : Bool). ((l && ltb r.reach (end_of f)) || (not f.more && ltb (end_of f) r.reach)) ≡ b) h.ended e)
 
-pub tested_two_ends : (r : Reassembly) (s : Received) (first next : ℕ) (more : Bool) (bytes : List ℕ) → HasReceived r s → IsSound s.limit (fragment_at first more bytes) → next ≡ (8 * first + length bytes) / 8 + min 1 ((8 * first + length bytes) % 8) → ((i : ℕ) → first ≤ i → i < next → get_or r.marks i 0 ≡ 0) → ((r.is_ended && ltb r.reach (8 * first + length bytes)) || (not more && ltb (8 * first + length bytes) r.reach)) ≡ true → refusal s.limit s.fragments (fragment_at first more bytes) ≡ Some TwoEnds
+pub tested_two_ends : (r : Fields) (s : Received) (first next : ℕ) (more : Bool) (bytes : List ℕ) → AreReceived r s → IsSound s.limit (fragment_at first more bytes) → next ≡ (8 * first + length bytes) / 8 + min 1 ((8 * first + length bytes) % 8) → ((i : ℕ) → first ≤ i → i < next → get_or r.marks i 0 ≡ 0) → ((r.is_ended && ltb r.reach (8 * first + length bytes)) || (not more && ltb (8 * first + length bytes) r.reach)) ≡ true → refusal s.limit s.fragments (fragment_at first more bytes) ≡ Some TwoEnds
 tested_two_ends r s first next more bytes h sound n free ends =
     let f : Fragment = fragment_at first more bytes in
     let two : list_any (has_two_ends f) s.fragments ≡ true = two_ends_from s.fragments f (ends_by_fields r s f true h ends) in
@@ -320,7 +324,7 @@ tested_two_ends r s first next more bytes h sound n free ends =
     (false_from_ne_true (list_any (is_same f) s.fragments) (λ same. both_ways (list_any (has_two_ends f) s.fragments) (member_one_end s.limit s.fragments f h.consistent same) two))
     (free_units r s first next more bytes h n free) two
 
-pub tested_new : (r : Reassembly) (s : Received) (first next : ℕ) (more : Bool) (bytes : List ℕ) → HasReceived r s → IsSound s.limit (fragment_at first more bytes) → next ≡ (8 * first + length bytes) / 8 + min 1 ((8 * first + length bytes) % 8) → ((i : ℕ) → first ≤ i → i < next → get_or r.marks i 0 ≡ 0) → ((r.is_ended && ltb r.reach (8 * first + length bytes)) || (not more && ltb (8 * first + length bytes) r.reach)) ≡ false → IsNew s (fragment_at first more bytes)
+pub tested_new : (r : Fields) (s : Received) (first next : ℕ) (more : Bool) (bytes : List ℕ) → AreReceived r s → IsSound s.limit (fragment_at first more bytes) → next ≡ (8 * first + length bytes) / 8 + min 1 ((8 * first + length bytes) % 8) → ((i : ℕ) → first ≤ i → i < next → get_or r.marks i 0 ≡ 0) → ((r.is_ended && ltb r.reach (8 * first + length bytes)) || (not more && ltb (8 * first + length bytes) r.reach)) ≡ false → IsNew s (fragment_at first more bytes)
 tested_new r s first next more bytes h sound n free ends =
     let f : Fragment = fragment_at first more bytes in
     record {
@@ -334,7 +338,7 @@ and_is_right true y e = refl
 and_is_right false y e = absurd (both_ways false refl e)
 
 -- A reassembly that differs only in whether the packet was abandoned.
-pub received_refused : (r : Reassembly) (s : Received) (a b : Bool) → a ≡ b → HasReceived r s → HasReceived (record r { is_abandoned = a }) (record s { abandoned = b })
+pub received_refused : (r : Fields) (s : Received) (a b : Bool) → a ≡ b → AreReceived r s → AreReceived (record r { is_abandoned = a }) (record s { abandoned = b })
 received_refused r s a b e h = record {
   limit = h.limit;
   abandons = h.abandons;
@@ -348,9 +352,9 @@ received_refused r s a b e h = record {
 }
 
 -- Nothing has been received after the marks were removed.
-pub received_cleared : (r q : Reassembly) (s : Received) (end : ℕ) → HasReceived r s → end ≡ min (r.reach / 8 + min 1 (r.reach % 8)) 8192 → ((i : ℕ) → get_or q.marks i 0 ≡ cond (ltb i end) 0 (get_or r.marks i 0)) → q.buffer.now ≡ r.buffer.now → q.reach ≡ 0 → q.count ≡ 0 → q.is_ended ≡ false → q.is_abandoned ≡ false → q.abandons ≡ r.abandons → HasReceived q (received_nothing s.limit s.abandons)
+pub received_cleared : (r q : Fields) (s : Received) (end : ℕ) → AreReceived r s → end ≡ min (r.reach / 8 + min 1 (r.reach % 8)) 8192 → ((i : ℕ) → get_or q.marks i 0 ≡ cond (ltb i end) 0 (get_or r.marks i 0)) → q.buffer ≡ r.buffer → q.reach ≡ 0 → q.count ≡ 0 → q.is_ended ≡ false → q.is_abandoned ≡ false → q.abandons ≡ r.abandons → AreReceived q (received_nothing s.limit s.abandons)
 received_cleared r q s end h used marks buffer reach count ended abandoned abandons =
-    subst (λ (n : ℕ). HasReceived q (received_nothing n s.abandons)) (ap (λ (b : List ℕ). min (length b) 65535) buffer ∙ sym h.limit)
+    subst (λ (n : ℕ). AreReceived q (received_nothing n s.abandons)) (ap (λ (b : List ℕ). min (length b) 65535) buffer ∙ sym h.limit)
     (has_nothing q s.abandons (λ i. marks i ∙ elim (cases_lt i end) [
       | inl below ↦ cond-true (ltb i end) 0 (get_or r.marks i 0) (lt-ltb i end below)
       | inr past ↦ cond-false (ltb i end) 0 (get_or r.marks i 0) (le-ltb i end past)

@@ -4,6 +4,7 @@ use Rattle.std.specs.List.{list_any}
 use Rattle.ip_defrag.specs.Fragment.{Fragment, end_of, is_in, overlaps, has_two_ends, is_unaligned}
 use Rattle.ip_defrag.specs.Payload.{byte_at}
 use Rattle.ip_defrag.specs.Received.{Received}
+use Rattle.ip_defrag.specs.declared.state.ReassemblyState.{ReassemblyState}
 use Rattle.ip_defrag.specs.declared.reassembly.Reassembly.{Reassembly}
 
 -- the largest length of an IP payload
@@ -49,17 +50,50 @@ AreConsistent limit [] = Unit {0}
 AreConsistent limit (f ∷ fs) = IsSound limit f × (list_any (overlaps f) fs ≡ false)
     × (list_any (has_two_ends f) fs ≡ false) × AreConsistent limit fs
 
--- The reassembly has received this.
-pub record HasReceived (r : Reassembly) (s : Received) : Type 0 where
-  pub limit : s.limit ≡ min (length r.buffer.now) MAX_PAYLOAD
+-- A flag is set.
+abbrev pub is_set : ℕ → Bool
+is_set n = not (n == 0)
+
+-- what a state and its buffer hold
+pub record Fields : Type 0 where
+  pub buffer : List ℕ
+  pub marks : List ℕ
+  pub reach : ℕ
+  pub count : ℕ
+  pub is_ended : Bool
+  pub is_abandoned : Bool
+  pub abandons : Bool
+
+abbrev pub fields_of : ReassemblyState → List ℕ → Fields
+fields_of r buffer = record {
+  buffer = buffer;
+  marks = r.marks;
+  reach = r.reach;
+  count = r.count;
+  is_ended = is_set r.ended;
+  is_abandoned = is_set r.abandoned;
+  abandons = not (is_set r.kept);
+}
+
+-- The fields say that this has been received.
+pub record AreReceived (r : Fields) (s : Received) : Type 0 where
+  pub limit : s.limit ≡ min (length r.buffer) MAX_PAYLOAD
   pub abandons : r.abandons ≡ s.abandons
   pub abandoned : r.is_abandoned ≡ s.abandoned
   pub consistent : AreConsistent s.limit s.fragments
   pub marks : (i : ℕ) → slice_index r.marks i ≡ mark_at s.fragments i
-  pub bytes : (i byte : ℕ) → byte_at s.fragments i ≡ Some byte → slice_index r.buffer.now i ≡ byte
+  pub bytes : (i byte : ℕ) → byte_at s.fragments i ≡ Some byte → slice_index r.buffer i ≡ byte
   pub reach : r.reach ≡ reach_of s.fragments
   pub ended : r.is_ended ≡ is_ended s.fragments
   pub count : r.count ≡ count_of s.fragments
+
+-- By the state, with its buffer, this has arrived.
+abbrev pub HasArrived : ReassemblyState → List ℕ → Received → Type 0
+HasArrived r buffer s = AreReceived (fields_of r buffer) s
+
+-- The reassembly has received this.
+abbrev pub HasReceived : Reassembly → Received → Type 0
+HasReceived r s = HasArrived r.state r.buffer.now s
 
 -- The fragment can be stored: nothing speaks against it.
 pub record IsNew (s : Received) (f : Fragment) : Type 0 where

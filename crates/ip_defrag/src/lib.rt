@@ -5,9 +5,11 @@ mod err;
 mod marks;
 mod progress;
 mod reassembly;
+mod state;
 #[cfg(test)]
 mod tests;
 
 pub use err::AddError;
 pub use progress::Progress;
 pub use reassembly::Reassembly;
+pub use state::ReassemblyState;

@@ -32,10 +32,10 @@ keeps_all s (f ∷ fs) =
     record { limit = after.limit ∙ before.limit; abandons = after.abandons ∙ before.abandons }
 
 -- what the payload has received after a fragment, by the fragments that the memory then holds
-pub stored_is : (room limit : ℕ) (held : List Fragment) (f : FragmentParts) → stored_after room (received_all (received_nothing limit true) held) f ≡ received_all (received_nothing limit true) (held_after room held f)
-stored_is room limit held f =
+pub stored_is : (limit : ℕ) (held : List Fragment) (f : FragmentParts) → stored_after (received_all (received_nothing limit true) held) f ≡ received_all (received_nothing limit true) (held_after held f)
+stored_is limit held f =
     let s : Received = received_all (received_nothing limit true) held in
-    elim (is_too_long room f) as (λ b. cond b s (received_after s (piece_of f)) ≡ received_all (received_nothing limit true) (cond b held (piece_of f ∷ held))) [
+    elim (is_too_long f) as (λ b. cond b s (received_after s (piece_of f)) ≡ received_all (received_nothing limit true) (cond b held (piece_of f ∷ held))) [
       | true ↦ refl
       | false ↦ refl
     ]

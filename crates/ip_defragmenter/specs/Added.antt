@@ -7,7 +7,8 @@ use Rattle.ip_defragmenter.specs.Slots.{place_of, slots_after}
 use Rattle.ip_defragmenter.specs.Memories.{IsStoredIn}
 use Rattle.ip_defragmenter.specs.declared.err.StoreError.{StoreError}
 use Rattle.ip_defragmenter.specs.declared.memory.PacketMemory.{PacketMemory}
-use Rattle.ip_defragmenter.specs.declared.pending.Pending.{Pending}
+use Rattle.ip_defragmenter.specs.declared.slot.Slot.{Slot}
+use Rattle.ip_defragmenter.specs.Slot.{free_slot}
 use Rattle.ip_defragmenter.specs.declared.slots.Placement.{Placement}
 use Rattle.ip_defragmenter.specs.declared.outcome.Added.{Added}
 use Rattle.ip_defragmenter.specs.declared.outcome.Outcome.{Outcome}
@@ -27,26 +28,27 @@ is_whole (Ok progress.Whole) = true
 is_whole (Err e) = false
 
 -- the slots, of which this one is free again or not
-abbrev pub freed : Bool → ℕ → List (Option Pending) → List (Option Pending)
-freed b i slots = if b then slice_set slots i None else slots
+abbrev pub freed : Bool → ℕ → List Slot → List Slot
+freed b i slots = if b then slice_set slots i free_slot else slots
 
--- no packet was given up
+-- no slot was used, and no packet was given up
 abbrev pub added_nothing : Outcome → Added
-added_nothing o = record { outcome = o; lost = None }
+added_nothing o = record { outcome = o; slot = None; lost = None }
 
 -- A fragment was added at this place: the memory there returned r, and no other memory changed. The slot is free again if
 -- the packet is whole, and its packet's otherwise.
-pub record IsAddedAt (slots : List (Option Pending)) (memories : List PacketMemory) (f : FragmentParts) (p : Placement) (slots' : List (Option Pending)) (memories' : List PacketMemory) (a : Added) (r : Result Progress StoreError) : Type 0 where
+pub record IsAddedAt (slots : List Slot) (memories : List PacketMemory) (f : FragmentParts) (p : Placement) (slots' : List Slot) (memories' : List PacketMemory) (a : Added) (r : Result Progress StoreError) : Type 0 where
   pub lost : a.lost ≡ p.lost
   pub outcome : a.outcome ≡ outcome_of p.index r
+  pub index : a.slot ≡ Some p.index
   pub slot : slots' ≡ freed (is_whole r) p.index (slots_after slots f.key (Some p))
   pub others : (j : ℕ) → (j ≡ p.index → ⊥) → slice_get memories' j ≡ slice_get memories j
   pub own : (m : PacketMemory) → slice_get memories p.index ≡ Some m → IsStoredIn m (slice_get memories' p.index) p.is_known f r
 
 -- A fragment was added at its packet's place, if there is one.
-abbrev pub IsAddedBy : List (Option Pending) → List PacketMemory → FragmentParts → Option Placement → List (Option Pending) → List PacketMemory → Added → Type 0
+abbrev pub IsAddedBy : List Slot → List PacketMemory → FragmentParts → Option Placement → List Slot → List PacketMemory → Added → Type 0
 IsAddedBy slots memories f None slots' memories' a = (a ≡ added_nothing (Dropped NoSlot)) × (slots' ≡ slots) × (memories' ≡ memories)
 IsAddedBy slots memories f (Some p) slots' memories' a = (r : Result Progress StoreError) × IsAddedAt slots memories f p slots' memories' a r
 
-abbrev pub IsAdded : List (Option Pending) → List PacketMemory → ℕ → ℕ → FragmentParts → List (Option Pending) → List PacketMemory → Added → Type 0
+abbrev pub IsAdded : List Slot → List PacketMemory → ℕ → ℕ → FragmentParts → List Slot → List PacketMemory → Added → Type 0
 IsAdded slots memories factor time f slots' memories' a = IsAddedBy slots memories f (place_of slots factor f.key time) slots' memories' a

@@ -2,9 +2,11 @@ pub mod Split
 pub mod Finder
 pub mod FragmentOf
 pub mod Key
+pub mod Slot
 pub mod Slots
 pub mod Checksum
 pub mod Whole
 pub mod Memory
 pub mod Memories
 pub mod Added
+pub mod Counts

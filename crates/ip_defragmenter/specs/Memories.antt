@@ -5,7 +5,7 @@ use Rattle.ip_defrag.specs.Fragment.{Fragment}
 use Rattle.ip_defrag.specs.Received.{received_nothing, received_all}
 use Rattle.ip_defrag.specs.declared.progress.Progress.{Progress}
 use Rattle.ip_defragmenter.specs.FragmentOf.{FragmentParts}
-use Rattle.ip_defragmenter.specs.Memory.{WasStored, first_in, first_after, head_room, is_too_long, piece_of, stored_outcome}
+use Rattle.ip_defragmenter.specs.Memory.{WasStored, first_in, first_after, is_too_long, piece_of, stored_outcome}
 use Rattle.ip_defragmenter.specs.declared.err.StoreError.{StoreError}
 use Rattle.ip_defragmenter.specs.declared.memory.PacketMemory.{PacketMemory}
 
@@ -14,15 +14,14 @@ abbrev pub kept_in : Bool → List Fragment → List Fragment
 kept_in is_known held = if is_known then held else []
 
 -- what it then holds: the fragment too, unless it is the first and its headers are too long
-abbrev pub held_after : ℕ → List Fragment → FragmentParts → List Fragment
-held_after room held f = if is_too_long room f then held else piece_of f ∷ held
+abbrev pub held_after : List Fragment → FragmentParts → List Fragment
+held_after held f = if is_too_long f then held else piece_of f ∷ held
 
 -- The memory m has become the memory n when this fragment was added, with this result.
 pub record IsStored (m n : PacketMemory) (is_known : Bool) (f : FragmentParts) (r : Result Progress StoreError) : Type 0 where
-  pub room : head_room n ≡ head_room m
   pub first : first_in n ≡ first_after (if is_known then first_in m else None) (is_ok r) f
-  pub given : (limit : ℕ) (held : List Fragment) → WasStored m limit held → WasStored n limit (held_after (head_room m) (kept_in is_known held) f)
-  pub outcome : (limit : ℕ) (held : List Fragment) → WasStored m limit held → r ≡ stored_outcome (head_room m) (received_all (received_nothing limit true) (kept_in is_known held)) f
+  pub given : (limit : ℕ) (held : List Fragment) → WasStored m limit held → WasStored n limit (held_after (kept_in is_known held) f)
+  pub outcome : (limit : ℕ) (held : List Fragment) → WasStored m limit held → r ≡ stored_outcome (received_all (received_nothing limit true) (kept_in is_known held)) f
 
 -- and it is there
 abbrev pub IsStoredIn : PacketMemory → Option PacketMemory → Bool → FragmentParts → Result Progress StoreError → Type 0

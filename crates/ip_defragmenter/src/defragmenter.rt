@@ -7,7 +7,8 @@ ghost use Rattle.ip_defragmenter.specs.declared.err.FragmentError.{FragmentError
 
 use crate::store::store;
 use crate::{
-    Added, DropReason, IpFragment, Outcome, PacketMemory, Pending, StoreError, fragment_of, place,
+    Added, DefragmenterCounts, DropReason, IpFragment, Outcome, PacketMemory, Slot, StoreError,
+    fragment_of, place,
 };
 use ip_defrag::Progress;
 
@@ -25,20 +26,20 @@ fn outcome_of(index: usize, stored: Result<Progress, StoreError>) -> Outcome
 
 /// Frees a slot if its packet is whole.
 #[inline(always)]
-fn free_if_whole(slots: &mut [Option<Pending>], index: usize, stored: &Result<Progress, StoreError>)
+fn free_if_whole(slots: &mut [Slot], index: usize, stored: &Result<Progress, StoreError>)
     requires { index < length slots.old }
     ensures { slots.new ≡ freed (is_whole stored.now) index slots.old }
 {
     if let Ok(Progress::Whole) = stored {
-        slots[index] = None;
+        slots[index] = Slot::free();
     }
 }
 
 /// Adds a fragment that arrived at this time, as `defragment` does. Returns what became of it, and the packet that was given
 /// up for it.
 pub fn add_fragment(
-    slots: &mut [Option<Pending>],
-    memories: &mut [PacketMemory<'_>],
+    slots: &mut [Slot],
+    memories: &mut [PacketMemory],
     factor: u32,
     time: u64,
     fragment: &IpFragment<'_>,
@@ -52,11 +53,13 @@ pub fn add_fragment(
             free_if_whole(slots, found.index, &stored);
             Added {
                 outcome: outcome_of(found.index, stored),
+                slot: Some(found.index),
                 lost: found.lost,
             }
         }
         None => Added {
             outcome: Outcome::Dropped(DropReason::NoSlot),
+            slot: None,
             lost: None,
         },
     }
@@ -69,8 +72,8 @@ pub fn add_fragment(
 /// 4.5); `place` says which slot. All other slots and memories stay as they are, but for the packet that was given up. `factor`
 /// is a number that senders don't know.
 pub fn defragment(
-    slots: &mut [Option<Pending>],
-    memories: &mut [PacketMemory<'_>],
+    slots: &mut [Slot],
+    memories: &mut [PacketMemory],
     factor: u32,
     time: u64,
     bytes: &[u8],
@@ -87,11 +90,60 @@ pub fn defragment(
         Ok(Some(fragment)) => add_fragment(slots, memories, factor, time, &fragment),
         Ok(None) => Added {
             outcome: Outcome::NotFragment,
+            slot: None,
             lost: None,
         },
         Err(error) => Added {
             outcome: Outcome::Dropped(DropReason::Unusable(error)),
+            slot: None,
             lost: None,
         },
+    }
+}
+
+/// Makes packets whole from their fragments, in slots and memories of the caller's, and counts what becomes of them.
+///
+/// A slot that isn't free has the key of a packet which isn't whole yet, and the time of its first fragment. The memory with
+/// the slot's index has the packet's fragments.
+#[derive(Drop)]
+pub struct Defragmenter<'m> {
+    /// The slots, free at first.
+    pub slots: &'m mut [Slot],
+    /// The memory of each slot.
+    pub memories: &'m mut [PacketMemory],
+    /// What became of the packets that were added.
+    pub counts: &'m mut DefragmenterCounts,
+    /// A number that senders don't know.
+    pub factor: u32,
+}
+
+impl<'m> Defragmenter<'m> {
+    ghost use Rattle.std.specs.Prelude.{◌≡◌, length, Ok, Err, None, Some};
+    ghost use Rattle.ip_dissect.specs.Dissection.{dissected};
+    ghost use Rattle.ip_defragmenter.specs.FragmentOf.{FragmentParts, fragment_in};
+    ghost use Rattle.ip_defragmenter.specs.Added.{IsAdded, added_nothing};
+    ghost use Rattle.ip_defragmenter.specs.Counts.{counted};
+    ghost use Rattle.ip_defragmenter.specs.declared.err.FragmentError.{FragmentError};
+
+    /// Adds the packet at the start of `bytes`, which arrived at this time, in nanoseconds since any moment, as `defragment`
+    /// does. Counts what became of it, and the packet that was given up for it.
+    #[inline(always)]
+    pub fn add(&mut self, time: u64, bytes: &[u8]) -> Added
+        requires { length self.old.slots.now ≡ length self.old.memories.now }
+        ensures not_fragment { fragment_in (dissected bytes.now) ≡ Ok None
+            → (result ≡ added_nothing Outcome.NotFragment)
+            × (self.new.slots.now ≡ self.old.slots.now) × (self.new.memories.now ≡ self.old.memories.now) }
+        ensures unusable { (e : FragmentError) → fragment_in (dissected bytes.now) ≡ Err e
+            → (result ≡ added_nothing (Outcome.Dropped (DropReason.Unusable e)))
+            × (self.new.slots.now ≡ self.old.slots.now) × (self.new.memories.now ≡ self.old.memories.now) }
+        ensures added { (f : FragmentParts) → fragment_in (dissected bytes.now) ≡ Ok (Some f)
+            → IsAdded self.old.slots.now self.old.memories.now self.old.factor time f
+            self.new.slots.now self.new.memories.now result }
+        ensures counts { self.new.counts.now ≡ counted self.old.counts.now result }
+        ensures factor { self.new.factor ≡ self.old.factor }
+    {
+        let added = defragment(self.slots, self.memories, self.factor, time, bytes);
+        self.counts.count(&added);
+        added
     }
 }

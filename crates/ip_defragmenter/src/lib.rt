@@ -2,26 +2,32 @@
 #![tactic(auto)]
 
 mod checksum;
+mod counts;
 mod defragmenter;
 mod err;
+mod fields;
 mod finder;
 mod fragment;
 mod key;
 mod memory;
 mod outcome;
 mod pending;
+mod slot;
 mod slots;
 mod store;
 #[cfg(test)]
 mod tests;
 mod whole;
 
-pub use defragmenter::{add_fragment, defragment};
+pub use counts::DefragmenterCounts;
+pub use defragmenter::{Defragmenter, add_fragment, defragment};
 pub use err::{FragmentError, StoreError, WholeError};
+pub use fields::AddedFields;
 pub use fragment::{IpFragment, fragment_of};
 pub use key::FragmentKey;
 pub use memory::PacketMemory;
 pub use outcome::{Added, DropReason, Outcome};
 pub use pending::{Loss, LossReason, Pending};
+pub use slot::Slot;
 pub use slots::{Placement, give_up, place};
 pub use whole::write_packet;

@@ -2,51 +2,71 @@
 
 use crate::whole::put_front;
 use crate::{IpFragment, StoreError, WholeError, write_packet};
-use ip_base::{IpNumber, ip_number};
-use ip_defrag::{Progress, Reassembly};
+use ip_base::IpNumber;
+use ip_defrag::{Progress, ReassemblyState};
 
-/// The fragments of one packet, in two buffers of the caller's: the headers of the first fragment, and the payload.
+/// How long the headers of a first fragment can be, in bytes.
+const HEAD: usize = 4096;
+
+/// How long a payload can be, in bytes; one byte more than the longest one.
+const PAYLOAD: usize = 65536;
+
+/// The fragments of one packet: the headers of the first fragment, of at most 4,096 bytes, and the payload.
+///
+/// It consists of numbers alone, so that it can lie in memory of other languages. If all of them are 0, there are no
+/// fragments; then only the first bytes of the memory are read, and only bytes that fragments need are written.
+#[repr(C)]
 #[derive(Drop)]
-pub struct PacketMemory<'b> {
-    /// The headers of the first fragment, at the start.
-    head: &'b mut [u8],
-    /// Their length in bytes.
+pub struct PacketMemory {
+    /// The length in bytes of the headers of the first fragment.
     head_len: usize,
-    /// Whether the first fragment has arrived.
-    is_first_here: bool,
     /// The offset in its headers of the number of what follows them.
     link: usize,
+    /// Not 0 if the first fragment has arrived.
+    first_here: u8,
     /// The number of what the payload starts with.
-    next_header: IpNumber,
+    next_header: u8,
+    /// What has arrived of the payload.
+    state: ReassemblyState,
+    /// The headers of the first fragment, at the start.
+    head: [u8; 4096],
     /// The payload.
-    reassembly: Reassembly<'b>,
+    payload: [u8; 65536],
 }
 
-impl<'b> PacketMemory<'b> {
+impl PacketMemory {
     ghost use Rattle.std.specs.Prelude.{is_some, ◌≡◌, ◌+◌, ◌++◌, ◌≤◌, ℕ, Bool, List, [], ◌∷◌, length, min, true, false, None, Some, Ok, OnOk, OnErr, IfOk, IfErr, IsOk, drop, if◌then◌else◌};
     ghost use Rattle.ip_defrag.specs.Fragment.{Fragment, fragment_at};
     ghost use Rattle.ip_defrag.specs.Split.{IsSplit, are_among};
     ghost use Rattle.ip_defragmenter.specs.Whole.{whole_packet, whole_fault};
-    ghost use Rattle.ip_defragmenter.specs.Memory.{WasStored, HoldsReceived, FirstParts, first_in, first_of, first_after, head_room, is_too_long, piece_of, stored_outcome, stored_after, payload_in};
+    ghost use Rattle.ip_defragmenter.specs.Memory.{WasStored, HoldsReceived, FirstParts, first_in, first_of, first_after, is_too_long, piece_of, stored_outcome, stored_after, payload_in};
     ghost use Rattle.ip_defragmenter.specs.FragmentOf.{parts_of};
     ghost use Rattle.ip_defrag.specs.Received.{Received};
     ghost use Rattle.std.specs.Result.{result_err, is_ok};
 
-    /// Returns a memory without fragments. The headers of the first fragment can be as long as `head`, and the payload as
-    /// long as `payload`, and at most 65,535 bytes.
-    pub fn new(head: &'b mut [u8], payload: &'b mut [u8]) -> PacketMemory<'b>
-        ensures given { WasStored result (min (length payload.old) 65535) [] }
+    /// Returns a memory without fragments.
+    pub fn new() -> PacketMemory
+        ensures given { WasStored result 65535 [] }
         ensures first { first_in result ≡ None }
-        ensures room { head_room result ≡ length head.old }
     {
         PacketMemory {
-            head,
             head_len: 0,
-            is_first_here: false,
             link: 0,
-            next_header: ip_number::IPV6_NO_NEXT_HEADER,
-            reassembly: Reassembly::abandoning(payload),
+            first_here: 0,
+            next_header: 0,
+            state: ReassemblyState::new(true),
+            head: [0; HEAD],
+            payload: [0; PAYLOAD],
         }
+    }
+
+    /// Forgets whatever the memory was, so that there are no fragments.
+    pub fn reset(&mut self)
+        ensures given { WasStored self.new 65535 [] }
+        ensures first { first_in self.new ≡ None }
+    {
+        self.first_here = 0;
+        self.state.reset(true);
     }
 
     /// Forgets all fragments.
@@ -54,10 +74,9 @@ impl<'b> PacketMemory<'b> {
         ensures given { (limit : ℕ) (given : List Fragment) → WasStored self.old limit given
             → WasStored self.new limit [] }
         ensures first { first_in self.new ≡ None }
-        ensures room { head_room self.new ≡ head_room self.old }
     {
-        self.is_first_here = false;
-        self.reassembly.clear();
+        self.first_here = 0;
+        self.state.clear();
     }
 
     /// Adds a fragment of the packet. Returns whether the payload is whole. Keeps the headers of the first fragment when it
@@ -68,30 +87,43 @@ impl<'b> PacketMemory<'b> {
     /// packet is abandoned (RFC 5722).
     pub fn add(&mut self, fragment: &IpFragment<'_>) -> Result<Progress, StoreError>
         ensures outcome { (s : Received) → HoldsReceived self.old s
-            → result ≡ stored_outcome (head_room self.old) s (parts_of fragment.now) }
+            → result ≡ stored_outcome s (parts_of fragment.now) }
         ensures received { (s : Received) → HoldsReceived self.old s
-            → HoldsReceived self.new (stored_after (head_room self.old) s (parts_of fragment.now)) }
+            → HoldsReceived self.new (stored_after s (parts_of fragment.now)) }
         ensures first { first_in self.new
             ≡ first_after (first_in self.old) (is_ok result) (parts_of fragment.now) }
-        ensures room { head_room self.new ≡ head_room self.old }
 
         // The fragments of one payload, in any order and repeated, make it whole once each of them was added.
         ensures pieces { (payload : List ℕ) (pieces given : List Fragment) (limit : ℕ)
             → WasStored self.old limit given
             → IsSplit payload pieces → length payload ≤ limit
             → are_among (piece_of (parts_of fragment.now) ∷ given) pieces ≡ true
-            → is_too_long (head_room self.old) (parts_of fragment.now) ≡ false
+            → is_too_long (parts_of fragment.now) ≡ false
             → result ≡ Ok (if are_among pieces (piece_of (parts_of fragment.now) ∷ given)
             then Progress.Whole else Progress.MoreWanted) }
     {
+        self.add_received(fragment)
+    }
+
+    /// Adds a fragment, by what has been received.
+    fn add_received(&mut self, fragment: &IpFragment<'_>) -> Result<Progress, StoreError>
+        ensures outcome { (s : Received) → HoldsReceived self.old s
+            → result ≡ stored_outcome s (parts_of fragment.now) }
+        ensures received { (s : Received) → HoldsReceived self.old s
+            → HoldsReceived self.new (stored_after s (parts_of fragment.now)) }
+        ensures first { first_in self.new
+            ≡ first_after (first_in self.old) (is_ok result) (parts_of fragment.now) }
+    {
         let is_first = fragment.offset.value() == 0;
-        if is_first && fragment.headers.len() > self.head.len() {
+        if is_first && fragment.headers.len() > HEAD {
             return Err(StoreError::HeadersTooLong);
         }
-        match self
-            .reassembly
-            .add(fragment.offset, fragment.more, fragment.bytes)
-        {
+        match self.state.add(
+            &mut self.payload,
+            fragment.offset,
+            fragment.more,
+            fragment.bytes,
+        ) {
             Ok(progress) => {
                 if is_first && !self.has_first() {
                     self.keep_first(fragment);
@@ -106,23 +138,23 @@ impl<'b> PacketMemory<'b> {
     #[inline(always)]
     fn has_first(&self) -> bool
         ensures has { result ≡ is_some (first_in self.now) }
-        ensures within { result ≡ true → self.now.head_len ≤ length self.now.head.now }
+        ensures within { result ≡ true → self.now.head_len ≤ length self.now.head }
     {
-        self.is_first_here && self.head_len <= self.head.len()
+        self.first_here != 0 && self.head_len <= self.head.len()
     }
 
     /// Keeps the headers of the first fragment.
     fn keep_first(&mut self, fragment: &IpFragment<'_>)
-        requires { length fragment.now.headers.now ≤ length self.old.head.now }
+        requires { length fragment.now.headers.now ≤ length self.old.head }
         ensures first { first_in self.new ≡ Some (first_of (parts_of fragment.now)) }
-        ensures reassembly { self.new.reassembly ≡ self.old.reassembly }
-        ensures room { head_room self.new ≡ head_room self.old }
+        ensures state { self.new.state ≡ self.old.state }
+        ensures payload { self.new.payload ≡ self.old.payload }
     {
-        put_front(self.head, fragment.headers);
+        put_front(&mut self.head, fragment.headers);
         self.head_len = fragment.headers.len();
-        self.is_first_here = true;
+        self.first_here = 1;
         self.link = fragment.link;
-        self.next_header = fragment.next_header;
+        self.next_header = fragment.next_header.0;
     }
 
     /// Writes the whole packet to the start of `out`, as `write_packet` does, and returns its length in bytes. Returns
@@ -140,6 +172,7 @@ impl<'b> PacketMemory<'b> {
             × (out.new ≡ whole_packet f.headers f.link f.number payload
             ++ drop (length f.headers + length payload) out.old)) }
         ensures stays { OnErr result (out.new ≡ out.old) }
+        ensures nothing { result ≡ Ok None → out.new ≡ out.old }
 
         // After the fragments of one payload, in any order and repeated, it is that payload after the first one's headers.
         ensures pieces { (payload : List ℕ) (pieces given : List Fragment) (limit : ℕ) (f : FirstParts)
@@ -167,14 +200,15 @@ impl<'b> PacketMemory<'b> {
             × (out.new ≡ whole_packet f.headers f.link f.number payload
             ++ drop (length f.headers + length payload) out.old)) }
         ensures stays { OnErr result (out.new ≡ out.old) }
+        ensures nothing { result ≡ Ok None → out.new ≡ out.old }
     {
         if !self.has_first() {
             return Ok(None);
         }
-        match self.reassembly.payload() {
+        match self.state.payload(&self.payload) {
             Some(payload) => {
                 let headers = &self.head[..self.head_len];
-                match write_packet(headers, self.link, self.next_header, payload, out) {
+                match write_packet(headers, self.link, IpNumber(self.next_header), payload, out) {
                     Ok(len) => Ok(Some(len)),
                     Err(error) => Err(error),
                 }

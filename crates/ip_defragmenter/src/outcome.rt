@@ -7,7 +7,9 @@ use crate::{FragmentError, Loss, StoreError};
 pub struct Added {
     /// What became of the packet.
     pub outcome: Outcome,
-    /// The packet that was given up for it, if any.
+    /// The index of its packet's slot, if it has one. If its packet is whole, the slot is free again.
+    pub slot: Option<usize>,
+    /// The packet that was given up for it, in the same slot, if any.
     pub lost: Option<Loss>,
 }
 

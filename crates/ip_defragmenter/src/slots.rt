@@ -1,8 +1,9 @@
 //! Which slot a packet has.
 ghost use Rattle.std.specs.Prelude.{◌≡◌, ◌<◌, ◌≤◌, length, Some, None, IfSome, is_some, if◌then◌else◌, position, true, false};
-ghost use Rattle.ip_defragmenter.specs.Slots.{has_key, is_free, is_oldest, is_expired, since_of, own_place, own_in, new_place, displaced_place, displaced_in, slot_at, place_in, first_of, place_of, slots_after, loss_of};
+ghost use Rattle.ip_defragmenter.specs.Slots.{has_key, is_oldest, is_expired, since_of, own_place, own_in, new_place, displaced_place, displaced_in, slot_at, place_in, first_of, place_of, slots_after, loss_of};
+ghost use Rattle.ip_defragmenter.specs.Slot.{free_slot, is_free};
 
-use crate::{FragmentKey, Loss, LossReason, Pending};
+use crate::{FragmentKey, Loss, LossReason, Pending, Slot};
 
 /// After how many nanoseconds a packet that isn't whole is given up: 60 seconds (RFC 8200, section 4.5).
 const TIMEOUT: u64 = 60_000_000_000;
@@ -22,10 +23,10 @@ pub struct Placement {
 
 /// Returns whether a slot is that of the packet with this key.
 #[inline(always)]
-fn has_key(slot: &Option<Pending>, key: &FragmentKey) -> bool
+fn has_key(slot: &Slot, key: &FragmentKey) -> bool
     ensures { result ≡ has_key key.now slot.now }
 {
-    match slot {
+    match slot.pending() {
         Some(pending) => pending.key.is_same(key),
         None => false,
     }
@@ -33,10 +34,10 @@ fn has_key(slot: &Option<Pending>, key: &FragmentKey) -> bool
 
 /// Returns when the first fragment of a slot's packet arrived, or 0 if the slot is free.
 #[inline(always)]
-fn since_of(slot: &Option<Pending>) -> u64
+fn since_of(slot: &Slot) -> u64
     ensures { result ≡ since_of slot.now }
 {
-    match slot {
+    match slot.pending() {
         Some(pending) => pending.since,
         None => 0,
     }
@@ -52,7 +53,7 @@ fn is_expired(since: u64, time: u64) -> bool
 
 /// Returns whether no slot has an older packet.
 #[inline(always)]
-fn is_oldest(slots: &[Option<Pending>], slot: &Option<Pending>) -> bool
+fn is_oldest(slots: &[Slot], slot: &Slot) -> bool
     ensures { result ≡ is_oldest slots.now slot.now }
 {
     let since = since_of(slot);
@@ -107,13 +108,13 @@ fn displaced_place(index: usize, pending: &Pending, time: u64) -> Placement
 
 /// Returns the place of a packet in the slot with this index, which has it.
 #[inline(always)]
-fn own_in(slots: &[Option<Pending>], index: usize, time: u64) -> Option<Placement>
+fn own_in(slots: &[Slot], index: usize, time: u64) -> Option<Placement>
     requires { index < length slots.now }
     ensures place { result ≡ own_in slots.now time index }
     ensures within { IfSome result (λ p. p.index ≡ index) }
 {
-    match &slots[index] {
-        Some(pending) => Some(own_place(index, pending, time)),
+    match slots[index].pending() {
+        Some(pending) => Some(own_place(index, &pending, time)),
         None => None,
     }
 }
@@ -134,21 +135,21 @@ fn new_place(index: usize, time: u64) -> Placement
 
 /// Returns the place of a packet in the slot with this index, which has another one.
 #[inline(always)]
-fn displaced_in(slots: &[Option<Pending>], index: usize, time: u64) -> Option<Placement>
+fn displaced_in(slots: &[Slot], index: usize, time: u64) -> Option<Placement>
     requires { index < length slots.now }
     ensures place { result ≡ displaced_in slots.now time index }
     ensures anew { IfSome result (λ p. p.is_known ≡ false) }
     ensures within { IfSome result (λ p. p.index ≡ index) }
 {
-    match &slots[index] {
-        Some(pending) => Some(displaced_place(index, pending, time)),
+    match slots[index].pending() {
+        Some(pending) => Some(displaced_place(index, &pending, time)),
         None => None,
     }
 }
 
 /// Returns the index of the slot that has the packet with this key.
 #[inline(always)]
-fn find_own(slots: &[Option<Pending>], key: &FragmentKey) -> Option<usize>
+fn find_own(slots: &[Slot], key: &FragmentKey) -> Option<usize>
     ensures own { result ≡ position (has_key key.now) slots.now }
     ensures has { IfSome result (λ i. has_key key.now (slot_at slots.now i) ≡ true) }
     ensures within { IfSome result (λ i. i < length slots.now) }
@@ -158,16 +159,16 @@ fn find_own(slots: &[Option<Pending>], key: &FragmentKey) -> Option<usize>
 
 /// Returns the index of the first free slot.
 #[inline(always)]
-fn find_free(slots: &[Option<Pending>]) -> Option<usize>
+fn find_free(slots: &[Slot]) -> Option<usize>
     ensures free { result ≡ position is_free slots.now }
     ensures within { IfSome result (λ i. i < length slots.now) }
 {
-    slots.iter().position(|slot| slot.is_none())
+    slots.iter().position(|slot| slot.is_free())
 }
 
 /// Returns the index of the first slot whose packet is the oldest.
 #[inline(always)]
-fn find_oldest(slots: &[Option<Pending>]) -> Option<usize>
+fn find_oldest(slots: &[Slot]) -> Option<usize>
     ensures oldest { result ≡ position (is_oldest slots.now) slots.now }
     ensures within { IfSome result (λ i. i < length slots.now) }
 {
@@ -176,7 +177,7 @@ fn find_oldest(slots: &[Option<Pending>]) -> Option<usize>
 
 /// Returns the place of the packet with this key in a set of slots: its own slot, else a free one, else that of the
 /// oldest packet. Returns `None` if there are no slots.
-fn place_in(slots: &[Option<Pending>], key: &FragmentKey, time: u64) -> Option<Placement>
+fn place_in(slots: &[Slot], key: &FragmentKey, time: u64) -> Option<Placement>
     ensures place { result ≡ place_in slots.now key.now time }
     ensures known { IfSome result (λ p. p.is_known ≡ true
         → has_key key.now (slot_at slots.now p.index) ≡ true) }
@@ -210,12 +211,7 @@ fn first_of(len: usize, factor: u32, key: &FragmentKey) -> usize
 /// A packet that isn't whole 60 seconds after its first fragment is given up when the next one arrives, and the fragment
 /// begins a new one. Otherwise a packet that has no slot gets a free one among the 8 that its key's hash selects, by a
 /// factor that only the caller knows. If none of these is free, the oldest packet there is given up.
-pub fn place(
-    slots: &mut [Option<Pending>],
-    factor: u32,
-    key: FragmentKey,
-    time: u64,
-) -> Option<Placement>
+pub fn place(slots: &mut [Slot], factor: u32, key: FragmentKey, time: u64) -> Option<Placement>
     ensures place { result ≡ place_of slots.old factor key time }
     ensures slots { slots.new ≡ slots_after slots.old key result }
 
@@ -229,7 +225,7 @@ pub fn place(
     match place_in(&slots[first..end], &key, time) {
         Some(found) => {
             let index = first + found.index;
-            slots[index] = Some(Pending {
+            slots[index] = Slot::of(Pending {
                 key,
                 since: found.since,
             });
@@ -240,13 +236,13 @@ pub fn place(
 }
 
 /// Gives up the packet of a slot if it isn't whole after 60 seconds, and frees the slot.
-pub fn give_up(slot: &mut Option<Pending>, time: u64) -> Option<Loss>
+pub fn give_up(slot: &mut Slot, time: u64) -> Option<Loss>
     ensures lost { result ≡ loss_of slot.old time }
-    ensures slot { slot.new ≡ (if is_some result then None else slot.old) }
+    ensures slot { slot.new ≡ (if is_some result then free_slot else slot.old) }
 {
-    match *slot {
+    match slot.pending() {
         Some(pending) if is_expired(pending.since, time) => {
-            *slot = None;
+            *slot = Slot::free();
             Some(Loss {
                 key: pending.key,
                 reason: LossReason::TimedOut,

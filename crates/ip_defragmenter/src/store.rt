@@ -2,7 +2,7 @@
 ghost use Rattle.std.specs.Prelude.{◌≡◌, ◌<◌, ℕ, List, length, slice_get, Some, None, if◌then◌else◌};
 ghost use Rattle.ip_defragmenter.specs.FragmentOf.{parts_of};
 ghost use Rattle.ip_defrag.specs.Fragment.{Fragment};
-ghost use Rattle.ip_defragmenter.specs.Memory.{WasStored, first_in, head_room};
+ghost use Rattle.ip_defragmenter.specs.Memory.{WasStored, first_in};
 ghost use Rattle.ip_defragmenter.specs.Memories.{IsStored, IsStoredIn, kept_in};
 ghost use Rattle.ip_defragmenter.specs.declared.memory.PacketMemory.{PacketMemory};
 
@@ -10,11 +10,10 @@ use crate::{IpFragment, PacketMemory, StoreError};
 use ip_defrag::Progress;
 
 /// Forgets what a memory holds, unless it is of the packet whose fragment comes.
-fn prepare(memory: &mut PacketMemory<'_>, is_known: bool)
+fn prepare(memory: &mut PacketMemory, is_known: bool)
     ensures given { (limit : ℕ) (held : List Fragment) → WasStored memory.old limit held
         → WasStored memory.new limit (kept_in is_known held) }
     ensures first { first_in memory.new ≡ (if is_known then first_in memory.old else None) }
-    ensures room { head_room memory.new ≡ head_room memory.old }
 {
     if !is_known {
         memory.clear();
@@ -23,7 +22,7 @@ fn prepare(memory: &mut PacketMemory<'_>, is_known: bool)
 
 /// Adds a fragment to the memory of its packet, which is cleared first if the packet is new there.
 fn store_one(
-    memory: &mut PacketMemory<'_>,
+    memory: &mut PacketMemory,
     is_known: bool,
     fragment: &IpFragment<'_>,
 ) -> Result<Progress, StoreError>
@@ -35,7 +34,7 @@ fn store_one(
 
 /// Adds a fragment to the memory of its packet's slot.
 pub(crate) fn store(
-    memories: &mut [PacketMemory<'_>],
+    memories: &mut [PacketMemory],
     index: usize,
     is_known: bool,
     fragment: &IpFragment<'_>,

@@ -1,8 +1,9 @@
 //! Tests: packets whose fragments scapy made, and rows worked out by hand from RFC 791, RFC 5722, RFC 6946, RFC 7112 and
 //! RFC 8200.
 use crate::{
-    Added, DropReason, FragmentError, FragmentKey, Loss, LossReason, Outcome, PacketMemory,
-    Pending, StoreError, WholeError, defragment, give_up, place, write_packet,
+    Added, Defragmenter, DefragmenterCounts, DropReason, FragmentError, FragmentKey, Loss,
+    LossReason, Outcome, PacketMemory, Pending, Slot, StoreError, WholeError, defragment, give_up,
+    place, write_packet,
 };
 use ip_base::{IpNumber, ip_number};
 use ip_defrag::AddError;
@@ -163,33 +164,34 @@ fn losing(time: u64, packet: Changed, identification: u32, reason: LossReason) -
 
 /// Adds packets to two slots, and compares what becomes of them, and each whole packet, with what is wanted.
 fn assert_rows(rt: &impl Abort, rows: &[Row], wholes: &[&[u8]]) -> Result<(), Fail> {
-    let mut head = [0xa5u8; 64];
-    let mut payload = [0xa5u8; 128];
-    let mut other_head = [0xa5u8; 64];
-    let mut other_payload = [0xa5u8; 128];
-    let mut slots: [Option<Pending>; 2] = [None; 2];
-    let mut memories = [
-        PacketMemory::new(&mut head, &mut payload),
-        PacketMemory::new(&mut other_head, &mut other_payload),
-    ];
-    assert_added(rt, &mut slots, &mut memories, rows, wholes)
+    let mut slots = [Slot::free(); 2];
+    let mut memories = [PacketMemory::new(), PacketMemory::new()];
+    let mut counts = DefragmenterCounts::new();
+    let mut defragmenter = Defragmenter {
+        slots: &mut slots,
+        memories: &mut memories,
+        counts: &mut counts,
+        factor: 12_345,
+    };
+    assert_added(rt, &mut defragmenter, rows, wholes)?;
+    assert_counts(rt, &counts, rows, wholes.len());
+    Ok(())
 }
 
-/// Adds packets to slots, and compares what becomes of them, and each whole packet, with what is wanted.
+/// Adds packets, and compares what becomes of them, and each whole packet, with what is wanted.
 fn assert_added(
     rt: &impl Abort,
-    slots: &mut [Option<Pending>],
-    memories: &mut [PacketMemory<'_>],
+    defragmenter: &mut Defragmenter<'_>,
     rows: &[Row],
     wholes: &[&[u8]],
 ) -> Result<(), Fail> {
     let mut count = 0usize;
     for row in rows {
-        assert!(rt; slots.len() == memories.len());
-        let added = defragment(slots, memories, 12_345, row.time, row.packet.bytes());
+        assert!(rt; defragmenter.slots.len() == defragmenter.memories.len());
+        let added = defragmenter.add(row.time, row.packet.bytes());
         assert_same(rt, added, row);
         if let Outcome::Whole(index) = added.outcome {
-            let memory = memories.get(index).ok_or("the index")?;
+            let memory = defragmenter.memories.get(index).ok_or("the index")?;
             let whole = wholes.get(count).ok_or("a whole packet")?;
             assert_whole(rt, memory, whole)?;
             count = count.saturating_add(1);
@@ -201,15 +203,37 @@ fn assert_added(
 
 /// Checks what became of a packet.
 fn assert_same(rt: &impl Abort, added: Added, row: &Row) {
-    let wanted = Added {
-        outcome: row.outcome,
-        lost: row.lost,
+    assert!(rt; added.outcome == row.outcome, "{added:?} at {row:?}");
+    assert!(rt; added.lost == row.lost, "{added:?} at {row:?}");
+    let has_slot = match added.outcome {
+        Outcome::NotFragment | Outcome::Dropped(DropReason::Unusable(_)) => added.slot.is_none(),
+        Outcome::Whole(index) => added.slot == Some(index),
+        _ => added.slot.is_some(),
     };
-    assert!(rt; added == wanted, "{added:?} for {wanted:?} at {row:?}");
+    assert!(rt; has_slot, "{added:?}");
+}
+
+/// Checks counts of all rows: of whole packets, of those that were given up, and of all.
+fn assert_counts(rt: &impl Abort, counts: &DefragmenterCounts, rows: &[Row], wholes: usize) {
+    let all = rows.len() as u64;
+    let lost = rows.iter().filter(|row| row.lost.is_some()).count() as u64;
+    let outcomes = counts
+        .outcomes
+        .iter()
+        .fold(0u64, |sum, count| sum.saturating_add(*count));
+    assert!(rt;
+        outcomes == all && counts.outcomes[2] == wholes as u64,
+        "{counts:?}"
+    );
+    assert!(rt; counts.losses[0].saturating_add(lost) == all, "{counts:?}");
+    assert!(rt;
+        counts.losses[1].saturating_add(counts.losses[2]) == lost,
+        "{counts:?}"
+    );
 }
 
 /// Checks that a memory writes this packet, and nothing after it.
-fn assert_whole(rt: &impl Abort, memory: &PacketMemory<'_>, whole: &[u8]) -> Result<(), Fail> {
+fn assert_whole(rt: &impl Abort, memory: &PacketMemory, whole: &[u8]) -> Result<(), Fail> {
     let mut out = [0x5au8; 160];
     let len = memory.write(&mut out)?.ok_or("the packet is not whole")?;
     assert!(rt; out.get(..len) == Some(whole), "{out:?}");
@@ -413,20 +437,64 @@ fn overlaps_and_repetitions(rt: HostRuntime) -> Result<(), Fail> {
     assert_rows(&rt, &rows, &[&WHOLE_IPV6, &WHOLE_IPV6])
 }
 
-#[test]
-fn headers_that_do_not_fit(rt: HostRuntime) -> Result<(), Fail> {
-    use Outcome::{Dropped, Whole};
-    let mut head = [0xa5u8; 47];
-    let mut payload = [0xa5u8; 64];
-    let mut slots: [Option<Pending>; 1] = [None; 1];
-    let mut memories = [PacketMemory::new(&mut head, &mut payload)];
-    let too_long = Dropped(DropReason::Refused(StoreError::HeadersTooLong));
-    let rows = [
-        keeping(0, copy_of(&IPV6_0), too_long),
-        losing(1, copy_of(&IPV4_0), IDENTIFICATION, LossReason::Displaced),
-        keeping(2, copy_of(&IPV4_1), Whole(0)),
+/// Returns an IPv6 fragment with hop-by-hop options of 2,048 bytes and destination options of `8 + 8 * len` bytes, by RFC
+/// 8200, sections 4.3, 4.5 and 4.6. The rest of its 4,160 bytes is its payload.
+fn with_options(len: u8) -> Result<[u8; 4160], Fail> {
+    let mut packet = [0u8; 4160];
+    let fragment = 2096usize.saturating_add(8usize.saturating_mul(usize::from(len)));
+    let bytes = [
+        (0, 0x60),
+        (4, 0x10),
+        (5, 0x18),
+        (40, 60),
+        (41, 255),
+        (2088, 44),
+        (2089, len),
+        (fragment, 17),
+        (fragment.saturating_add(3), 1),
     ];
-    assert_added(&rt, &mut slots, &mut memories, &rows, &[&WHOLE_IPV4])
+    for (index, byte) in bytes {
+        *packet.get_mut(index).ok_or("the index")? = byte;
+    }
+    Ok(packet)
+}
+
+/// Returns what becomes of a packet that is added first, and counts it.
+fn first_outcome(packet: &[u8], counts: &mut DefragmenterCounts) -> Outcome {
+    let mut slots = [Slot::free(); 1];
+    let mut memories = [PacketMemory::new()];
+    let mut defragmenter = Defragmenter {
+        slots: &mut slots,
+        memories: &mut memories,
+        counts,
+        factor: 1,
+    };
+    defragmenter.add(0, packet).outcome
+}
+
+#[test]
+fn headers_that_are_too_long(rt: HostRuntime) -> Result<(), Fail> {
+    use Outcome::{Dropped, MoreWanted};
+    let too_long = Dropped(DropReason::Refused(StoreError::HeadersTooLong));
+    let mut counts = DefragmenterCounts::new();
+    // 40, 2,048 and 2,008 bytes are 4,096; eight more are too many.
+    assert!(rt; first_outcome(&with_options(251)?, &mut counts) == too_long);
+    assert!(rt; first_outcome(&with_options(250)?, &mut counts) == MoreWanted);
+    assert!(rt; counts.outcomes == [0, 1, 0, 0, 0, 0, 0, 0, 0, 0, 0, 1, 0]);
+    Ok(())
+}
+
+#[test]
+fn memory_of_any_numbers(rt: HostRuntime) -> Result<(), Fail> {
+    let mut memories = [PacketMemory::new()];
+    let mut slots = [Slot::free(); 1];
+    assert!(rt; defragment(&mut slots, &mut memories, 1, 0, &IPV4_0).slot == Some(0));
+    memories[0].reset();
+    assert!(rt;
+        defragment(&mut slots, &mut memories, 1, 1, &IPV4_1).outcome == Outcome::MoreWanted
+    );
+    assert!(rt; defragment(&mut slots, &mut memories, 1, 2, &IPV4_0).outcome == Outcome::Whole(0));
+    assert_whole(&rt, &memories[0], &WHOLE_IPV4)
 }
 
 #[test]
@@ -452,18 +520,21 @@ fn longest_packets(rt: HostRuntime) -> Result<(), Fail> {
 
 #[test]
 fn slots_are_given_up(rt: HostRuntime) -> Result<(), Fail> {
+    let mut slots = [Slot::free(); 1];
+    let placed = place(&mut slots, 1, ipv6_key(1), 5).ok_or("the slot")?;
+    assert!(rt; placed.index == 0 && !placed.is_known);
     let pending = Pending {
         key: ipv6_key(1),
         since: 5,
     };
-    let mut slot = Some(pending);
-    assert!(rt; give_up(&mut slot, 5 + 60 * SECOND).is_none() && slot == Some(pending));
+    let slot = &mut slots[0];
+    assert!(rt; give_up(slot, 5 + 60 * SECOND).is_none() && slot.pending() == Some(pending));
     let wanted = Some(Loss {
         key: ipv6_key(1),
         reason: LossReason::TimedOut,
     });
-    assert!(rt; give_up(&mut slot, 6 + 60 * SECOND) == wanted && slot.is_none());
-    assert!(rt; give_up(&mut slot, u64::MAX).is_none());
+    assert!(rt; give_up(slot, 6 + 60 * SECOND) == wanted && slot.pending().is_none());
+    assert!(rt; give_up(slot, u64::MAX).is_none());
     assert!(rt; place(&mut [], 1, ipv6_key(1), 0).is_none());
     Ok(())
 }

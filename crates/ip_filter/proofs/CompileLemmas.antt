@@ -7,7 +7,7 @@ use Rattle.std.proofs.Math.Seq.{get_or-append_seam}
 use Rattle.ip_filter.specs.Formula.{Formula, single, negation, both, either, truth, negated, after_step, read_after}
 use Rattle.ip_filter.specs.Tests.{frame_meets, meets}
 use Rattle.ip_filter.specs.Program.{led_to, passes, frame_holds}
-use Rattle.ip_filter.specs.Compiled.{terms_of, terms_of_all, Decide, AreCompiled, index_moved, redirected, redirected_from}
+use Rattle.ip_filter.specs.Compiled.{terms_of, terms_of_all, joined, Decide, AreCompiled, index_moved, redirected, redirected_from}
 use Rattle.ip_filter.specs.declared.filter.Test.{Test}
 use Rattle.ip_filter.specs.declared.term.Term.{Term}
 use Rattle.ip_dissect.specs.Dissection.{dissected}
@@ -91,18 +91,18 @@ module _ (frame : Option (List ℕ)) where
 
   -- two formulas, of which the tests of the first lead on to those of the second
   module _ (f g : Formula) (i j : ℕ) (ys zs : List Test) (df : Decide frame f i ys) (dg : Decide frame g j zs) (seam : j ≡ i + length ys) (fits : j + length zs ≤ 64) (small : i < 64) where
-    joined : (a b : ℕ) → led_to met i i (map (redirected a b) ys ++ zs) ≡ led_to met j (led_to met i i (map (redirected a b) ys)) zs
-    joined a b =
+    led_joined : (a b : ℕ) → led_to met i i (map (redirected a b) ys ++ zs) ≡ led_to met j (led_to met i i (map (redirected a b) ys)) zs
+    led_joined a b =
         let at : i + length (map (redirected a b) ys) ≡ j = ap (λ n. i + n) (length-map ys (redirected a b)) ∙ sym seam in
         led_append met i i (map (redirected a b) ys) zs ∙ ap (λ k. led_to met k (led_to met i i (map (redirected a b) ys)) zs) at
 
     decide_both : Decide frame (both f g) i (map (redirected j 65) ys ++ zs)
-    decide_both = joined j 65
+    decide_both = led_joined j 65
         ∙ ap (λ n. led_to met j n zs) (decide_moved frame j 65 f i ys small (omega (arith, seam)) (omega (arith, seam, fits)) (omega (arith, seam, fits)) df)
         ∙ both_end met j zs (truth g (frame_holds frame)) dg fits (truth f (frame_holds frame))
 
     decide_either : Decide frame (either f g) i (map (redirected 64 j) ys ++ zs)
-    decide_either = joined 64 j
+    decide_either = led_joined 64 j
         ∙ ap (λ n. led_to met j n zs) (decide_moved frame 64 j f i ys small (omega (arith, seam, fits)) (omega (arith, seam)) (omega (arith, seam, fits)) df)
         ∙ either_end met j zs (truth g (frame_holds frame)) dg fits (truth f (frame_holds frame))
 
@@ -123,13 +123,13 @@ few_formulas [] = omega arith
 few_formulas (f ∷ fs) = omega (arith, some_terms f, few_formulas fs)
 
 module _ (frame : Option (List ℕ)) where
-  pub compiled_tests : (fs : List Formula) (starts : List ℕ) (xs : List Test) → AreCompiled frame fs starts xs → length xs ≡ terms_of_all fs
-  compiled_tests [] starts xs are = ap length are.1
-  compiled_tests (f ∷ fs) starts xs (rest, i, e, size, d, are) = omega (arith, size, length-take-le i xs (omega (arith, size)), compiled_tests fs rest (take i xs) are)
+  pub compiled_tests : (fs : List Formula) (starts : List ℕ) (xs : List Test) → AreCompiled frame fs starts xs → length xs ≤ terms_of_all fs
+  compiled_tests [] starts xs are = omega (arith, ap length are.1)
+  compiled_tests (f ∷ fs) starts xs (rest, i, e, some, size, d, are) = omega (arith, size, length-take-le i xs (omega (arith, some)), compiled_tests fs rest (take i xs) are)
 
   pub compiled_starts : (fs : List Formula) (starts : List ℕ) (xs : List Test) → AreCompiled frame fs starts xs → length starts ≡ length fs
   compiled_starts [] starts xs are = ap length are.0
-  compiled_starts (f ∷ fs) starts xs (rest, i, e, size, d, are) = omega (arith, ap length e, length-append rest (i ∷ []), compiled_starts fs rest (take i xs) are)
+  compiled_starts (f ∷ fs) starts xs (rest, i, e, some, size, d, are) = omega (arith, ap length e, length-append rest (i ∷ []), compiled_starts fs rest (take i xs) are)
 
   -- one more test
   pub test_added : (t : Term) (x : Test) (fs : List Formula) (starts more : List ℕ) (xs ys : List Test) → frame_meets frame x ≡ frame_holds frame t → x.if_met ≡ 64 → x.if_not ≡ 65
@@ -139,38 +139,40 @@ module _ (frame : Option (List ℕ)) where
       let last : drop i ys ≡ x ∷ [] = ap (drop i) tests ∙ drop-append_seam xs (x ∷ []) in
       let front : take i ys ≡ xs = ap (take i) tests ∙ take-append_seam xs (x ∷ []) in
       let led : Decide frame (single t) i (x ∷ []) = grind (arith, common_steps, eqb_tells, same, met, not_met) in
-      (starts, i, begin, omega (arith, ap length tests, length-append xs (x ∷ [])), subst (Decide frame (single t) i) (sym last) led, subst (AreCompiled frame fs starts) (sym front) are)
+      let len : length ys ≡ i + 1 = omega (arith, ap length tests, length-append xs (x ∷ [])) in
+      (starts, i, begin, omega (arith, len), omega (arith, len), subst (Decide frame (single t) i) (sym last) led, subst (AreCompiled frame fs starts) (sym front) are)
 
   -- a formula with the same truth
   pub same_truth : (f g : Formula) (fs : List Formula) (starts : List ℕ) (xs : List Test) → terms_of g ≡ terms_of f → truth g (frame_holds frame) ≡ truth f (frame_holds frame)
       → AreCompiled frame (f ∷ fs) starts xs → AreCompiled frame (g ∷ fs) starts xs
-  same_truth f g fs starts xs terms same (rest, i, e, size, d, are) = (rest, i, e, omega (arith, size, terms), d ∙ ap (λ t. if t then 64 else 65) (sym same), are)
+  same_truth f g fs starts xs terms same (rest, i, e, some, size, d, are) = (rest, i, e, some, omega (arith, size, terms), d ∙ ap (λ t. if t then 64 else 65) (sym same), are)
 
   pub negation_compiled : (f : Formula) (fs : List Formula) (starts : List ℕ) (xs ys : List Test) → terms_of_all (f ∷ fs) ≤ 64
       → ((rest : List ℕ) (i : ℕ) → starts ≡ rest ++ i ∷ [] → i ≤ length xs → ys ≡ redirected_from i 65 64 xs) → AreCompiled frame (f ∷ fs) starts xs → AreCompiled frame (negation f ∷ fs) starts ys
-  negation_compiled f fs starts xs ys few to (rest, i, e, size, d, are) =
-      let all : length xs ≤ 64 = omega (arith, few, compiled_tests (f ∷ fs) starts xs (rest, i, e, size, d, are)) in
-      let is : ys ≡ redirected_from i 65 64 xs = to rest i e (omega (arith, size)) in
-      let at : length (take i xs) ≡ i = length-take-le i xs (omega (arith, size)) in
+  negation_compiled f fs starts xs ys few to (rest, i, e, some, size, d, are) =
+      let all : length xs ≤ 64 = omega (arith, few, compiled_tests (f ∷ fs) starts xs (rest, i, e, some, size, d, are)) in
+      let is : ys ≡ redirected_from i 65 64 xs = to rest i e (omega (arith, some)) in
+      let at : length (take i xs) ≡ i = length-take-le i xs (omega (arith, some)) in
       let front : take i ys ≡ take i xs = ap (take i) is ∙ take_at (take i xs) (map (redirected 65 64) (drop i xs)) i at in
       let back : drop i ys ≡ map (redirected 65 64) (drop i xs) = ap (drop i) is ∙ drop_at (take i xs) (map (redirected 65 64) (drop i xs)) i at in
-      let len : length ys ≡ length xs = omega (arith, size, at, ap length is, length-append (take i xs) (map (redirected 65 64) (drop i xs)), length-map (drop i xs) (redirected 65 64), length-drop i xs) in (
+      let len : length ys ≡ length xs = omega (arith, some, at, ap length is, length-append (take i xs) (map (redirected 65 64) (drop i xs)), length-map (drop i xs) (redirected 65 64), length-drop i xs) in (
         rest,
         i,
         e,
+        omega (arith, some, len),
         omega (arith, size, len),
-        subst (Decide frame (negation f) i) (sym back) (decide_negation frame f i (drop i xs) (omega (arith, size, all, some_terms f)) (omega (arith, size, all, length-drop i xs)) d),
+        subst (Decide frame (negation f) i) (sym back) (decide_negation frame f i (drop i xs) (omega (arith, some, all)) (omega (arith, some, all, length-drop i xs)) d),
         subst (AreCompiled frame fs rest) (sym front) are,
       )
 
   -- the last start is popped
-  top_popped : (g : Formula) (fs : List Formula) (starts mid : List ℕ) (j : ℕ) (xs : List Test) → starts ≡ mid ++ j ∷ [] → AreCompiled frame (g ∷ fs) starts xs
-      → (j + terms_of g ≡ length xs) × Decide frame g j (drop j xs) × AreCompiled frame fs mid (take j xs)
-  top_popped g fs starts mid j xs popped (rest, i, e, size, d, are) =
+  pub top_popped : (g : Formula) (fs : List Formula) (starts mid : List ℕ) (j : ℕ) (xs : List Test) → starts ≡ mid ++ j ∷ [] → AreCompiled frame (g ∷ fs) starts xs
+      → (j < length xs) × (length xs ≤ j + terms_of g) × Decide frame g j (drop j xs) × AreCompiled frame fs mid (take j xs)
+  top_popped g fs starts mid j xs popped (rest, i, e, some, size, d, are) =
       let s : (rest ≡ mid) × (i ≡ j) = same_from_push rest mid i j (sym e ∙ popped) in
-      let at : (j + terms_of g ≡ length xs) × Decide frame g j (drop j xs) × AreCompiled frame fs rest (take j xs) =
-      subst (λ k. (k + terms_of g ≡ length xs) × Decide frame g k (drop k xs) × AreCompiled frame fs rest (take k xs)) s.1 (size, d, are) in
-      (at.0, at.1, subst (λ r. AreCompiled frame fs r (take j xs)) s.0 at.2)
+      let at : (j < length xs) × (length xs ≤ j + terms_of g) × Decide frame g j (drop j xs) × AreCompiled frame fs rest (take j xs) =
+      subst (λ k. (k < length xs) × (length xs ≤ k + terms_of g) × Decide frame g k (drop k xs) × AreCompiled frame fs rest (take k xs)) s.1 (some, size, d, are) in
+      (at.0, at.1, at.2, subst (λ r. AreCompiled frame fs r (take j xs)) s.0 at.3)
 
   -- the last two formulas are joined
   module _ (f g : Formula) (fs : List Formula) (starts mid : List ℕ) (j : ℕ) (xs ys : List Test) (a b : ℕ) (few : terms_of_all (g ∷ f ∷ fs) ≤ 64) (popped : starts ≡ mid ++ j ∷ [])
@@ -182,22 +184,23 @@ module _ (frame : Option (List ℕ)) where
       all : length xs ≤ 64
       all = omega (arith, few, compiled_tests (g ∷ f ∷ fs) starts xs w)
 
-      second : (j + terms_of g ≡ length xs) × Decide frame g j (drop j xs) × AreCompiled frame (f ∷ fs) mid (take j xs) → AreCompiled frame (h ∷ fs) mid ys
-      second (size_g, dg, (rest, i, e, size_f, df, are)) =
-          let head : length (take j xs) ≡ j = length-take-le j xs (omega (arith, size_g)) in
+      second : (j < length xs) × (length xs ≤ j + terms_of g) × Decide frame g j (drop j xs) × AreCompiled frame (f ∷ fs) mid (take j xs) → AreCompiled frame (h ∷ fs) mid ys
+      second (some_g, size_g, dg, (rest, i, e, some_f, size_f, df, are)) =
+          let head : length (take j xs) ≡ j = length-take-le j xs (omega (arith, some_g)) in
           let fs_tests : List Test = take i (take j xs) in
           let f_tests : List Test = drop i (take j xs) in
-          let at : length fs_tests ≡ i = length-take-le i (take j xs) (omega (arith, size_f)) in
-          let is : ys ≡ fs_tests ++ (map (redirected a b) f_tests ++ drop j xs) = to rest i e (omega (arith, size_f, head)) (omega (arith, size_g)) ∙ append_assoc fs_tests (map (redirected a b) f_tests) (drop j xs) in
+          let at : length fs_tests ≡ i = length-take-le i (take j xs) (omega (arith, some_f)) in
+          let is : ys ≡ fs_tests ++ (map (redirected a b) f_tests ++ drop j xs) = to rest i e (omega (arith, some_f, head)) (omega (arith, some_g)) ∙ append_assoc fs_tests (map (redirected a b) f_tests) (drop j xs) in
           let front : take i ys ≡ fs_tests = ap (take i) is ∙ take_at fs_tests (map (redirected a b) f_tests ++ drop j xs) i at in
           let back : drop i ys ≡ map (redirected a b) f_tests ++ drop j xs = ap (drop i) is ∙ drop_at fs_tests (map (redirected a b) f_tests ++ drop j xs) i at in
-          let f_len : j ≡ i + length f_tests = omega (arith, head, size_f, length-drop i (take j xs)) in
-          let len : length ys ≡ length xs = omega (arith, at, f_len, size_g, ap length is, length-append fs_tests (map (redirected a b) f_tests ++ drop j xs), length-append (map (redirected a b) f_tests) (drop j xs), length-map f_tests (redirected a b), length-drop j xs) in (
+          let f_len : j ≡ i + length f_tests = omega (arith, head, some_f, length-drop i (take j xs)) in
+          let len : length ys ≡ length xs = omega (arith, at, f_len, some_g, ap length is, length-append fs_tests (map (redirected a b) f_tests ++ drop j xs), length-append (map (redirected a b) f_tests) (drop j xs), length-map f_tests (redirected a b), length-drop j xs) in (
             rest,
             i,
             e,
+            omega (arith, some_f, head, some_g, len),
             omega (arith, terms, size_g, size_f, head, len),
-            subst (Decide frame h i) (sym back) (decide i f_tests df dg f_len (omega (arith, all, size_g, length-drop j xs)) (omega (arith, all, size_g, size_f, head, some_terms g))),
+            subst (Decide frame h i) (sym back) (decide i f_tests df dg f_len (omega (arith, all, some_g, length-drop j xs)) (omega (arith, all, some_g, some_f, head))),
             subst (AreCompiled frame fs rest) (sym front) are,
           )
 
@@ -282,19 +285,26 @@ module _ (frame : Option (List ℕ)) (k : ℕ) where
   none_joined false (f ∷ []) starts xs few are = are
 
   -- the last two formulas are joined, and the result is negated
-  pub two_joined : (is_and : Bool) (fs : List Formula) (starts mid last : List ℕ) (j : ℕ) (xs ys zs : List Test) → 2 ≤ length starts → starts ≡ mid ++ j ∷ []
+  pub two_joined : (is_and : Bool) (fs : List Formula) (starts mid more last : List ℕ) (j : ℕ) (xs ys zs : List Test) → 2 ≤ length starts → starts ≡ mid ++ j ∷ []
       → terms_of_all (after_step (if is_and then And else Or) k fs) ≤ 64
-      → ((rest : List ℕ) (i : ℕ) → mid ≡ rest ++ i ∷ [] → i ≤ j → j ≤ length xs → ys ≡ redirected_from i (if is_and then j else 64) (if is_and then 65 else j) (take j xs) ++ drop j xs)
-      → ((h : Formula) (gs : List Formula) → terms_of h + terms_of_all gs ≤ 64 → AreCompiled frame (h ∷ gs) mid ys → AreCompiled frame (negated k h ∷ gs) last zs)
+      → ((f g : Formula) (gs : List Formula) → terms_of g + (terms_of f + terms_of_all gs) ≤ 64 → AreCompiled frame (g ∷ f ∷ gs) (mid ++ j ∷ []) xs → AreCompiled frame (joined is_and f g ∷ gs) more ys)
+      → ((h : Formula) (gs : List Formula) → terms_of h + terms_of_all gs ≤ 64 → AreCompiled frame (h ∷ gs) more ys → AreCompiled frame (negated k h ∷ gs) last zs)
       → AreCompiled frame fs starts xs → AreCompiled frame (after_step (if is_and then And else Or) k fs) last zs
-  two_joined is_and [] starts mid last j xs ys zs two popped few to negate are = absurd (omega (arith, two, compiled_starts frame [] starts xs are))
-  two_joined is_and (f ∷ []) starts mid last j xs ys zs two popped few to negate are = absurd (omega (arith, two, compiled_starts frame (f ∷ []) starts xs are))
-  two_joined true (g ∷ f ∷ fs) starts mid last j xs ys zs two popped few to negate are =
-      let all : terms_of f + terms_of g + terms_of_all fs ≤ 64 = omega (arith, few, negated-terms k (both f g)) in
-      negate (both f g) fs all (two_compiled frame f g fs starts mid j xs ys j 65 (omega (arith, all)) popped to (both f g) refl (λ i front df dg seam fits small. decide_both frame f g i j front (drop j xs) df dg seam fits small) are)
-  two_joined false (g ∷ f ∷ fs) starts mid last j xs ys zs two popped few to negate are =
-      let all : terms_of f + terms_of g + terms_of_all fs ≤ 64 = omega (arith, few, negated-terms k (either f g)) in
-      negate (either f g) fs all (two_compiled frame f g fs starts mid j xs ys 64 j (omega (arith, all)) popped to (either f g) refl (λ i front df dg seam fits small. decide_either frame f g i j front (drop j xs) df dg seam fits small) are)
+  two_joined is_and [] starts mid more last j xs ys zs two popped few join negate are = absurd (omega (arith, two, compiled_starts frame [] starts xs are))
+  two_joined is_and (f ∷ []) starts mid more last j xs ys zs two popped few join negate are = absurd (omega (arith, two, compiled_starts frame (f ∷ []) starts xs are))
+  two_joined true (g ∷ f ∷ fs) starts mid more last j xs ys zs two popped few join negate are =
+      negate (both f g) fs (omega (arith, few, negated-terms k (both f g))) (join f g fs (omega (arith, few, negated-terms k (both f g))) (subst (λ st. AreCompiled frame (g ∷ f ∷ fs) st xs) popped are))
+  two_joined false (g ∷ f ∷ fs) starts mid more last j xs ys zs two popped few join negate are =
+      negate (either f g) fs (omega (arith, few, negated-terms k (either f g))) (join f g fs (omega (arith, few, negated-terms k (either f g))) (subst (λ st. AreCompiled frame (g ∷ f ∷ fs) st xs) popped are))
+
+-- the tests of the first of two formulas lead on to those of the second
+pub in_order : (frame : Option (List ℕ)) (is_and : Bool) (f g : Formula) (fs : List Formula) (mid : List ℕ) (j : ℕ) (xs ys : List Test) → terms_of g + (terms_of f + terms_of_all fs) ≤ 64
+    → ((rest : List ℕ) (i : ℕ) → mid ≡ rest ++ i ∷ [] → i ≤ j → j ≤ length xs → ys ≡ redirected_from i (if is_and then j else 64) (if is_and then 65 else j) (take j xs) ++ drop j xs)
+    → AreCompiled frame (g ∷ f ∷ fs) (mid ++ j ∷ []) xs → AreCompiled frame (joined is_and f g ∷ fs) mid ys
+in_order frame true f g fs mid j xs ys few to are =
+    two_compiled frame f g fs (mid ++ j ∷ []) mid j xs ys j 65 few refl to (both f g) refl (λ i front df dg seam fits small. decide_both frame f g i j front (drop j xs) df dg seam fits small) are
+in_order frame false f g fs mid j xs ys few to are =
+    two_compiled frame f g fs (mid ++ j ∷ []) mid j xs ys 64 j few refl to (either f g) refl (λ i front df dg seam fits small. decide_either frame f g i j front (drop j xs) df dg seam fits small) are
 
 -- the last item was popped
 pub popped_last : (old new : List ℕ) (o : Option ℕ) → old ≡ new ++ option_to_list o → IsSome o → old ≡ new ++ unwrap_or o 0 ∷ []
@@ -349,8 +359,8 @@ advance steps i d starts more xs ys within reads w =
     }
 
 compiled_alone : (frame : Option (List ℕ)) (f : Formula) (starts : List ℕ) (xs : List Test) → AreCompiled frame (f ∷ []) starts xs → passes xs (frame_meets frame) ≡ truth f (frame_holds frame)
-compiled_alone frame f starts xs (rest, i, e, size, d, (no_rest, no_tests)) =
-    let first : i ≡ 0 = omega (arith, size, ap length no_tests, length-take-le i xs (omega (arith, size))) in
+compiled_alone frame f starts xs (rest, i, e, some, size, d, (no_rest, no_tests)) =
+    let first : i ≡ 0 = omega (arith, ap length no_tests, length-take-le i xs (omega (arith, some))) in
     let led : Decide frame f 0 xs = subst (λ k. Decide frame f k (drop k xs)) first d in
     ap (λ n. n == 64) led ∙ passed (truth f (frame_holds frame)) where
       passed : (t : Bool) → ((if t then 64 else 65) == 64) ≡ t

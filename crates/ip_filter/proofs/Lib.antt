@@ -26,3 +26,4 @@ mod MaskLemmas
 mod TestLemmas
 mod ProgramLemmas
 mod CompileLemmas
+mod JoinLemmas

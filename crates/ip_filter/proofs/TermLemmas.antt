@@ -17,13 +17,14 @@ use Rattle.ip_filter.specs.declared.keyword.AddressKeyword.TheVariants as addres
 use Rattle.ip_filter.specs.declared.parse_term.Side.{Side}
 use Rattle.ip_filter.specs.declared.parse_error.Expected.{Expected}
 use Rattle.ip_filter.specs.declared.parse_error.Expected.TheVariants as expects
+use Rattle.ip_base.specs.declared.err.layer.Layer.{Layer}
 use Rattle.ip_filter.specs.declared.term.FaultKind.{FaultKind}
 use Rattle.ip_filter.specs.declared.network.Network.{Network}
 use Rattle.ip_filter.specs.declared.words.Word.{Word as FirstWord}
 use Rattle.ip_filter.specs.Words.{Word, words}
-use Rattle.ip_filter.specs.Numbers.{version_of, header_of, protocol_of, number_up_to, ports_of, tcp_flags_of, names_in, comparison_of, fault_kind_of, IsNetworkText, IsHostText}
+use Rattle.ip_filter.specs.Numbers.{version_of, header_of, protocol_of, number_up_to, ports_of, tcp_flags_of, names_in, comparison_of, fault_kind_of, layer_of, IsNetworkText, IsHostText}
 use Rattle.ip_filter.specs.Grammar.{AreArguments, IsOne, Finds, Make, AreCompared, AreSide, source, destination, is_and, is_or}
-use Rattle.ip_filter.specs.Reading.{IsFirstWord, ReadsArgument, RefusesArgument, ReadsArguments, RefusesArguments, ReadsTerm, RefusesTerm, WantsArgument, IsKeyword, IsCountKeyword, IsNumberKeyword, IsByteKeyword, IsSideKeyword, ends_term}
+use Rattle.ip_filter.specs.Reading.{IsFirstWord, BeginsOtherwise, ReadsArgument, RefusesArgument, ReadsArguments, RefusesArguments, ReadsTerm, RefusesTerm, WantsArgument, IsKeyword, IsCountKeyword, IsNumberKeyword, IsByteKeyword, IsSideKeyword, ends_term}
 use Rattle.ip_filter.proofs.NetworkTextLemmas.{one_network, some_network, some_host}
 use Rattle.ip_filter.proofs.WordLemmas.{or_cases, either_word, same_word}
 use Rattle.ip_filter.proofs.PlaceLemmas.{whole, end_of_end, from_place, place_in_end}
@@ -134,39 +135,58 @@ module _ {A : Type 0} (k : Keyword) (Write : List Word → A → Type 0) (make :
         r.none i.0 us ws more i.1 same next;
   }
 
--- ---- `fault`, which a kind may follow
+-- ---- keywords that a word may follow
 
-module _ (w : Word) (ws : List Word) (kind : FaultKind) (found : fault_kind_of w ≡ Some kind) where
-  -- it doesn't end a term
-  goes_on : IsTrue (ends_term (w ∷ ws)) → ⊥
-  goes_on e =
-      let NoKind = λ (l : Word). fault_kind_of l ≡ None in
-      let none : NoKind w = elim (or_cases (is_and w || is_or w) (bytes_eq w (codes ")")) e) [
-        | inl a ↦ elim (or_cases (is_and w) (is_or w) a) [ inl b ↦ either_word NoKind w (codes "and") (codes "&&") b refl refl | inr b ↦ either_word NoKind w (codes "or") (codes "||") b refl refl ]
-        | inr x ↦ ap fault_kind_of (same_word w (codes ")") x)
+-- what such a word isn't
+module _ {A : Type 0} (find : Word → Option A) (no_and : find (codes "and") ≡ None) (no_and_sign : find (codes "&&") ≡ None) (no_or : find (codes "or") ≡ None) (no_or_sign : find (codes "||") ≡ None) (no_close : find (codes ")") ≡ None) where
+  goes_on : (w : Word) (ws : List Word) (a : A) → find w ≡ Some a → IsTrue (ends_term (w ∷ ws)) → ⊥
+  goes_on w ws a found e =
+      let IsNone = λ (l : Word). find l ≡ None in
+      let none : IsNone w = elim (or_cases (is_and w || is_or w) (bytes_eq w (codes ")")) e) [
+        | inl a ↦ elim (or_cases (is_and w) (is_or w) a) [ inl b ↦ either_word IsNone w (codes "and") (codes "&&") b no_and no_and_sign | inr b ↦ either_word IsNone w (codes "or") (codes "||") b no_or no_or_sign ]
+        | inr x ↦ ap find (same_word w (codes ")") x) ∙ no_close
       ] in
       cc (sym found ∙ none)
 
-pub fault_of : (text : List ℕ) (w : FirstWord) (kind : FaultKind) → IsFirstWord text w → Some kind ≡ fault_kind_of w.bytes.now
-    → ReadsTerm keyword.Fault text (term.FaultOf kind) w.rest.now
-fault_of text w kind is found = record {
-  args = w.bytes.now ∷ [];
-  begins = is.begins;
-  arguments = inr (kind, (w.bytes.now, refl, sym found), refl);
-  end = is.end;
+kind_goes_on : (w : Word) (ws : List Word) (kind : FaultKind) → fault_kind_of w ≡ Some kind → IsTrue (ends_term (w ∷ ws)) → ⊥
+kind_goes_on = goes_on fault_kind_of refl refl refl refl refl
+
+layer_goes_on : (w : Word) (ws : List Word) (l : Layer) → layer_of w ≡ Some l → IsTrue (ends_term (w ∷ ws)) → ⊥
+layer_goes_on = goes_on layer_of refl refl refl refl refl
+
+no_word : {A : Type 0} (find : Word → Option A) (text : List ℕ) → words text ≡ [] → BeginsOtherwise find text
+no_word find text e w one = absurd (cc (ap (take 1) (sym e) ∙ one))
+
+other_word : {A : Type 0} (find : Word → Option A) (text : List ℕ) (w : FirstWord) → IsFirstWord text w → None ≡ find w.bytes.now → BeginsOtherwise find text
+other_word find text w is none v one = let same : v ≡ w.bytes.now = cc (sym one ∙ ap (take 1) is.begins) in ap find same ∙ sym none
+
+pub no_word_is_no_layer : (text : List ℕ) → words text ≡ [] → BeginsOtherwise layer_of text
+no_word_is_no_layer text e = no_word layer_of text e
+
+pub other_is_no_layer : (text : List ℕ) (w : FirstWord) → IsFirstWord text w → None ≡ layer_of w.bytes.now → BeginsOtherwise layer_of text
+other_is_no_layer text w is none = other_word layer_of text w is none
+
+-- ---- `truncated`, which a layer may follow
+
+pub truncated_at : (text rest : List ℕ) (l : Layer) → ReadsArgument (Finds layer_of) text l rest → ReadsTerm keyword.Truncated text (term.TruncatedAt l) rest
+truncated_at text rest l r = record {
+  args = r.word ∷ [];
+  begins = r.begins;
+  arguments = inr (l, (r.word, refl, r.writes), refl);
+  end = r.end;
   only = λ u us ws more au ends same next. elim au [
     | inl plain ↦
-        let all : more ≡ w.bytes.now ∷ ws = sym (ap (λ x. x ++ more) plain.0) ∙ same in
-        absurd (goes_on w.bytes.now ws kind (sym found) (subst (λ x. IsTrue (ends_term x)) all ends))
+        let all : more ≡ r.word ∷ ws = sym (ap (λ x. x ++ more) plain.0) ∙ same in
+        absurd (layer_goes_on r.word ws l r.writes (subst (λ x. IsTrue (ends_term x)) all ends))
     | inr f ↦
-        let head : f.1.0 ≡ w.bytes.now = cc (sym (ap (λ x. x ++ more) f.1.1) ∙ same) in
-        let again : f.0 ≡ kind = found_once fault_kind_of w.bytes.now f.0 kind (subst (λ x. Finds fault_kind_of x f.0) head f.1.2) (sym found) in
-        (f.2 ∙ ap term.FaultOf again, f.1.1 ∙ ap (λ x. x ∷ []) head)
+        let head : f.1.0 ≡ r.word = cc (sym (ap (λ x. x ++ more) f.1.1) ∙ same) in
+        let again : f.0 ≡ l = found_once layer_of r.word f.0 l (subst (λ x. Finds layer_of x f.0) head f.1.2) r.writes in
+        (f.2 ∙ ap term.TruncatedAt again, f.1.1 ∙ ap (λ x. x ∷ []) head)
   ];
 }
 
-pub plain_fault : (text : List ℕ) → ((w : Word) → take 1 (words text) ≡ w ∷ [] → fault_kind_of w ≡ None) → ReadsTerm keyword.Fault text term.Fault text
-plain_fault text none = record {
+pub plain_truncated : (text : List ℕ) → BeginsOtherwise layer_of text → ReadsTerm keyword.Truncated text term.Truncated text
+plain_truncated text none = record {
   args = [];
   begins = refl;
   arguments = inl (refl, refl);
@@ -179,11 +199,80 @@ plain_fault text none = record {
   ];
 }
 
+-- ---- `fault`, which a kind may follow, and then a layer
+
+module _ (text : List ℕ) (w : FirstWord) (kind : FaultKind) (is : IsFirstWord text w) (found : Some kind ≡ fault_kind_of w.bytes.now) where
+  not_plain : (ws more : List Word) → more ≡ w.bytes.now ∷ ws → IsTrue (ends_term more) → ⊥
+  not_plain ws more all ends = kind_goes_on w.bytes.now ws kind (sym found) (subst (λ x. IsTrue (ends_term x)) all ends)
+
+  same_kind : (v : Word) (k : FaultKind) → v ≡ w.bytes.now → fault_kind_of v ≡ Some k → k ≡ kind
+  same_kind v k head finds = found_once fault_kind_of w.bytes.now k kind (subst (λ x. Finds fault_kind_of x k) head finds) (sym found)
+
+  pub fault_of : BeginsOtherwise layer_of w.rest.now → ReadsTerm keyword.Fault text (term.FaultOf kind) w.rest.now
+  fault_of none = record {
+    args = w.bytes.now ∷ [];
+    begins = is.begins;
+    arguments = inr (inl (kind, (w.bytes.now, refl, sym found), refl));
+    end = is.end;
+    only = λ u us ws more au ends same next. elim au [
+      | inl plain ↦ absurd (not_plain ws more (sym (ap (λ x. x ++ more) plain.0) ∙ same) ends)
+      | inr one_or_two ↦ elim one_or_two [
+        | inl f ↦
+            let head : f.1.0 ≡ w.bytes.now = cc (sym (ap (λ x. x ++ more) f.1.1) ∙ same) in
+            (f.2 ∙ ap term.FaultOf (same_kind f.1.0 f.0 head f.1.2), f.1.1 ∙ ap (λ x. x ∷ []) head)
+        | inr g ↦
+            let all : g.1.0 ∷ g.1.1 ∷ more ≡ w.bytes.now ∷ ws = sym (ap (λ x. x ++ more) g.1.2) ∙ same in
+            let rest : ws ≡ g.1.1 ∷ more = cc all in
+            absurd (cc (sym g.1.4 ∙ none g.1.1 (sym next ∙ ap (take 1) rest)))
+      ]
+    ];
+  }
+
+  pub fault_at : (rest : List ℕ) (l : Layer) → ReadsArgument (Finds layer_of) w.rest.now l rest → ReadsTerm keyword.Fault text (term.FaultAt kind l) rest
+  fault_at rest l r = record {
+    args = w.bytes.now ∷ r.word ∷ [];
+    begins = is.begins ∙ ap (λ ws. w.bytes.now ∷ ws) r.begins;
+    arguments = inr (inr ((kind, l), (w.bytes.now, r.word, refl, sym found, r.writes), refl));
+    end = end_of_end text w.rest.now is.end rest r.end;
+    only = λ u us ws more au ends same next. elim au [
+      | inl plain ↦ absurd (not_plain (r.word ∷ ws) more (sym (ap (λ x. x ++ more) plain.0) ∙ same) ends)
+      | inr one_or_two ↦ elim one_or_two [
+        | inl f ↦
+            let all : f.1.0 ∷ more ≡ w.bytes.now ∷ r.word ∷ ws = sym (ap (λ x. x ++ more) f.1.1) ∙ same in
+            let after : more ≡ r.word ∷ ws = cc all in
+            absurd (layer_goes_on r.word ws l r.writes (subst (λ x. IsTrue (ends_term x)) after ends))
+        | inr g ↦
+            let all : g.1.0 ∷ g.1.1 ∷ more ≡ w.bytes.now ∷ r.word ∷ ws = sym (ap (λ x. x ++ more) g.1.2) ∙ same in
+            let head : g.1.0 ≡ w.bytes.now = cc all in
+            let second : g.1.1 ≡ r.word = cc all in
+            let again : g.0.1 ≡ l = found_once layer_of r.word g.0.1 l (subst (λ x. Finds layer_of x g.0.1) second g.1.4) r.writes in (
+              g.2 ∙ ap (λ k. term.FaultAt k g.0.1) (same_kind g.1.0 g.0.0 head g.1.3) ∙ ap (term.FaultAt kind) again,
+              g.1.2 ∙ ap (λ x. x ∷ g.1.1 ∷ []) head ∙ ap (λ x. w.bytes.now ∷ x ∷ []) second,
+            )
+      ]
+    ];
+  }
+
+plain_fault : (text : List ℕ) → BeginsOtherwise fault_kind_of text → ReadsTerm keyword.Fault text term.Fault text
+plain_fault text none = record {
+  args = [];
+  begins = refl;
+  arguments = inl (refl, refl);
+  end = whole text;
+  only = λ u us ws more au ends same next. elim au [
+    | inl plain ↦ (plain.1, plain.0)
+    | inr one_or_two ↦ elim one_or_two [
+      | inl f ↦ absurd (cc (sym f.1.2 ∙ none f.1.0 (sym next ∙ ap (take 1) (sym same) ∙ ap (λ x. take 1 (x ++ more)) f.1.1)))
+      | inr g ↦ absurd (cc (sym g.1.3 ∙ none g.1.0 (sym next ∙ ap (take 1) (sym same) ∙ ap (λ x. take 1 (x ++ more)) g.1.2)))
+    ]
+  ];
+}
+
 pub no_word_is_no_kind : (text : List ℕ) → words text ≡ [] → ReadsTerm keyword.Fault text term.Fault text
-no_word_is_no_kind text e = plain_fault text (λ w one. absurd (cc (ap (take 1) (sym e) ∙ one)))
+no_word_is_no_kind text e = plain_fault text (no_word fault_kind_of text e)
 
 pub other_is_no_kind : (text : List ℕ) (w : FirstWord) → IsFirstWord text w → None ≡ fault_kind_of w.bytes.now → ReadsTerm keyword.Fault text term.Fault text
-other_is_no_kind text w is none = plain_fault text (λ v one. let same : v ≡ w.bytes.now = cc (sym one ∙ ap (take 1) is.begins) in ap fault_kind_of same ∙ sym none)
+other_is_no_kind text w is none = plain_fault text (other_word fault_kind_of text w is none)
 
 -- ---- terms by their keywords
 

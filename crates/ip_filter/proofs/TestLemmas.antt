@@ -1,5 +1,5 @@
 -- Tests whose kind determines what they ask.
-use Rattle.ip_spec.proofs.Common.{◌≡◌, ℕ, refl, ◌∙◌, false, ◌==◌, ◌||◌, Some, option_map_or, list_any}
+use Rattle.ip_spec.proofs.Common.{◌≡◌, ℕ, refl, ◌∙◌, false, ◌==◌, ◌&&◌, ◌||◌, Some, option_map_or, list_any}
 use Rattle.ip_dissect.specs.Dissection.{DissectedParts}
 use Rattle.ip_filter.specs.declared.term.Comparison.{Comparison}
 use Rattle.ip_filter.specs.declared.term.Quantity.{Quantity}
@@ -7,12 +7,17 @@ use Rattle.ip_filter.specs.declared.term.Ports.{Ports}
 use Rattle.ip_filter.specs.declared.filter.Test.{Test}
 use Rattle.ip_filter.specs.HeaderFields.{has_segments_left}
 use Rattle.ip_filter.specs.Transport.{source_port, destination_port, are_among, icmp_byte}
-use Rattle.ip_filter.specs.Truth.{compares, some_fragment, quantity_of}
+use Rattle.ip_filter.specs.Truth.{compares, is_in_layer, some_fragment, quantity_of}
+use Rattle.ip_filter.specs.Flags.{any_flag}
 use Rattle.ip_filter.specs.Tests.{meets, compared, comparison_in}
 
 -- a test of an identification
 pub by_identification : (x : Test) (n : ℕ) (p : DissectedParts) → x.kind ≡ 7 → x.number ≡ n → meets x p ≡ some_fragment (λ y. y.identification == n) p
 by_identification x n p kind number = rw (kind, number) refl
+
+-- a test of flags by an error in a layer
+pub by_layer : (x : Test) (m l : ℕ) (p : DissectedParts) → x.kind ≡ 26 → x.number ≡ l → x.address_low ≡ m → meets x p ≡ (any_flag 64 m p && is_in_layer l p.end)
+by_layer x m l p kind number low = rw (kind, number, low) refl
 
 -- a test of either port
 pub by_port : (x : Test) (r : Ports) (p : DissectedParts) → x.kind ≡ 18 → x.number ≡ r.first → x.address_low ≡ r.last → meets x p ≡ (option_map_or (are_among r) (source_port p) false || option_map_or (are_among r) (destination_port p) false)

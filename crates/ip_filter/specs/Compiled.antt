@@ -1,5 +1,5 @@
 -- What a formula's steps are compiled to.
-use Rattle.std.specs.Prelude.{◌≡◌, ◌+◌, ℕ, List, [], ◌∷◌, ◌++◌, length, take, drop, map, ◌==◌, if◌then◌else◌, Option}
+use Rattle.std.specs.Prelude.{◌≡◌, ◌+◌, ◌<◌, ◌≤◌, ℕ, List, [], ◌∷◌, ◌++◌, length, take, drop, map, ◌==◌, if◌then◌else◌, nat_lt, Bool, Option}
 use Rattle.ip_filter.specs.Formula.{Formula, single, negation, both, either, truth}
 use Rattle.ip_filter.specs.Tests.{frame_meets}
 use Rattle.ip_filter.specs.Program.{led_to, frame_holds}
@@ -16,15 +16,28 @@ abbrev pub terms_of_all : List Formula → ℕ
 terms_of_all [] = 0
 terms_of_all (f ∷ fs) = terms_of f + terms_of_all fs
 
+-- the last two formulas, joined
+abbrev pub joined : Bool → Formula → Formula → Formula
+joined is_and f g = if is_and then both f g else either f g
+
+-- the index to which an operand leads that decides: a false one of `and`, a true one of `or`
+abbrev pub decided : Bool → ℕ
+decided is_and = if is_and then 65 else 64
+
+-- the index to which a test leads the frame
+abbrev pub led_by : Option (List ℕ) → Test → ℕ
+led_by frame x = if frame_meets frame x then x.if_met else x.if_not
+
 -- The tests `xs`, of which the first has the index i, lead the frame to index 64 if the formula holds of it, otherwise to 65.
 abbrev pub Decide : Option (List ℕ) → Formula → ℕ → List Test → Type 0
 Decide frame f i xs = led_to (frame_meets frame) i i xs ≡ (if truth f (frame_holds frame) then 64 else 65)
 
--- The tests `xs` are those of the formulas, the last formula first: each formula's start at an index of `starts`.
+-- The tests `xs` are those of the formulas, the last formula first: each formula's start at an index of `starts`. A formula
+-- has at least one test, and at most one for each of its terms.
 abbrev pub AreCompiled : Option (List ℕ) → List Formula → List ℕ → List Test → Type 0
 AreCompiled frame [] starts xs = (starts ≡ []) × (xs ≡ [])
 AreCompiled frame (f ∷ fs) starts xs =
-    (rest : List ℕ) × (i : ℕ) × (starts ≡ rest ++ i ∷ []) × (i + terms_of f ≡ length xs) × Decide frame f i (drop i xs)
+    (rest : List ℕ) × (i : ℕ) × (starts ≡ rest ++ i ∷ []) × (i < length xs) × (length xs ≤ i + terms_of f) × Decide frame f i (drop i xs)
     × AreCompiled frame fs rest (take i xs)
 
 -- Of the tests that led to 64 or 65, those lead to a or b.
@@ -37,3 +50,15 @@ redirected a b x = record x { if_met = index_moved a b x.if_met; if_not = index_
 -- The tests from index i on are redirected.
 abbrev pub redirected_from : ℕ → ℕ → ℕ → List Test → List Test
 redirected_from i a b xs = take i xs ++ map (redirected a b) (drop i xs)
+
+-- A test that has moved on by one, with the tests to which it leads.
+abbrev pub index_shifted : ℕ → ℕ
+index_shifted n = if nat_lt n 64 then n + 1 else n
+
+abbrev pub shifted : Test → Test
+shifted x = record x { if_met = index_shifted x.if_met; if_not = index_shifted x.if_not }
+
+-- The tests after x has been put before them: each has moved on by one, and the last one is gone.
+unfoldable pub put_first : Test → List Test → List Test
+put_first x [] = []
+put_first x (y ∷ ys) = x ∷ put_first (shifted y) ys

@@ -2,6 +2,8 @@
 use Rattle.std.specs.Prelude.{◌≡◌, ◌≤◌, ◌+◌, ◌⊎◌, ℕ, suc, List, [], ◌∷◌, ◌++◌, max, Bool, ◌||◌, Option, Some, None, IsTrue, codes, if◌then◌else◌}
 use Rattle.std.specs.Option.{option_map, option_or}
 use Rattle.std.specs.Str.{bytes_eq}
+use Rattle.ip_base.specs.declared.err.layer.Layer.{Layer}
+use Rattle.ip_filter.specs.declared.term.FaultKind.{FaultKind}
 use Rattle.ip_filter.specs.declared.term.Comparison.{Comparison}
 use Rattle.ip_filter.specs.declared.term.Quantity.{Quantity}
 use Rattle.ip_filter.specs.declared.term.Quantity.TheVariants as quantity
@@ -16,7 +18,7 @@ use Rattle.ip_filter.specs.declared.keyword.AddressKeyword.TheVariants as addres
 use Rattle.ip_filter.specs.declared.parse_term.Side.{Side}
 use Rattle.ip_filter.specs.declared.parse_term.Side.TheVariants as side
 use Rattle.ip_filter.specs.Words.{Word}
-use Rattle.ip_filter.specs.Numbers.{version_of, header_of, upper_layer_of, protocol_of, number_up_to, ports_of, tcp_flags_of, comparison_of, fault_kind_of, IsNetworkText, IsHostText}
+use Rattle.ip_filter.specs.Numbers.{version_of, header_of, upper_layer_of, protocol_of, number_up_to, ports_of, tcp_flags_of, comparison_of, fault_kind_of, layer_of, IsNetworkText, IsHostText}
 use Rattle.ip_filter.specs.Formula.{Formula, single, negation, both, either}
 
 -- ---- keywords
@@ -29,7 +31,6 @@ alone w =
     else if bytes_eq w (codes "fragment") then Some term.Fragment
     else if bytes_eq w (codes "first-fragment") then Some term.FirstFragment
     else if bytes_eq w (codes "later-fragment") then Some term.LaterFragment
-    else if bytes_eq w (codes "truncated") then Some term.Truncated
     else if bytes_eq w (codes "incomplete") then Some term.Incomplete
     else if bytes_eq w (codes "no-transport") then Some term.NoTransport
     else option_map term.LeadsTo (upper_layer_of w)
@@ -74,6 +75,7 @@ address_keyword_of w =
 abbrev pub keyword_of : Word → Option Keyword
 keyword_of w =
     if bytes_eq w (codes "fault") then Some keyword.Fault
+    else if bytes_eq w (codes "truncated") then Some keyword.Truncated
     else if bytes_eq w (codes "segments-left") then Some keyword.SegmentsLeft
     else option_or (option_map keyword.Alone (alone w))
     (option_or (option_map keyword.Compared (quantity_named w))
@@ -93,6 +95,10 @@ Finds find w a = find w ≡ Some a
 abbrev pub AreCompared : List Word → Comparison × ℕ → Type 0
 AreCompared args c =
     (o : Word) × (w : Word) × (args ≡ o ∷ w ∷ []) × (comparison_of o ≡ Some c.0) × (number_up_to 18446744073709551615 w ≡ Some c.1)
+
+-- a kind of fault and a layer
+abbrev pub AreFaultAt : List Word → FaultKind × Layer → Type 0
+AreFaultAt args f = (w : Word) × (v : Word) × (args ≡ w ∷ v ∷ []) × (fault_kind_of w ≡ Some f.0) × (layer_of v ≡ Some f.1)
 
 -- a network, or `port` and ports
 abbrev pub AreSide : List Word → Side → Type 0
@@ -133,7 +139,10 @@ AreAddressArguments address.Port args t = Make (IsOne (Finds ports_of)) term.Por
 
 abbrev pub AreArguments : Keyword → List Word → Term → Type 0
 AreArguments (keyword.Alone u) args t = (args ≡ []) × (t ≡ u)
-AreArguments keyword.Fault args t = ((args ≡ []) × (t ≡ term.Fault)) ⊎ Make (IsOne (Finds fault_kind_of)) term.FaultOf args t
+AreArguments keyword.Truncated args t = ((args ≡ []) × (t ≡ term.Truncated)) ⊎ Make (IsOne (Finds layer_of)) term.TruncatedAt args t
+AreArguments keyword.Fault args t =
+    ((args ≡ []) × (t ≡ term.Fault))
+    ⊎ (Make (IsOne (Finds fault_kind_of)) term.FaultOf args t ⊎ Make AreFaultAt (λ f. term.FaultAt f.0 f.1) args t)
 AreArguments (keyword.Number k) args t = AreNumberArguments k args t
 AreArguments (keyword.Compared q) args t = Make AreCompared (λ c. term.Compared q c.0 c.1) args t
 AreArguments keyword.SegmentsLeft args t = Make AreCompared (λ c. term.SegmentsLeft c.0 c.1) args t

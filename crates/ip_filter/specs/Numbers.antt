@@ -9,6 +9,8 @@ use Rattle.std.specs.Net.Addr.{ipv4_bits, ipv6_bits}
 use Rattle.std.specs.Net.Grammar.{IsIpv4Text, IsIpv6Text}
 use Rattle.std.specs.declared.net.ipv4_addr.Ipv4Addr.{Ipv4Addr}
 use Rattle.std.specs.declared.net.ipv6_addr.Ipv6Addr.{Ipv6Addr}
+use Rattle.ip_base.specs.declared.err.layer.Layer.{Layer}
+use Rattle.ip_base.specs.declared.err.layer.Layer.TheVariants as layer
 use Rattle.ip_filter.specs.declared.network.Network.{Network}
 use Rattle.ip_filter.specs.declared.network.Network.TheVariants as network
 use Rattle.ip_filter.specs.declared.term.Ports.{Ports}
@@ -94,6 +96,22 @@ fault_kind_of w =
     else if bytes_eq w (codes "zero-length") then Some kind.ZeroPayloadLen
     else if bytes_eq w (codes "unsupported-version") then Some kind.UnsupportedIpVersion
     else if bytes_eq w (codes "header-length") then Some kind.Ipv4HeaderLength
+    else None
+
+-- the layer of a header that may be truncated or faulty
+abbrev pub layer_of : Word → Option Layer
+layer_of w =
+    if bytes_eq w (codes "IP-header") then Some layer.IpHeader
+    else if bytes_eq w (codes "IPv4-header") then Some layer.Ipv4Header
+    else if bytes_eq w (codes "IPv4-packet") then Some layer.Ipv4Packet
+    else if bytes_eq w (codes "authentication") then Some layer.IpAuthHeader
+    else if bytes_eq w (codes "IPv6-header") then Some layer.Ipv6Header
+    else if bytes_eq w (codes "IPv6-packet") then Some layer.Ipv6Packet
+    else if bytes_eq w (codes "IPv6-extension") then Some layer.Ipv6ExtHeader
+    else if bytes_eq w (codes "hop-by-hop") then Some layer.Ipv6HopByHopHeader
+    else if bytes_eq w (codes "destination-options") then Some layer.Ipv6DestOptionsHeader
+    else if bytes_eq w (codes "routing") then Some layer.Ipv6RouteHeader
+    else if bytes_eq w (codes "fragment") then Some layer.Ipv6FragHeader
     else None
 
 -- how many bytes precede the first such byte

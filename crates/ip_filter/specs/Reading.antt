@@ -1,5 +1,5 @@
 -- What is read of a text, and where it is refused.
-use Rattle.std.specs.Prelude.{◌≡◌, ◌≤◌, ◌<◌, ◌-◌, ◌⊎◌, ℕ, List, [], ◌∷◌, ◌++◌, length, take, drop, slice_index, Bool, true, false, ◌||◌, Some, is_some, IsTrue, codes}
+use Rattle.std.specs.Prelude.{◌≡◌, ◌≤◌, ◌<◌, ◌-◌, ◌⊎◌, ℕ, List, [], ◌∷◌, ◌++◌, length, take, drop, slice_index, Bool, true, false, ◌||◌, Option, Some, None, is_some, IsTrue, codes}
 use Rattle.std.specs.Str.{bytes_eq}
 use Rattle.ip_filter.specs.declared.words.Word.{Word as FirstWord}
 use Rattle.ip_filter.specs.declared.term.Quantity.{Quantity}
@@ -90,6 +90,10 @@ pub record ReadsArgument {A : Type 0} (Writes : Word → A → Type 0) (text : L
 pub record RefusesArgument {A : Type 0} (Writes : Word → A → Type 0) (text : List ℕ) (left : ℕ) : Type 0 where
   pub place : IsPlace text [] left
   pub none : (w : Word) (a : A) → take 1 (words text) ≡ w ∷ [] → Writes w a → ⊥
+
+-- The text has no first word in which `find` finds a value.
+abbrev pub BeginsOtherwise : {A : Type 0} → (Word → Option A) → List ℕ → Type 0
+BeginsOtherwise find text = (w : Word) → take 1 (words text) ≡ w ∷ [] → find w ≡ None
 
 -- The text begins with words that write a, and `rest` follows them. Words that write something and begin like these, up
 -- to the word after them, are these.

@@ -4,7 +4,7 @@ use Rattle.std.specs.List.{list_any}
 use Rattle.std.specs.Option.{option_map, option_map_or}
 use Rattle.ip_dissect.specs.Dissection.{DissectedParts, dissected}
 use Rattle.ip_filter.specs.Transport.{source_port, destination_port, lacks_ports, icmp_byte, tcp_flags}
-use Rattle.ip_filter.specs.Truth.{compares, has_base, has_source, has_destination, some_fragment, quantity_of}
+use Rattle.ip_filter.specs.Truth.{is_in_layer, compares, has_base, has_source, has_destination, some_fragment, quantity_of}
 use Rattle.ip_filter.specs.HeaderFields.{has_option, has_spi, has_routing_type, has_segments_left}
 use Rattle.ip_filter.specs.Flags.{any_flag}
 use Rattle.ip_filter.specs.declared.network.Network.{Network}
@@ -79,6 +79,7 @@ meets x p =
     else if x.kind == 23 then list_any (has_routing_type x.number) p.headers
     else if x.kind == 24 then option_map_or (λ c. list_any (has_segments_left (λ n. compares c n x.number)) p.headers) (comparison_in x.comparison) false
     else if x.kind == 25 then list_any (has_option x.number) p.headers
+    else if x.kind == 26 then any_flag 64 x.address_low p && is_in_layer x.number p.end
     else meets_in_payload x p
 
 -- a frame meets the test: the packet at the start of its bytes does, and a frame that is not IP meets none

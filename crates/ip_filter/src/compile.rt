@@ -1,12 +1,13 @@
 //! Compiles a formula's steps to tests.
-ghost use Rattle.std.specs.Prelude.{◌≡◌, ◌<◌, ◌≤◌, ◌+◌, ℕ, Option, List, [], ◌∷◌, ◌++◌, length, take, drop, if◌then◌else◌};
+ghost use Rattle.std.specs.Prelude.{◌≡◌, ◌<◌, ◌≤◌, ◌+◌, ℕ, Option, List, [], ◌∷◌, ◌++◌, length, take, drop, true, false, if◌then◌else◌};
 ghost use Rattle.arrayvec.specs.ArrayVec.{array_vec_len};
 ghost use Rattle.ip_filter.specs.Formula.{Formula, after_step, negated, read_after, steps_of, truth};
 ghost use Rattle.ip_filter.specs.Tests.{frame_meets};
 ghost use Rattle.ip_filter.specs.Program.{tests_of, passes, frame_holds};
-ghost use Rattle.ip_filter.specs.Compiled.{terms_of, terms_of_all, AreCompiled, index_moved, redirected, redirected_from};
+ghost use Rattle.ip_filter.specs.Compiled.{terms_of, terms_of_all, joined, AreCompiled, index_moved, redirected, redirected_from};
 ghost use Rattle.ip_filter.specs.declared.steps.StepKind.TheVariants.{And, Or};
 
+use crate::join::join_flags;
 use crate::run::PASSED;
 use crate::steps::{Step, StepKind, Steps};
 use crate::test_of::REFUSED;
@@ -109,13 +110,53 @@ impl Compiler {
             return;
         }
         let second = self.starts.pop().unwrap_or(0);
+        self.join_at(second, is_and);
+        self.negate_last(nots);
+    }
+
+    /// Joins the formula whose tests start at the index `second`, the last ones, to the one before.
+    fn join_at(&mut self, second: u8, is_and: bool)
+        ensures { (frame : Option (List ℕ)) (f g : Formula) (fs : List Formula) → terms_of_all (g ∷ f ∷ fs) ≤ 64
+            → AreCompiled frame (g ∷ f ∷ fs) (self.old.starts.items ++ second ∷ []) (tests_of self.old.filter)
+            → AreCompiled frame (joined is_and f g ∷ fs) self.new.starts.items (tests_of self.new.filter) }
+    {
+        if self.join_flags_at(usize::from(second), is_and) {
+            return;
+        }
         let (if_met, if_not) = if is_and {
             (second, REFUSED as u8)
         } else {
             (PASSED as u8, second)
         };
         self.redirect(usize::from(second), if_met, if_not);
-        self.negate_last(nots);
+    }
+
+    /// Joins the formula whose test is the one with the index `second` to the one before, if flags decide it. Returns
+    /// whether it has.
+    fn join_flags_at(&mut self, second: usize, is_and: bool) -> bool
+        ensures joined { result ≡ true → (frame : Option (List ℕ)) (f g : Formula) (fs : List Formula)
+            → terms_of_all (g ∷ f ∷ fs) ≤ 64
+            → AreCompiled frame (g ∷ f ∷ fs) (self.old.starts.items ++ second ∷ []) (tests_of self.old.filter)
+            → AreCompiled frame (joined is_and f g ∷ fs) self.new.starts.items (tests_of self.new.filter) }
+        ensures none { result ≡ false → self.new ≡ self.old }
+    {
+        let starts = self.starts.len();
+        let end = self.filter.count;
+        if starts == 0 || end > MAX_TESTS || second >= end || end - second != 1 {
+            return false;
+        }
+        let start = self.starts[starts - 1];
+        let first = usize::from(start);
+        if first >= second {
+            return false;
+        }
+        match join_flags(&mut self.filter.tests[first..end], start, is_and) {
+            Some(count) => {
+                self.filter.count = first + count;
+                true
+            }
+            None => false,
+        }
     }
 
     /// Negates the last formula `nots` times.
@@ -164,7 +205,7 @@ fn redirect(tests: &mut [Test], start: usize, if_met: u8, if_not: u8)
 }
 
 /// Returns the test, redirected.
-fn redirected(test: &Test, if_met: u8, if_not: u8) -> Test
+pub(crate) fn redirected(test: &Test, if_met: u8, if_not: u8) -> Test
     ensures { result ≡ redirected if_met if_not test.now }
 {
     Test {

@@ -6,11 +6,12 @@ ghost use Rattle.ip_dissect.specs.Outline.{is_plain};
 ghost use Rattle.ip_filter.specs.Flags.{AreKnown, any_flag};
 ghost use Rattle.ip_filter.specs.Facts.{first_number};
 ghost use Rattle.ip_filter.specs.HeaderConditions.{meets_condition};
-ghost use Rattle.ip_filter.specs.Truth.{is_first_kind, is_later_kind, fault_kind, fault_in, is_truncated};
+ghost use Rattle.ip_filter.specs.Truth.{is_first_kind, is_later_kind, fault_kind, fault_in, is_truncated, is_in_layer};
 ghost use Rattle.ip_filter.specs.Truth.{has_source, has_destination, some_fragment};
 
 use crate::flags::{Flags, mask};
 use crate::header_condition::{HeaderCondition, any_header};
+use crate::layers::is_in_layer;
 use crate::{FaultKind, Network};
 use ip_base::err::ip::{HeaderError, HeadersError, SliceError};
 use ip_base::err::ipv6_exts;
@@ -43,6 +44,14 @@ impl<'a> Facts<'a> {
         ensures { result ≡ any_flag 64 mask (dissected self.now.packet.bytes.now) }
     {
         self.flags.with_end(&self.packet.end()).has_one_of(mask)
+    }
+
+    /// Returns whether headers end with an error in the layer with this code.
+    #[inline(never)]
+    pub(crate) fn is_in_layer(&self, code: u64) -> bool
+        ensures { result ≡ is_in_layer code (dissected self.now.packet.bytes.now).end }
+    {
+        is_in_layer(&self.packet.end(), code)
     }
 
     /// Returns whether an extension header meets the condition. Walks them again if there is one that can meet it.

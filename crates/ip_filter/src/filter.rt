@@ -10,11 +10,13 @@
 #[derive(Clone, Copy, Debug, PartialEq, Eq)]
 pub struct Test {
     /// The flags of which one has to be set, the protocol number, security parameters index, identification, type or code of
-    /// ICMP, type of routing, what a number of the packet is compared with, the lowest port, or the flags of TCP that are set.
+    /// ICMP, type of routing, what a number of the packet is compared with, the lowest port, the flags of TCP that are set, or the
+    /// code of a layer.
     pub number: u64,
     /// The high 64 bits of a network's address, as a number in network byte order; not used for IPv4.
     pub address_high: u64,
-    /// The other bits of a network's address, the highest port, or the flags of TCP that count.
+    /// The other bits of a network's address, the highest port, the flags of TCP that count, or the flags of
+    /// which one has to be set by an error in a layer.
     pub address_low: u64,
     /// What is tested: 1 flags, 2 the protocol number that follows the headers, 3 the number of extension headers, 4 their
     /// bytes, 5 the bytes of payload that are here, 6 the security parameters index of an authentication header, 7 the
@@ -22,7 +24,7 @@ pub struct Test {
     /// limit, 13 the code point of differentiated services, 14 explicit congestion notification, 15 the flow label, 16 the
     /// source, 17 the destination, 18 either port, 19 whether ports should be there but aren't, 20 the type, 21 the code of
     /// ICMP, 22 flags of TCP, 23 the type, 24 the segments left of a routing header, 25 the type of
-    /// an option.
+    /// an option, 26 flags by an error in a layer.
     pub kind: u8,
     /// How a quantity is compared: 1 equal, 2 not equal, 3 less, 4 at most, 5 greater, 6 at least.
     pub comparison: u8,

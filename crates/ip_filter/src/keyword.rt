@@ -10,7 +10,9 @@ use crate::{Quantity, Term};
 pub(crate) enum Keyword {
     /// A term by itself.
     Alone(Term),
-    /// A faulty header, whose kind of fault may follow.
+    /// A truncated header, whose layer may follow.
+    Truncated,
+    /// A faulty header, whose kind of fault may follow, and its layer.
     Fault,
     /// A number or a name follows.
     Number(NumberKeyword),
@@ -69,6 +71,9 @@ pub(crate) fn keyword_of(word: &[u8]) -> Option<Keyword>
     if word == b"fault".as_slice() {
         return Some(Keyword::Fault);
     }
+    if word == b"truncated".as_slice() {
+        return Some(Keyword::Truncated);
+    }
     if word == b"segments-left".as_slice() {
         return Some(Keyword::SegmentsLeft);
     }
@@ -105,9 +110,6 @@ fn alone(word: &[u8]) -> Option<Term>
     }
     if word == b"later-fragment".as_slice() {
         return Some(Term::LaterFragment);
-    }
-    if word == b"truncated".as_slice() {
-        return Some(Term::Truncated);
     }
     if word == b"incomplete".as_slice() {
         return Some(Term::Incomplete);

@@ -60,6 +60,8 @@ pub(crate) mod kind {
     pub const SEGMENTS_LEFT: u8 = 24;
 
     pub const OPTION: u8 = 25;
+
+    pub const LAYER: u8 = 26;
 }
 
 impl Test {
@@ -106,6 +108,7 @@ impl Test {
                 Some(network) => facts.has_source(network) || facts.has_destination(network),
                 None => false,
             },
+            kind::LAYER => { facts.has_one_of(self.address_low) && facts.is_in_layer(self.number) }
             _ => self.is_met_in_payload(facts),
         }
     }

@@ -1,18 +1,21 @@
 //! Terms, as a filter's text writes them.
-ghost use Rattle.std.specs.Prelude.{◌≡◌, IfOk, IfErr};
+ghost use Rattle.std.specs.Prelude.{◌≡◌, IfOk, IfErr, IfSome, IfNone};
 ghost use Rattle.ip_filter.specs.declared.keyword.Keyword.TheVariants as is;
-ghost use Rattle.ip_filter.specs.Grammar.{AreCompared, AreSide, source, destination};
-ghost use Rattle.ip_filter.specs.Reading.{IsCountKeyword, IsSideKeyword, ReadsTerm, RefusesTerm, ReadsArguments, RefusesArguments};
+ghost use Rattle.ip_filter.specs.Grammar.{Finds, AreCompared, AreSide, source, destination};
+ghost use Rattle.ip_filter.specs.Numbers.{layer_of};
+ghost use Rattle.ip_filter.specs.Reading.{IsCountKeyword, IsSideKeyword, BeginsOtherwise, ReadsTerm, RefusesTerm, ReadsArgument, ReadsArguments, RefusesArguments};
 
 use crate::arguments::{
     Unexpected, argument, read_comparison, read_header, read_host, read_network, read_number,
     read_ports, read_protocol, read_tcp_flags, read_version,
 };
 use crate::keyword::{AddressKeyword, Keyword, NumberKeyword};
+use crate::layers::parse_layer;
 use crate::networks::parse_network;
 use crate::numbers::parse_fault_kind;
 use crate::words::first_word;
 use crate::{Comparison, Expected, Network, Ports, Term};
+use ip_base::err::Layer;
 
 /// The largest security parameters index or identification.
 const MAX_NUMBER: u64 = 4_294_967_295;
@@ -28,6 +31,7 @@ pub(crate) fn read_term(keyword: Keyword, text: &[u8]) -> ReadTerm<'_>
 {
     match keyword {
         Keyword::Alone(term) => Ok((term, text)),
+        Keyword::Truncated => Ok(read_truncated(text)),
         Keyword::Fault => Ok(read_fault(text)),
         Keyword::Number(keyword) => read_number_term(keyword, text),
         Keyword::Compared(quantity) => match read_count(text) {
@@ -44,14 +48,43 @@ pub(crate) fn read_term(keyword: Keyword, text: &[u8]) -> ReadTerm<'_>
     }
 }
 
-/// Reads what follows the keyword `fault`, which may be a kind of fault.
-#[tactic(auto, using(crate::proofs::TermLemmas::fault_of, crate::proofs::TermLemmas::no_word_is_no_kind, crate::proofs::TermLemmas::other_is_no_kind))]
+/// Reads what follows the keyword `truncated`, which may be a layer.
+#[tactic(auto, using(crate::proofs::TermLemmas::truncated_at, crate::proofs::TermLemmas::plain_truncated))]
+fn read_truncated(text: &[u8]) -> (Term, &[u8])
+    ensures { ReadsTerm is.Truncated text.now result.0 result.1.now }
+{
+    match read_layer(text) {
+        Some((layer, rest)) => (Term::TruncatedAt(layer), rest),
+        None => (Term::Truncated, text),
+    }
+}
+
+/// Reads a layer, if the text begins with one.
+#[tactic(auto, using(crate::proofs::ArgumentLemmas::this_word, crate::proofs::TermLemmas::no_word_is_no_layer, crate::proofs::TermLemmas::other_is_no_layer))]
+fn read_layer(text: &[u8]) -> Option<(Layer, &[u8])>
+    ensures some { IfSome result (λ r. ReadsArgument (Finds layer_of) text.now r.0 r.1.now) }
+    ensures none { IfNone result (BeginsOtherwise layer_of text.now) }
+{
+    match first_word(text) {
+        Some(word) => match parse_layer(word.bytes) {
+            Some(layer) => Some((layer, word.rest)),
+            None => None,
+        },
+        None => None,
+    }
+}
+
+/// Reads what follows the keyword `fault`, which may be a kind of fault, and then a layer.
+#[tactic(auto, using(crate::proofs::TermLemmas::fault_at, crate::proofs::TermLemmas::fault_of, crate::proofs::TermLemmas::no_word_is_no_kind, crate::proofs::TermLemmas::other_is_no_kind))]
 fn read_fault(text: &[u8]) -> (Term, &[u8])
     ensures { ReadsTerm is.Fault text.now result.0 result.1.now }
 {
     match first_word(text) {
         Some(word) => match parse_fault_kind(word.bytes) {
-            Some(kind) => (Term::FaultOf(kind), word.rest),
+            Some(kind) => match read_layer(word.rest) {
+                Some((layer, rest)) => (Term::FaultAt(kind, layer), rest),
+                None => (Term::FaultOf(kind), word.rest),
+            },
             None => (Term::Fault, text),
         },
         None => (Term::Fault, text),

@@ -1,5 +1,6 @@
 //! The terms of a filter.
 use crate::Network;
+use ip_base::err::Layer;
 
 /// How a count is compared with a number.
 #[derive(Clone, Copy, Debug, PartialEq, Eq)]
@@ -91,12 +92,17 @@ pub enum Term {
     LaterFragment,
     /// A header is truncated.
     Truncated,
+    /// A header of this layer is truncated.
+    TruncatedAt(Layer),
     /// Bytes of the stated length are missing.
     Incomplete,
     /// A header is faulty.
     Fault,
     /// A header is faulty in this way.
     FaultOf(FaultKind),
+    /// A header of this layer is faulty in this way. The layer is that of the header, or, if the error is in no header, the
+    /// one that it names.
+    FaultAt(FaultKind, Layer),
     /// The packet has this quantity, and it compares so.
     Compared(Quantity, Comparison, u64),
     /// An authentication header has this security parameters index (RFC 4302, section 2.4).

@@ -4,6 +4,7 @@ ghost use Rattle.ip_dissect.specs.Dissection.{DissectedParts, dissected};
 ghost use Rattle.std.specs.List.{list_any};
 ghost use Rattle.std.specs.Option.{option_map_or};
 ghost use Rattle.ip_filter.specs.Truth.{holds, is_version, fault_in, kind_index, compares, quantity_of};
+ghost use Rattle.ip_codes.specs.Codes.{layer_code};
 ghost use Rattle.ip_filter.specs.Flags.{any_flag};
 ghost use Rattle.ip_filter.specs.Tests.{meets, comparison_in, network_in, compared};
 ghost use Rattle.ip_filter.specs.declared.filter.Test.{Test as TheTest};
@@ -13,7 +14,9 @@ use crate::holds::kind_index;
 use crate::meets::kind;
 use crate::run::PASSED;
 use crate::{Comparison, FaultKind, Network, Ports, Quantity, TcpFlags, Term, Test};
+use ip_base::err::Layer;
 use ip_base::{IpNumber, ip_number};
+use ip_codes::layer_code_of;
 
 /// The index after all tests at which a packet has not passed.
 pub(crate) const REFUSED: usize = PASSED + 1;
@@ -32,9 +35,11 @@ impl Test {
             Term::FirstFragment => Test::of_flags(mask::FIRST_FRAGMENT),
             Term::LaterFragment => Test::of_flags(mask::LATER_FRAGMENT),
             Term::Truncated => Test::of_flags(mask::TRUNCATED),
+            Term::TruncatedAt(layer) => Test::of_layer(mask::TRUNCATED, layer),
             Term::Incomplete => Test::of_flags(mask::INCOMPLETE),
             Term::Fault => Test::of_flags(mask::FAULTS),
             Term::FaultOf(kind) => Test::of_flags(fault_mask(kind)),
+            Term::FaultAt(kind, layer) => Test::of_layer(fault_mask(kind), layer),
             Term::LeadsTo(number) => Test::of_number(kind::LEADS_TO, u64::from(number)),
             Term::Compared(quantity, comparison, number) => {
                 Test::of_quantity(quantity, comparison, number)
@@ -89,6 +94,20 @@ impl Test {
         ensures if_not { result.if_not ≡ 65 }
     {
         Test::of_number(kind::FLAGS, flags)
+    }
+
+    /// Returns a test of flags, of which one has to be set by an error in this layer.
+    fn of_layer(flags: u64, layer: Layer) -> Test
+        ensures kind { result.kind ≡ 26 }
+        ensures layer { result.number ≡ layer_code layer }
+        ensures flags { result.address_low ≡ flags }
+        ensures if_met { result.if_met ≡ 64 }
+        ensures if_not { result.if_not ≡ 65 }
+    {
+        Test {
+            address_low: flags,
+            ..Test::of_number(kind::LAYER, u64::from(layer_code_of(layer)))
+        }
     }
 
     /// Returns a test that compares a quantity.

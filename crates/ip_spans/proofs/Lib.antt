@@ -1,3 +1,4 @@
 pub mod SpanLemmas
 pub mod PacketPartsLemmas
 pub mod WrittenLemmas
+mod RoutingLemmas

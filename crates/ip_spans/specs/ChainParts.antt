@@ -17,7 +17,7 @@ abbrev pub chain_parts : ℕ → List ℕ → ChainParts
 chain_parts n s = record {
   headers = length (longest_chain n s);
   len = length (bytes_of (longest_chain n s));
-  fault = chain_fault_fields (chain_fault n s);
+  fault = chain_fault_fields (length (bytes_of (longest_chain n s))) (chain_fault n s);
   next_header = leads_to n (longest_chain n s);
   fragmented = flag (has_fragmenting (longest_chain n s));
 }
@@ -27,7 +27,7 @@ abbrev pub ipv4_chain_parts : ℕ → List ℕ → ChainParts
 ipv4_chain_parts n s = record {
   headers = length (longest_ipv4_chain n s);
   len = length (bytes_of (longest_ipv4_chain n s));
-  fault = ipv4_chain_fault_fields (ipv4_chain_fault n s);
+  fault = ipv4_chain_fault_fields (length (bytes_of (longest_ipv4_chain n s))) (ipv4_chain_fault n s);
   next_header = leads_to n (longest_ipv4_chain n s);
   fragmented = 0;
 }

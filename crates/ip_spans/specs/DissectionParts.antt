@@ -13,12 +13,12 @@ use Rattle.ip_spans.specs.declared.fault_fields.FaultFields.{FaultFields}
 use Rattle.ip_spans.specs.declared.dissection_parts.DissectionParts.{DissectionParts}
 use Rattle.ip_spans.specs.declared.dissection_parts.PartsAndSpans.{PartsAndSpans}
 
--- the error at an end, with the extension header that it is in
-abbrev pub end_fields : End → FaultFields
-end_fields Payload = no_fault
-end_fields LaterFragment = no_fault
-end_fields (Truncated e header) = len_fields (header_code header) e
-end_fields (Fault e header) = record (packet_fault_fields e) { header = header_code header }
+-- the error at an end, with the extension header that it is in, which is at offset k
+abbrev pub end_fields : ℕ → End → FaultFields
+end_fields k Payload = no_fault
+end_fields k LaterFragment = no_fault
+end_fields k (Truncated e header) = len_fields (header_code header) e
+end_fields k (Fault e header) = record (packet_fault_fields k e) { header = header_code header }
 
 -- A length, a number or an offset that isn't there is 0.
 abbrev pub dissection_parts : DissectedParts → DissectionParts
@@ -30,7 +30,7 @@ dissection_parts p = record {
   payload_len = length p.payload;
   missing = p.missing;
   padding = length p.padding;
-  fault = end_fields p.end;
+  fault = end_fields (length p.base + length (bytes_of p.headers)) p.end;
   identification = option_map_or (λ x. x.identification) p.fragment 0;
   fragment_offset = option_map_or (λ x. x.offset) p.fragment 0;
   version = p.version;

@@ -36,12 +36,12 @@ len_fields header e = record {
   value = 0;
 }
 
--- an error of this kind in a header, with the wrong value
-abbrev pub content_fields : ℕ → ℕ → ℕ → FaultFields
-content_fields header kind value = record {
+-- an error of this kind in a header at an offset, with the wrong value
+abbrev pub content_fields : ℕ → ℕ → ℕ → ℕ → FaultFields
+content_fields header kind offset value = record {
   required_len = 0;
   len = 0;
-  offset = 0;
+  offset = offset;
   kind = kind;
   header = header;
   layer = 0;
@@ -50,50 +50,51 @@ content_fields header kind value = record {
 }
 
 abbrev pub no_fault : FaultFields
-no_fault = content_fields 0 NO_FAULT 0
+no_fault = content_fields 0 NO_FAULT 0 0
 
--- an error in an authentication header
-abbrev pub auth_error_fields : ℕ → AuthError → FaultFields
-auth_error_fields header ZeroPayloadLen = content_fields header ZERO_PAYLOAD_LEN 0
+-- an error in an authentication header at offset k
+abbrev pub auth_error_fields : ℕ → ℕ → AuthError → FaultFields
+auth_error_fields header k ZeroPayloadLen = content_fields header ZERO_PAYLOAD_LEN k 0
 
-abbrev pub auth_fields : ℕ → AuthSliceError → FaultFields
-auth_fields header (auth.Len e) = len_fields header e
-auth_fields header (auth.Content e) = auth_error_fields header e
+abbrev pub auth_fields : ℕ → ℕ → AuthSliceError → FaultFields
+auth_fields header k (auth.Len e) = len_fields header e
+auth_fields header k (auth.Content e) = auth_error_fields header k e
 
--- an error in an IPv6 chain
-abbrev pub exts_error_fields : ℕ → ExtsError → FaultFields
-exts_error_fields header HopByHopNotAtStart = content_fields header HOP_BY_HOP_NOT_AT_START 0
-exts_error_fields header (IpAuth e) = auth_error_fields header e
+-- an error in an IPv6 chain, in a header at offset k
+abbrev pub exts_error_fields : ℕ → ℕ → ExtsError → FaultFields
+exts_error_fields header k HopByHopNotAtStart = content_fields header HOP_BY_HOP_NOT_AT_START k 0
+exts_error_fields header k (IpAuth e) = auth_error_fields header k e
 
-abbrev pub exts_fields : ℕ → ExtsSliceError → FaultFields
-exts_fields header (exts.Len e) = len_fields header e
-exts_fields header (exts.Content e) = exts_error_fields header e
+abbrev pub exts_fields : ℕ → ℕ → ExtsSliceError → FaultFields
+exts_fields header k (exts.Len e) = len_fields header e
+exts_fields header k (exts.Content e) = exts_error_fields header k e
 
--- the error at the end of an IPv6 chain, and of an IPv4 one
-abbrev pub chain_fault_fields : Option Fault → FaultFields
-chain_fault_fields None = no_fault
-chain_fault_fields (Some (e, header)) = exts_fields (layer_code header) e
+-- the error at the end of an IPv6 chain, and of an IPv4 one, which is at offset k
+abbrev pub chain_fault_fields : ℕ → Option Fault → FaultFields
+chain_fault_fields k None = no_fault
+chain_fault_fields k (Some (e, header)) = exts_fields (layer_code header) k e
 
-abbrev pub ipv4_chain_fault_fields : Option AuthSliceError → FaultFields
-ipv4_chain_fault_fields None = no_fault
-ipv4_chain_fault_fields (Some e) = auth_fields (layer_code IpAuthHeader) e
+abbrev pub ipv4_chain_fault_fields : ℕ → Option AuthSliceError → FaultFields
+ipv4_chain_fault_fields k None = no_fault
+ipv4_chain_fault_fields k (Some e) = auth_fields (layer_code IpAuthHeader) k e
 
 -- an error in a base header
 abbrev pub base_error_fields : HeaderError → FaultFields
-base_error_fields (UnsupportedIpVersion version) = content_fields 0 UNSUPPORTED_IP_VERSION version
-base_error_fields (Ipv4HeaderLengthSmallerThanHeader ihl) = content_fields 0 IPV4_HEADER_LENGTH ihl
+base_error_fields (UnsupportedIpVersion version) = content_fields 0 UNSUPPORTED_IP_VERSION 0 version
+base_error_fields (Ipv4HeaderLengthSmallerThanHeader ihl) = content_fields 0 IPV4_HEADER_LENGTH 0 ihl
 
-abbrev pub headers_error_fields : HeadersError → FaultFields
-headers_error_fields (Ip e) = base_error_fields e
-headers_error_fields (Ipv4Ext e) = auth_error_fields 0 e
-headers_error_fields (Ipv6Ext e) = exts_error_fields 0 e
+abbrev pub headers_error_fields : ℕ → HeadersError → FaultFields
+headers_error_fields k (Ip e) = base_error_fields e
+headers_error_fields k (Ipv4Ext e) = auth_error_fields 0 k e
+headers_error_fields k (Ipv6Ext e) = exts_error_fields 0 k e
 
--- an error in a packet
-abbrev pub packet_fault_fields : SliceError → FaultFields
-packet_fault_fields (ip.Len e) = len_fields 0 e
-packet_fault_fields (ip.IpHeaders e) = headers_error_fields e
+-- an error in a packet whose extension headers end at offset k
+abbrev pub packet_fault_fields : ℕ → SliceError → FaultFields
+packet_fault_fields k (ip.Len e) = len_fields 0 e
+packet_fault_fields k (ip.IpHeaders e) = headers_error_fields k e
 
+-- an error in an IPv6 packet; the offset of a faulty extension header is 0
 abbrev pub ipv6_fault_fields : Ipv6SliceError → FaultFields
 ipv6_fault_fields (ipv6.Len e) = len_fields 0 e
-ipv6_fault_fields (ipv6.Header (ipv6_header.UnexpectedVersion version)) = content_fields 0 UNSUPPORTED_IP_VERSION version
-ipv6_fault_fields (ipv6.Exts e) = exts_error_fields 0 e
+ipv6_fault_fields (ipv6.Header (ipv6_header.UnexpectedVersion version)) = content_fields 0 UNSUPPORTED_IP_VERSION 0 version
+ipv6_fault_fields (ipv6.Exts e) = exts_error_fields 0 0 e

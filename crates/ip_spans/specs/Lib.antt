@@ -8,3 +8,5 @@ pub mod HeaderFields
 pub mod LinkedSpans
 pub mod Written
 pub mod FilterError
+pub mod OptionCursor
+pub mod RoutingFields

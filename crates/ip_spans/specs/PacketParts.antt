@@ -44,9 +44,9 @@ payload_span version p = record {
   len_source = len_source_code p.source;
 }
 
--- the error for bytes s that don't start with a packet
+-- the error for bytes s that don't start with a packet; the offset of a faulty extension header is 0
 abbrev pub packet_fault : List ℕ → Option FaultFields
-packet_fault s = option_map packet_fault_fields (ip_fault s)
+packet_fault s = option_map (packet_fault_fields 0) (ip_fault s)
 
 -- the error if an IPv6 packet may be truncated
 abbrev pub lax_packet_fault : List ℕ → Option FaultFields

@@ -41,7 +41,7 @@ impl ChainCursor {
     /// Returns the error at the cursor. There is none if a header follows, or if the number is not an extension
     /// header's.
     pub fn fault(&self, bytes: &[u8]) -> FaultFields
-        ensures { result ≡ chain_fault_fields (slice_fault self.now.offset (self.now.offset == 0) self.now.number (drop self.now.offset bytes.now)) }
+        ensures { result ≡ chain_fault_fields self.now.offset (slice_fault self.now.offset (self.now.offset == 0) self.now.number (drop self.now.offset bytes.now)) }
     {
         let fault = fault_at(
             self.offset == 0,
@@ -49,7 +49,7 @@ impl ChainCursor {
             self.left(bytes),
             self.offset,
         );
-        FaultFields::of_chain(&fault)
+        FaultFields::of_chain(self.offset, &fault)
     }
 
     /// Returns the bytes from the cursor's offset on.

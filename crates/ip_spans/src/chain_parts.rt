@@ -42,7 +42,7 @@ pub fn parse_chain(first: u8, bytes: &[u8], spans: &mut [HeaderSpan]) -> ChainPa
     );
     let len = chain.slice().len();
     let fragmented = u32::from(chain.is_fragmenting_payload());
-    let fault = FaultFields::of_chain(&fault);
+    let fault = FaultFields::of_chain(len, &fault);
     let headers = put_spans(&chain, 0, spans);
     ChainParts {
         headers,
@@ -65,8 +65,8 @@ pub fn parse_ipv4_chain(first: u8, bytes: &[u8], spans: &mut [HeaderSpan]) -> Ch
         IpNumber(first),
         bytes,
     );
-    let fault = FaultFields::of_ipv4_chain(&fault);
     let (headers, len) = put_ipv4_span(chain.auth, 0, spans);
+    let fault = FaultFields::of_ipv4_chain(len, &fault);
     ChainParts {
         headers,
         len,

@@ -121,7 +121,8 @@ impl DissectionParts {
         // In two branches, so that an error's fields are read where they were stored, and aren't moved first.
         if outline.has_error {
             let end = packet.end();
-            self.fault.put(FaultFields::of_end(&end));
+            self.fault
+                .put(FaultFields::of_end(self.payload_offset, &end));
             self.end = end_code_of(&end);
         } else {
             self.fault.put(FaultFields::none());

@@ -26,7 +26,8 @@ pub struct FaultFields {
     pub required_len: usize,
     /// The number of bytes present.
     pub len: usize,
-    /// The offset of the layer that needs more, in bytes from the start of the caller's bytes.
+    /// The offset of the layer that needs more, or of the faulty extension header in `header`, in bytes from the start of
+    /// the caller's bytes.
     pub offset: usize,
     /// The kind of error; 0 is none.
     pub kind: u8,
@@ -60,7 +61,7 @@ impl FaultFields {
     pub(crate) fn none() -> FaultFields
         ensures { result ≡ no_fault }
     {
-        Self::of_content(0, kind::NONE, 0)
+        Self::of_content(0, kind::NONE, 0, 0)
     }
 
     /// Returns the fields of a length error.
@@ -80,15 +81,15 @@ impl FaultFields {
         }
     }
 
-    /// Returns the fields of an error in a header.
+    /// Returns the fields of an error in a header at this offset.
     #[inline(always)]
-    fn of_content(header: u8, kind: u8, value: u8) -> FaultFields
-        ensures { result ≡ content_fields header kind value }
+    fn of_content(header: u8, kind: u8, offset: usize, value: u8) -> FaultFields
+        ensures { result ≡ content_fields header kind offset value }
     {
         FaultFields {
             required_len: 0,
             len: 0,
-            offset: 0,
+            offset,
             kind,
             header,
             layer: 0,
@@ -99,33 +100,36 @@ impl FaultFields {
 
     /// Returns the fields of an error in an authentication header.
     #[inline(always)]
-    fn of_auth_error(header: u8, error: &ip_auth::HeaderError) -> FaultFields
-        ensures { result ≡ auth_error_fields header error.now }
+    fn of_auth_error(header: u8, offset: usize, error: &ip_auth::HeaderError) -> FaultFields
+        ensures { result ≡ auth_error_fields header offset error.now }
     {
         match error {
             ip_auth::HeaderError::ZeroPayloadLen => {
-                Self::of_content(header, kind::ZERO_PAYLOAD_LEN, 0)
+                Self::of_content(header, kind::ZERO_PAYLOAD_LEN, offset, 0)
             }
         }
     }
 
     /// Returns the fields of an error in an IPv6 extension header.
     #[inline(always)]
-    fn of_exts_error(header: u8, error: &ipv6_exts::HeaderError) -> FaultFields
-        ensures { result ≡ exts_error_fields header error.now }
+    fn of_exts_error(header: u8, offset: usize, error: &ipv6_exts::HeaderError) -> FaultFields
+        ensures { result ≡ exts_error_fields header offset error.now }
     {
         match error {
             ipv6_exts::HeaderError::HopByHopNotAtStart => {
-                Self::of_content(header, kind::HOP_BY_HOP_NOT_AT_START, 0)
+                Self::of_content(header, kind::HOP_BY_HOP_NOT_AT_START, offset, 0)
             }
-            ipv6_exts::HeaderError::IpAuth(error) => Self::of_auth_error(header, error),
+            ipv6_exts::HeaderError::IpAuth(error) => Self::of_auth_error(header, offset, error),
         }
     }
 
-    /// Returns the fields of the error at the end of an IPv6 chain.
+    /// Returns the fields of the error at the end of an IPv6 chain, which is at this offset.
     #[inline(always)]
-    pub(crate) fn of_chain(fault: &Option<(ipv6_exts::HeaderSliceError, Layer)>) -> FaultFields
-        ensures { result ≡ chain_fault_fields fault.now }
+    pub(crate) fn of_chain(
+        offset: usize,
+        fault: &Option<(ipv6_exts::HeaderSliceError, Layer)>,
+    ) -> FaultFields
+        ensures { result ≡ chain_fault_fields offset fault.now }
     {
         match fault {
             None => Self::none(),
@@ -133,21 +137,26 @@ impl FaultFields {
                 Self::of_len(layer_code_of(*header), error)
             }
             Some((ipv6_exts::HeaderSliceError::Content(error), header)) => {
-                Self::of_exts_error(layer_code_of(*header), error)
+                Self::of_exts_error(layer_code_of(*header), offset, error)
             }
         }
     }
 
-    /// Returns the fields of the error at the end of an IPv4 chain.
+    /// Returns the fields of the error at the end of an IPv4 chain, which is at this offset.
     #[inline(always)]
-    pub(crate) fn of_ipv4_chain(fault: &Option<ip_auth::HeaderSliceError>) -> FaultFields
-        ensures { result ≡ ipv4_chain_fault_fields fault.now }
+    pub(crate) fn of_ipv4_chain(
+        offset: usize,
+        fault: &Option<ip_auth::HeaderSliceError>,
+    ) -> FaultFields
+        ensures { result ≡ ipv4_chain_fault_fields offset fault.now }
     {
         let header = layer_code_of(Layer::IpAuthHeader);
         match fault {
             None => Self::none(),
             Some(ip_auth::HeaderSliceError::Len(error)) => Self::of_len(header, error),
-            Some(ip_auth::HeaderSliceError::Content(error)) => Self::of_auth_error(header, error),
+            Some(ip_auth::HeaderSliceError::Content(error)) => {
+                Self::of_auth_error(header, offset, error)
+            }
         }
     }
 
@@ -158,42 +167,43 @@ impl FaultFields {
     {
         match error {
             ip::HeaderError::UnsupportedIpVersion { version_number } => {
-                Self::of_content(0, kind::UNSUPPORTED_IP_VERSION, *version_number)
+                Self::of_content(0, kind::UNSUPPORTED_IP_VERSION, 0, *version_number)
             }
             ip::HeaderError::Ipv4HeaderLengthSmallerThanHeader { ihl } => {
-                Self::of_content(0, kind::IPV4_HEADER_LENGTH, *ihl)
+                Self::of_content(0, kind::IPV4_HEADER_LENGTH, 0, *ihl)
             }
         }
     }
 
-    /// Returns the fields of a packet's error.
+    /// Returns the fields of the error of a packet whose extension headers end at this offset.
     #[inline(always)]
-    pub(crate) fn of_packet(error: &ip::SliceError) -> FaultFields
-        ensures { result ≡ packet_fault_fields error.now }
+    pub(crate) fn of_packet(offset: usize, error: &ip::SliceError) -> FaultFields
+        ensures { result ≡ packet_fault_fields offset error.now }
     {
         match error {
             ip::SliceError::Len(error) => Self::of_len(0, error),
             ip::SliceError::IpHeaders(ip::HeadersError::Ip(error)) => Self::of_base_error(error),
             ip::SliceError::IpHeaders(ip::HeadersError::Ipv4Ext(error)) => {
-                Self::of_auth_error(0, error)
+                Self::of_auth_error(0, offset, error)
             }
             ip::SliceError::IpHeaders(ip::HeadersError::Ipv6Ext(error)) => {
-                Self::of_exts_error(0, error)
+                Self::of_exts_error(0, offset, error)
             }
         }
     }
 
-    /// Returns the fields of the error at the end of a dissection; those of no error if it ends without one.
+    /// Returns the fields of the error at the end of a dissection, whose headers end at this offset; those of no error if it
+    /// ends without one.
     #[inline(always)]
-    pub fn of_end(end: &End) -> FaultFields
-        ensures { result ≡ end_fields end.now }
+    pub fn of_end(offset: usize, end: &End) -> FaultFields
+        ensures { result ≡ end_fields offset end.now }
     {
         match end {
             End::Payload | End::LaterFragment => Self::none(),
             End::Truncated { error, header } => Self::of_len(header_code_of(*header), error),
             End::Fault { error, header } => FaultFields {
                 header: header_code_of(*header),
-                ..Self::of_packet(error)
+                ..Self::of_packet(offset, error)
             },
         }
     }
@@ -206,9 +216,9 @@ impl FaultFields {
         match error {
             ipv6::SliceError::Len(error) => Self::of_len(0, error),
             ipv6::SliceError::Header(ipv6::HeaderError::UnexpectedVersion { version_number }) => {
-                Self::of_content(0, kind::UNSUPPORTED_IP_VERSION, *version_number)
+                Self::of_content(0, kind::UNSUPPORTED_IP_VERSION, 0, *version_number)
             }
-            ipv6::SliceError::Exts(error) => Self::of_exts_error(0, error),
+            ipv6::SliceError::Exts(error) => Self::of_exts_error(0, 0, error),
         }
     }
 }

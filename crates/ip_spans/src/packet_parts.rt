@@ -50,7 +50,7 @@ pub fn parse_packet(bytes: &[u8], spans: &mut [HeaderSpan]) -> Result<PacketPart
     match IpSlice::from_slice(bytes) {
         Ok(IpSlice::Ipv4(packet)) => Ok(PacketParts::of_ipv4(&packet, spans)),
         Ok(IpSlice::Ipv6(packet)) => Ok(PacketParts::of_ipv6(&packet, spans)),
-        Err(error) => Err(FaultFields::of_packet(&error)),
+        Err(error) => Err(FaultFields::of_packet(0, &error)),
     }
 }
 

@@ -44,7 +44,7 @@ pub fn find_payload(bytes: &[u8]) -> Result<PayloadSpan, FaultFields>
     match IpSlice::from_slice(bytes) {
         Ok(IpSlice::Ipv4(packet)) => Ok(PayloadSpan::of_ipv4(&packet)),
         Ok(IpSlice::Ipv6(packet)) => Ok(PayloadSpan::of_ipv6(&packet)),
-        Err(error) => Err(FaultFields::of_packet(&error)),
+        Err(error) => Err(FaultFields::of_packet(0, &error)),
     }
 }
 

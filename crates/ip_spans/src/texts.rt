@@ -5,7 +5,7 @@ use crate::fault_fields::{FaultFields, layer_with_code, len_source_of};
 use crate::filter_parse::expected_of;
 use arrayvec::ArrayString;
 use ip_base::LenSource;
-use ip_base::err::{Layer, LenError, ip, ip_auth, ipv6_exts};
+use ip_base::err::Layer;
 use ip_codes::kind;
 use std::fmt::Write;
 
@@ -68,50 +68,87 @@ fn put_words(words: &ArrayString<TEXT_LEN>, text: &mut [u8]) -> usize
 fn push_words(fault: &FaultFields, words: &mut ArrayString<TEXT_LEN>) -> std::fmt::Result {
     match fault.kind {
         kind::TOO_SHORT => push_len_words(fault, words),
-        kind::HOP_BY_HOP_NOT_AT_START => write!(
+        kind::HOP_BY_HOP_NOT_AT_START => {
+            words.write_str("the hop-by-hop options header")?;
+            push_place(fault, words)?;
+            words.write_str(" doesn't follow the IPv6 header directly")
+        }
+        kind::ZERO_PAYLOAD_LEN => {
+            words.write_str("the length field of the authentication header")?;
+            push_place(fault, words)?;
+            words.write_str(" is 0")
+        }
+        kind::UNSUPPORTED_IP_VERSION if fault.value <= 255 => write!(
             words,
-            "{}",
-            ipv6_exts::HeaderError::HopByHopNotAtStart
+            "the IP version is {}, where 4 or 6 is required",
+            fault.value
         ),
-        kind::ZERO_PAYLOAD_LEN => write!(words, "{}", ip_auth::HeaderError::ZeroPayloadLen),
-        kind::UNSUPPORTED_IP_VERSION => {
-            let Ok(version_number) = u8::try_from(fault.value) else {
-                return Ok(());
-            };
-            write!(
-                words,
-                "{}",
-                ip::HeaderError::UnsupportedIpVersion { version_number }
-            )
-        }
-        kind::IPV4_HEADER_LENGTH => {
-            let Ok(ihl) = u8::try_from(fault.value) else {
-                return Ok(());
-            };
-            write!(
-                words,
-                "{}",
-                ip::HeaderError::Ipv4HeaderLengthSmallerThanHeader { ihl }
-            )
-        }
+        kind::IPV4_HEADER_LENGTH if fault.value <= 255 => write!(
+            words,
+            "the internet header length of the IPv4 header is {}, where at least 5 is required",
+            fault.value
+        ),
         _ => Ok(()),
     }
 }
 
-/// Appends the text of a length error.
+/// Appends where the faulty extension header is, unless the error is that of a parsed packet, which doesn't say so.
+fn push_place(fault: &FaultFields, words: &mut ArrayString<TEXT_LEN>) -> std::fmt::Result {
+    if fault.header == 0 && fault.offset == 0 {
+        Ok(())
+    } else {
+        write!(words, " at offset {}", fault.offset)
+    }
+}
+
+/// Appends the text of a length error. It names the faulty extension header, if there is one, and otherwise the layer.
 fn push_len_words(fault: &FaultFields, words: &mut ArrayString<TEXT_LEN>) -> std::fmt::Result {
-    let (Some(layer), Some(len_source)) = (
+    let code = if fault.header == 0 {
+        fault.layer
+    } else {
+        fault.header
+    };
+    let (Some(_), Some(layer), Some(source)) = (
         layer_with_code(fault.layer),
+        layer_with_code(code),
         len_source_of(fault.len_source),
     ) else {
         return Ok(());
     };
-    let error = LenError {
-        required_len: fault.required_len,
-        layer_start_offset: fault.offset,
-        len_source,
-        layer,
-        len: fault.len,
-    };
-    write!(words, "{error}")
+    write!(
+        words,
+        "not enough bytes for {} at offset {}: {} needed, {} there{}",
+        layer_words(layer),
+        fault.offset,
+        fault.required_len,
+        fault.len,
+        source_words(source)
+    )
+}
+
+/// Returns what a text calls the layer.
+fn layer_words(layer: Layer) -> &'static str {
+    match layer {
+        Layer::IpHeader => "the IP header",
+        Layer::Ipv4Header => "the IPv4 header",
+        Layer::Ipv4Packet => "the IPv4 packet",
+        Layer::IpAuthHeader => "the authentication header",
+        Layer::Ipv6Header => "the IPv6 header",
+        Layer::Ipv6Packet => "the IPv6 packet",
+        Layer::Ipv6ExtHeader => "the extension header",
+        Layer::Ipv6HopByHopHeader => "the hop-by-hop options header",
+        Layer::Ipv6DestOptionsHeader => "the destination options header",
+        Layer::Ipv6RouteHeader => "the routing header",
+        Layer::Ipv6FragHeader => "the fragment header",
+        Layer::Icmpv4 => "the ICMP message",
+    }
+}
+
+/// Returns what a text says about the source of the length; nothing if it is the bytes that were passed.
+fn source_words(source: LenSource) -> &'static str {
+    match source {
+        LenSource::Slice => "",
+        LenSource::Ipv4HeaderTotalLen => " by the total length",
+        LenSource::Ipv6HeaderPayloadLen => " by the payload length",
+    }
 }

@@ -4,13 +4,13 @@ ghost use Rattle.ip_dissect.specs.Dissection.{dissected};
 ghost use Rattle.ip_defragmenter.specs.FragmentOf.{fragment_in};
 ghost use Rattle.ip_defragmenter.specs.declared.err.FragmentError.{FragmentError};
 
-use ip_defragmenter::{Outcome, PacketMemory, Pending, defragment};
+use ip_defragmenter::{Outcome, PacketMemory, Slot, defragment};
 
 /// Adds a packet that arrived at this time. If it makes its packet whole, writes that to `out` and returns its length in
 /// bytes. Returns `None` if it doesn't, or if the whole packet doesn't fit.
 pub fn whole_packet(
-    slots: &mut [Option<Pending>],
-    memories: &mut [PacketMemory<'_>],
+    slots: &mut [Slot],
+    memories: &mut [PacketMemory],
     factor: u32,
     time: u64,
     packet: &[u8],

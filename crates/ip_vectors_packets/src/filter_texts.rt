@@ -108,6 +108,12 @@ fn terms(rt: HostRuntime) -> Result<(), Fail> {
         ("incomplete", last(0x400)),
         ("fault", last(0x1f000)),
         ("fault header-length", last(0x10000)),
+        ("truncated IP-header", ports(26, 1, 0x800)),
+        ("truncated IPv6-extension", ports(26, 7, 0x800)),
+        ("truncated fragment", ports(26, 11, 0x800)),
+        ("fault too-short routing", ports(26, 10, 0x1000)),
+        ("fault not-at-start hop-by-hop", ports(26, 8, 0x2000)),
+        ("fault header-length IPv4-header", ports(26, 2, 0x10000)),
         ("headers<=3", count(3, 4, 3)),
         (
             "chain-bytes != 18446744073709551615",
@@ -133,7 +139,7 @@ fn terms(rt: HostRuntime) -> Result<(), Fail> {
     Ok(())
 }
 
-/// Returns the last test, of ports in a range, or of flags of TCP of which some count.
+/// Returns the last test, of ports in a range, of flags of TCP of which some count, or of flags by an error in a layer.
 fn ports(kind: u8, first: u64, last: u64) -> Test {
     Test {
         address_low: last,
@@ -196,18 +202,6 @@ fn formulas(rt: HostRuntime) -> Result<(), Fail> {
             "fragment and fault or incomplete",
             [flags(FRAGMENT, 1, 2), flags(FAULT, PASSED, 2)],
         ),
-        (
-            "(fragment or fault)and incomplete",
-            [flags(FRAGMENT, 2, 1), flags(FAULT, 2, REFUSED)],
-        ),
-        (
-            "fragment or fault or incomplete",
-            [flags(FRAGMENT, PASSED, 1), flags(FAULT, PASSED, 2)],
-        ),
-        (
-            "!(!fragment&&!fault)||incomplete",
-            [flags(FRAGMENT, PASSED, 1), flags(FAULT, PASSED, 2)],
-        ),
     ];
     for (text, first) in &rows {
         check(&rt, text, &[first[0], first[1], last(INCOMPLETE)]);
@@ -219,6 +213,55 @@ fn formulas(rt: HostRuntime) -> Result<(), Fail> {
     check(&rt, "!not!(! fragment)", &[last(FRAGMENT)]);
     let deep = "((((((((((((((((fragment))))))))))))))))";
     check(&rt, deep, &[last(FRAGMENT)]);
+    Ok(())
+}
+
+#[test]
+fn masks_are_joined(rt: HostRuntime) -> Result<(), Fail> {
+    let rows = [
+        ("fragment or fault or incomplete", last(0x1f700)),
+        ("!(!fragment&&!fault)||incomplete", last(0x1f700)),
+        (
+            "not fragment and not fault",
+            flags(0x1f300, REFUSED, PASSED),
+        ),
+        ("not (fragment or fault)", flags(0x1f300, REFUSED, PASSED)),
+        ("header 4 or header 44", last(1 << 44)),
+    ];
+    for (text, wanted) in &rows {
+        check(&rt, text, &[*wanted]);
+    }
+    let either = flags(FRAGMENT | FAULT, 1, REFUSED);
+    let text = "(fragment or fault)and incomplete";
+    check(&rt, text, &[either, last(INCOMPLETE)]);
+    Ok(())
+}
+
+#[test]
+fn flags_come_first(rt: HostRuntime) -> Result<(), Fail> {
+    let id = number(7, 7, PASSED, REFUSED);
+    let rows = [
+        ("id 7 and fault", flags(FAULT, 1, REFUSED)),
+        ("id 7 and not fault", flags(FAULT, REFUSED, 1)),
+        ("id 7 or fault", flags(FAULT, PASSED, 1)),
+        ("id 7 or not fault", flags(FAULT, 1, PASSED)),
+        (
+            "id 7 and not (fragment or fault)",
+            flags(0x1f300, REFUSED, 1),
+        ),
+        ("id 7 or fragment or fault", flags(0x1f300, PASSED, 1)),
+        ("fragment or id 7 or fault", flags(0x1f300, PASSED, 1)),
+    ];
+    for (text, first) in &rows {
+        check(&rt, text, &[*first, id]);
+    }
+    let moved = [
+        flags(1 << 4, PASSED, 1),
+        flags(FAULT, REFUSED, 2),
+        number(7, 7, 3, REFUSED),
+        number(6, 5, PASSED, REFUSED),
+    ];
+    check(&rt, "id 7 and not fault and spi 5 or ip", &moved);
     Ok(())
 }
 
@@ -241,6 +284,10 @@ fn first_errors(rt: HostRuntime) -> Result<(), Fail> {
         ("fragment & fault", 9, Expected::OperatorOrEnd),
         ("fragment)", 8, Expected::OperatorOrEnd),
         ("fault too-shrt", 6, Expected::OperatorOrEnd),
+        ("fault routing", 6, Expected::OperatorOrEnd),
+        ("fault too-short Routing", 16, Expected::OperatorOrEnd),
+        ("truncated too-short", 10, Expected::OperatorOrEnd),
+        ("truncated fragment routing", 19, Expected::OperatorOrEnd),
         ("(fragment", 9, Expected::OperatorOrClose),
         ("(fragment fault)", 10, Expected::OperatorOrClose),
         (
@@ -306,9 +353,9 @@ fn errors_in_arguments(rt: HostRuntime) -> Result<(), Fail> {
 fn sixty_five_terms(rt: HostRuntime) -> Result<(), Fail> {
     let mut text = String::new(rt.alloc());
     for _ in 0..63 {
-        text.push_str("fault or ")?;
+        text.push_str("id 7 or ")?;
     }
-    text.push_str("fault")?;
+    text.push_str("id 7")?;
     let parsed = Filter::parse(text.as_bytes());
     assert_that(&rt, "64 terms", parsed.is_ok());
     if let Ok(filter) = parsed {
@@ -316,7 +363,7 @@ fn sixty_five_terms(rt: HostRuntime) -> Result<(), Fail> {
     }
     text.push_str(" or fault")?;
     let error = ParseError {
-        offset: 573,
+        offset: 509,
         expected: Expected::FewerTerms,
     };
     let refused = Filter::parse(text.as_bytes());

@@ -214,8 +214,16 @@ const IPV6_FRAGMENTS_AND_ERRORS: [Ipv6Row; 8] = [
         Row {
             name: "8 of 24 bytes of a routing header",
             is_plain: false,
-            holding: &["truncated and leads-to route and incomplete"],
-            others: &["fault", "header route", "not truncated"],
+            holding: &[
+                "truncated and leads-to route and incomplete",
+                "truncated routing",
+            ],
+            others: &[
+                "fault",
+                "header route",
+                "not truncated",
+                "truncated fragment",
+            ],
         },
     ),
     (
@@ -225,8 +233,16 @@ const IPV6_FRAGMENTS_AND_ERRORS: [Ipv6Row; 8] = [
         Row {
             name: "a routing header that is longer than the payload",
             is_plain: false,
-            holding: &["fault too-short and leads-to route"],
-            others: &["truncated", "header route", "not fault"],
+            holding: &[
+                "fault too-short and leads-to route",
+                "fault too-short routing",
+            ],
+            others: &[
+                "truncated",
+                "header route",
+                "not fault",
+                "fault too-short hop-by-hop",
+            ],
         },
     ),
     (
@@ -236,7 +252,7 @@ const IPV6_FRAGMENTS_AND_ERRORS: [Ipv6Row; 8] = [
         Row {
             name: "hop-by-hop options after destination options",
             is_plain: false,
-            holding: &["fault not-at-start and leads-to hopopt"],
+            holding: &["fault not-at-start hop-by-hop and leads-to hopopt"],
             others: &["header hopopt", "truncated", "leads-to udp"],
         },
     ),
@@ -247,7 +263,7 @@ const IPV6_FRAGMENTS_AND_ERRORS: [Ipv6Row; 8] = [
         Row {
             name: "an authentication header of length 0",
             is_plain: false,
-            holding: &["fault zero-length and leads-to ah"],
+            holding: &["fault zero-length authentication and leads-to ah"],
             others: &["header ah or spi 258", "fault too-short"],
         },
     ),
@@ -464,8 +480,8 @@ const IPV4_OTHERS: [Ipv4Row; 10] = [
         Row {
             name: "an authentication header that is longer than the packet",
             is_plain: false,
-            holding: &["fault too-short and leads-to ah"],
-            others: &["truncated", "header ah", "not fault"],
+            holding: &["fault too-short authentication and leads-to ah"],
+            others: &["truncated authentication", "header ah", "not fault"],
         },
     ),
     (
@@ -490,8 +506,13 @@ const IPV4_OTHERS: [Ipv4Row; 10] = [
         Row {
             name: "a total length below the header",
             is_plain: false,
-            holding: &["fault too-short and version 4 and leads-to udp"],
-            others: &["not fault", "truncated", "fault header-length"],
+            holding: &["fault too-short IPv4-packet and version 4 and leads-to udp"],
+            others: &[
+                "not fault",
+                "truncated",
+                "fault header-length",
+                "fault too-short IPv4-header",
+            ],
         },
     ),
     (

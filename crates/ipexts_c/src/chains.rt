@@ -64,7 +64,7 @@ pub extern "C" fn wolfaren_next_header(
 /// Calls `ChainCursor::fault` and stores its result in `fault`.
 #[unsafe(no_mangle)]
 pub extern "C" fn wolfaren_fault_at(cursor: &ChainCursor, bytes: &[u8], fault: &mut FaultFields)
-    ensures { fault.new ≡ chain_fault_fields (slice_fault cursor.now.offset
+    ensures { fault.new ≡ chain_fault_fields cursor.now.offset (slice_fault cursor.now.offset
         (cursor.now.offset == 0) cursor.now.number (drop cursor.now.offset bytes.now)) }
 {
     *fault = cursor.fault(bytes);

@@ -5,6 +5,7 @@
 
 mod bytes;
 mod chains;
+mod defragmenter;
 mod faults;
 mod filters;
 mod headers;

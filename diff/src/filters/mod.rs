@@ -11,6 +11,7 @@ use crate::dissections::dissected;
 use crate::ours::ipexts_filter;
 use crate::packets;
 use crate::random::Random;
+use etherparse::err::Layer;
 
 /// The largest packet.
 const LONGEST: usize = 2000;
@@ -33,9 +34,9 @@ pub enum Term {
     Fragment,
     FirstFragment,
     LaterFragment,
-    Truncated,
+    Truncated(Option<Layer>),
     Incomplete,
-    Fault(Option<FaultKind>),
+    Fault(Option<FaultKind>, Option<Layer>),
     Compared(Quantity, Comparison),
     Spi(u64),
     Option(u64),

@@ -1,5 +1,6 @@
 //! The plain parser: recursive descent over words.
 use super::{Comparison, Expected, FaultKind, Formula, Network, Ports, Quantity, TcpFlags, Term};
+use etherparse::err::Layer;
 use std::net::IpAddr;
 
 /// The offset of the word that isn't expected, and what is.
@@ -183,9 +184,12 @@ impl Parser {
             "fragment" => Term::Fragment,
             "first-fragment" => Term::FirstFragment,
             "later-fragment" => Term::LaterFragment,
-            "truncated" => Term::Truncated,
+            "truncated" => Term::Truncated(self.take(layer, Expected::Operand).ok()),
             "incomplete" => Term::Incomplete,
-            "fault" => Term::Fault(self.take(fault_kind, Expected::Operand).ok()),
+            "fault" => match self.take(fault_kind, Expected::Operand) {
+                Ok(kind) => Term::Fault(Some(kind), self.take(layer, Expected::Operand).ok()),
+                Err(_) => Term::Fault(None, None),
+            },
             "spi" => Term::Spi(self.take(number, Expected::Number)?),
             "id" => Term::Id(self.take(number, Expected::Number)?),
             "src" | "dst" => self.side(word == "src")?,
@@ -359,6 +363,23 @@ fn fault_kind(word: &str) -> Option<FaultKind> {
         "zero-length" => Some(FaultKind::ZeroLength),
         "unsupported-version" => Some(FaultKind::UnsupportedVersion),
         "header-length" => Some(FaultKind::HeaderLength),
+        _ => None,
+    }
+}
+
+fn layer(word: &str) -> Option<Layer> {
+    match word {
+        "IP-header" => Some(Layer::IpHeader),
+        "IPv4-header" => Some(Layer::Ipv4Header),
+        "IPv4-packet" => Some(Layer::Ipv4Packet),
+        "authentication" => Some(Layer::IpAuthHeader),
+        "IPv6-header" => Some(Layer::Ipv6Header),
+        "IPv6-packet" => Some(Layer::Ipv6Packet),
+        "IPv6-extension" => Some(Layer::Ipv6ExtHeader),
+        "hop-by-hop" => Some(Layer::Ipv6HopByHopHeader),
+        "destination-options" => Some(Layer::Ipv6DestOptionsHeader),
+        "routing" => Some(Layer::Ipv6RouteHeader),
+        "fragment" => Some(Layer::Ipv6FragHeader),
         _ => None,
     }
 }

@@ -57,6 +57,21 @@ fn long(packet: &[u8], random: &mut Random, words: &mut Vec<String>) {
     term(packet, random, words);
 }
 
+/// The layers of headers that may be truncated or faulty.
+const LAYERS: [&str; 11] = [
+    "IP-header",
+    "IPv4-header",
+    "IPv4-packet",
+    "authentication",
+    "IPv6-header",
+    "IPv6-packet",
+    "IPv6-extension",
+    "hop-by-hop",
+    "destination-options",
+    "routing",
+    "fragment",
+];
+
 fn disjunction(packet: &[u8], random: &mut Random, depth: usize, words: &mut Vec<String>) {
     conjunction(packet, random, depth, words);
     while random.percent(30) {
@@ -99,7 +114,14 @@ fn term(packet: &[u8], random: &mut Random, words: &mut Vec<String>) {
         "ip6",
     ];
     match random.below(20) {
-        0..4 => word(words, one_of(&plain, random)),
+        0..4 => {
+            let plain = one_of(&plain, random);
+            let has_layer = plain == "truncated" && random.percent(50);
+            word(words, plain);
+            if has_layer {
+                word(words, one_of(&LAYERS, random));
+            }
+        }
         4 => {
             word(words, "fault");
             let kinds = [
@@ -110,6 +132,9 @@ fn term(packet: &[u8], random: &mut Random, words: &mut Vec<String>) {
                 "header-length",
             ];
             word(words, one_of(&kinds, random));
+            if random.percent(50) {
+                word(words, one_of(&LAYERS, random));
+            }
         }
         5 => {
             word(words, "version");

@@ -1,7 +1,7 @@
 //! The plain evaluation over the parts of a packet.
 use super::{Comparison, FaultKind, Formula, Network, Ports, Quantity, Term};
 use crate::dissections::{fragment_of, Dissected, End, Fragment};
-use etherparse::err::{ip, ipv6_exts};
+use etherparse::err::{ip, ipv6_exts, Layer};
 
 /// Hop-by-hop options and destination options.
 const OPTIONS: [u8; 2] = [0, 60];
@@ -41,10 +41,18 @@ fn is_met(term: &Term, packet: &Dissected<'_>) -> bool {
         Term::Fragment => has_fragment(packet, |it| it.has_more || it.offset != 0),
         Term::FirstFragment => has_fragment(packet, |it| it.has_more && it.offset == 0),
         Term::LaterFragment => has_fragment(packet, |it| it.offset != 0),
-        Term::Truncated => matches!(packet.end, End::Truncated(..)),
+        Term::Truncated(layer) => match &packet.end {
+            End::Truncated(error, header) => {
+                layer.is_none_or(|layer| layer == header.unwrap_or(error.layer))
+            }
+            _ => false,
+        },
         Term::Incomplete => packet.missing > 0,
-        Term::Fault(kind) => match &packet.end {
-            End::Fault(error, _) => kind.is_none_or(|kind| kind == kind_of(error)),
+        Term::Fault(kind, layer) => match &packet.end {
+            End::Fault(error, header) => {
+                kind.is_none_or(|kind| kind == kind_of(error))
+                    && layer.is_none_or(|layer| layer == header.unwrap_or(layer_of(error)))
+            }
             _ => false,
         },
         Term::Compared(quantity, comparison) => {
@@ -187,6 +195,22 @@ fn kind_of(error: &ip::SliceError) -> FaultKind {
         ip::SliceError::IpHeaders(ip::HeadersError::Ipv6Ext(error)) => match error {
             ipv6_exts::HeaderError::HopByHopNotAtStart => FaultKind::NotAtStart,
             ipv6_exts::HeaderError::IpAuth(_) => FaultKind::ZeroLength,
+        },
+    }
+}
+
+/// Returns the layer that an error names.
+fn layer_of(error: &ip::SliceError) -> Layer {
+    match error {
+        ip::SliceError::Len(error) => error.layer,
+        ip::SliceError::IpHeaders(ip::HeadersError::Ip(error)) => match error {
+            ip::HeaderError::UnsupportedIpVersion { .. } => Layer::IpHeader,
+            ip::HeaderError::Ipv4HeaderLengthSmallerThanHeader { .. } => Layer::Ipv4Header,
+        },
+        ip::SliceError::IpHeaders(ip::HeadersError::Ipv4Ext(_)) => Layer::IpAuthHeader,
+        ip::SliceError::IpHeaders(ip::HeadersError::Ipv6Ext(error)) => match error {
+            ipv6_exts::HeaderError::HopByHopNotAtStart => Layer::Ipv6HopByHopHeader,
+            ipv6_exts::HeaderError::IpAuth(_) => Layer::IpAuthHeader,
         },
     }
 }

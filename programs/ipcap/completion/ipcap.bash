@@ -6,7 +6,7 @@ _ipcap_terms() {
     "$1" filter --help-terms 2>/dev/null | while read -r word rest; do
         [ -n "$word" ] || break
         [ "$word" = term ] || echo "$word"
-    done
+    done | sort -u
 }
 
 # Completes a word with those of a list.
@@ -19,7 +19,7 @@ _ipcap_words() {
 _ipcap_argument() {
     case $1 in
         -r | -w) ;;
-        -c | -j | --packets | --since | --top | --until) compopt +o default 2>/dev/null ;;
+        -c | -j | --packets | --since | --slots | --top | --until) compopt +o default 2>/dev/null ;;
         --color | =) _ipcap_words 'always never auto' "${2#=}" ;;
         *) return 1 ;;
     esac
@@ -29,14 +29,15 @@ _ipcap() {
     local word=${COMP_WORDS[COMP_CWORD]} options
     COMPREPLY=()
     if [ "$COMP_CWORD" -eq 1 ]; then
-        _ipcap_words 'stat sum filter show --help --version' "$word"
+        _ipcap_words 'stat sum filter show defrag --help --version' "$word"
         return
     fi
     case ${COMP_WORDS[1]} in
-        stat) options='-j --json --per-file --top --tunnels' ;;
+        stat) options='-j --defrag --json --per-file --top --tunnels' ;;
         sum) options='--json --top' ;;
-        filter) options='-c -n -r -w --since --until --packets --show --help-terms' ;;
-        show) options='-c --color= --one-line --json --csv' ;;
+        filter) options='-c -n -r -w --since --until --packets --defrag --show --help-terms' ;;
+        show) options='-c --defrag --color= --one-line --json --csv' ;;
+        defrag) options='-w --keep --slots' ;;
         *) return ;;
     esac
     _ipcap_argument "${COMP_WORDS[COMP_CWORD-1]}" "$word" && return

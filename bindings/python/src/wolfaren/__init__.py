@@ -4,8 +4,9 @@ The work is done by `libwolfaren.so.0`, whose calls are formally verified. This 
 """
 
 from ._captures import Packet, Written, packets
-from ._dissection import (Dissection, End, ExtensionHeader, Fault, FaultKind, Fragment, FragmentKind, Layer, LenSource,
-                          dissect, protocol_name)
+from ._defragmenter import Defragmenter
+from ._dissection import (Dissection, End, ExtensionHeader, Fault, FaultKind, Fragment, FragmentKind, HeaderOption, Layer,
+                          LenSource, UnknownOption, dissect, protocol_name)
 from ._filter import Filter, FilterError
 from ._many import SpanError, dissect_many
 from ._statistics import MOST, CaptureError, CaptureOSError, Statistics, statistics_of
@@ -13,6 +14,7 @@ from ._table import table
 
 __version__ = "0.1.0"
 
-__all__ = ["MOST", "CaptureError", "CaptureOSError", "Dissection", "End", "ExtensionHeader", "Fault", "FaultKind", "Filter",
-           "FilterError", "Fragment", "FragmentKind", "Layer", "LenSource", "Packet", "SpanError", "Statistics", "Written",
-           "dissect", "dissect_many", "packets", "protocol_name", "statistics_of", "table"]
+__all__ = ["MOST", "CaptureError", "CaptureOSError", "Defragmenter", "Dissection", "End", "ExtensionHeader", "Fault",
+           "FaultKind", "Filter", "FilterError", "Fragment", "FragmentKind", "HeaderOption", "Layer", "LenSource", "Packet",
+           "SpanError", "Statistics", "UnknownOption", "Written", "dissect", "dissect_many", "packets", "protocol_name",
+           "statistics_of", "table"]

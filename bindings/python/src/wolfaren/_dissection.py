@@ -6,7 +6,7 @@ import dataclasses
 import enum
 import ipaddress
 from collections.abc import Callable
-from typing import Any
+from typing import Any, NamedTuple
 
 from ._library import Buffer, ffi, lib, name_of
 
@@ -15,13 +15,15 @@ Address = ipaddress.IPv4Address | ipaddress.IPv6Address
 # How many extension headers the first call has room for. A packet with more takes a second call.
 _ROOM = 16
 
-# Where the fields that the library doesn't read are: in the header of each IP version (RFC 791, section 3.1, and RFC 8200,
-# section 3), and in a routing header (RFC 8200, section 4.4).
+# Where the fields that the library doesn't read are in the header of each IP version (RFC 791, section 3.1, and RFC 8200,
+# section 3).
 HOP_LIMIT = {4: 8, 6: 7}
 SRC = {4: slice(12, 16), 6: slice(8, 24)}
 DST = {4: slice(16, 20), 6: slice(24, 40)}
-_ROUTING_TYPE = 2
-_SEGMENTS_LEFT = 3
+
+# The options of a header begin after its next header and length fields (RFC 8200, section 4.2).
+_OPTIONS_START = 2
+_OPTION_HEADERS = [lib.WOLFAREN_HOP_BY_HOP, lib.WOLFAREN_DESTINATION_OPTIONS]
 
 
 class End(enum.IntEnum):
@@ -143,6 +145,36 @@ def _of_values(kind: Callable[..., _Parts], *values: Any) -> _Parts:
     return kind(*(memoryview(it) if isinstance(it, bytes) else it for it in values))
 
 
+class UnknownOption(enum.IntEnum):
+    """What a node does with a packet if it doesn't know an option in it (RFC 8200, section 4.2)."""
+
+    SKIP = lib.WOLFAREN_SKIP_OPTION
+    """Skips the option."""
+    DISCARD = lib.WOLFAREN_DISCARD
+    """Discards the packet."""
+    DISCARD_AND_REPORT = lib.WOLFAREN_DISCARD_AND_REPORT
+    """Discards the packet, and reports that to its source (ICMP)."""
+    DISCARD_AND_REPORT_UNICAST = lib.WOLFAREN_DISCARD_AND_REPORT_UNICAST
+    """The same, but reports it only if the destination isn't multicast."""
+
+
+class HeaderOption(NamedTuple):
+    """An option of a hop-by-hop or destination options header: its type and its data. Pad1, of type 0, has none."""
+
+    type: int
+    data: bytes
+
+    @property
+    def if_unknown(self) -> UnknownOption:
+        """What a node does that doesn't know the option, by the two highest bits of its type."""
+        return UnknownOption(self.type >> 6)
+
+    @property
+    def may_change(self) -> bool:
+        """Whether the data can change on the way, by the third-highest bit of the type."""
+        return bool(self.type & 0x20)
+
+
 @dataclasses.dataclass(frozen=True, slots=True, eq=False, repr=False)
 class ExtensionHeader(_Parts):
     """An extension header of a packet. Fields that headers with its number don't have are `None`."""
@@ -190,12 +222,51 @@ class ExtensionHeader(_Parts):
     @property
     def routing_type(self) -> int | None:
         """The routing type of a routing header."""
-        return self.bytes[_ROUTING_TYPE] if self.number == lib.WOLFAREN_ROUTING else None
+        return self._field(lib.WOLFAREN_ROUTING, "routing", "routing_type")
 
     @property
     def segments_left(self) -> int | None:
         """How many nodes of a routing header are still to be visited."""
-        return self.bytes[_SEGMENTS_LEFT] if self.number == lib.WOLFAREN_ROUTING else None
+        return self._field(lib.WOLFAREN_ROUTING, "routing", "segments_left")
+
+    def addresses(self, destination: Address | None = None) -> list[ipaddress.IPv6Address] | None:
+        """Returns the addresses of a routing header of type 2, 3 or 4, in the order of the header; of one with another type
+        or with fields that don't fit its length, an empty list. Type 3 leaves out the first bytes of an address if they are
+        those of the packet's destination address, `Dissection.dst`: without `destination`, they are 0.
+        """
+        count = self._field(lib.WOLFAREN_ROUTING, "routing", "addresses")
+        if count is None:
+            return None
+        view, found = ffi.from_buffer("uint8_t[]", self.bytes), []
+        first = destination.packed if isinstance(destination, ipaddress.IPv6Address) else bytes(16)
+        address = ffi.new("uint8_t[16]")
+        for index in range(count):
+            lib.wolfaren_routing_address(view, self.len, index, first, address)
+            found.append(ipaddress.IPv6Address(bytes(address)))
+        return found
+
+    @property
+    def options(self) -> list[HeaderOption] | None:
+        """The options of a hop-by-hop or destination options header, padding too, up to a malformed one."""
+        return self._read_options()[0]
+
+    @property
+    def malformed_option(self) -> int | None:
+        """Where an option begins that would go past the end of the header, in bytes from the start of the packet, or `None` if
+        all options of the header are well formed."""
+        return self._read_options()[1]
+
+    def _read_options(self) -> tuple[list[HeaderOption] | None, int | None]:
+        """Returns the options, and the offset of a malformed one."""
+        if self.number not in _OPTION_HEADERS:
+            return None, None
+        view, found = ffi.from_buffer("uint8_t[]", self.bytes), []
+        cursor = ffi.new("struct wolfaren_option_cursor *", (_OPTIONS_START, self.len))
+        option = ffi.new("struct wolfaren_option *")
+        while lib.wolfaren_next_option(cursor, view, self.len, option):
+            end = option.data_offset + option.data_len
+            found.append(HeaderOption(option.option_type, bytes(self.bytes[option.data_offset:end])))
+        return found, self.offset + cursor.offset if cursor.offset < cursor.end else None
 
     def _field(self, number: int, kind: str, name: str) -> int | None:
         """Returns a field that the library reads from headers with a number, or `None` for another header."""
@@ -263,43 +334,15 @@ class Dissection(_Parts):
         return ipaddress.ip_address(bytes(self.base_header[places[self.version]])) if self.version else None
 
 
-# The errors of an extension header that is long enough: it begins where the headers before it end.
-FAULTS_AT_END = [lib.WOLFAREN_HOP_BY_HOP_NOT_AT_START, lib.WOLFAREN_ZERO_PAYLOAD_LEN]
-
-_LAYER_NAMES = {
-    Layer.IP_HEADER: "the IP header", Layer.IPV4_HEADER: "the IPv4 header", Layer.IPV4_PACKET: "the IPv4 packet",
-    Layer.AUTHENTICATION_HEADER: "the authentication header", Layer.IPV6_HEADER: "the IPv6 header",
-    Layer.IPV6_PACKET: "the IPv6 packet", Layer.IPV6_EXTENSION_HEADER: "the extension header",
-    Layer.HOP_BY_HOP_HEADER: "the hop-by-hop options header", Layer.ROUTING_HEADER: "the routing header",
-    Layer.DESTINATION_OPTIONS_HEADER: "the destination options header", Layer.FRAGMENT_HEADER: "the fragment header"}
-
-_LEN_SOURCE_NAMES = {LenSource.SLICE: "the bytes that were passed", LenSource.IPV4_TOTAL_LENGTH: "the total length",
-                     LenSource.IPV6_PAYLOAD_LENGTH: "the payload length"}
-
-
-def _fault_text(fault: Any, offset: int) -> str:
-    """Returns the text of an error, which names the extension header where that of the library names its format."""
-    if fault.kind == lib.WOLFAREN_TOO_SHORT:
-        name = _LAYER_NAMES[Layer(fault.header or fault.layer)]
-        return (f"not enough bytes for {name} at offset {offset}: {fault.required_len} needed, {fault.len} there by "
-                f"{_LEN_SOURCE_NAMES[LenSource(fault.len_source)]}")
-    if fault.kind == lib.WOLFAREN_HOP_BY_HOP_NOT_AT_START:
-        return f"the hop-by-hop options header at offset {offset} doesn't follow the IPv6 header directly"
-    if fault.kind == lib.WOLFAREN_ZERO_PAYLOAD_LEN:
-        return f"the length field of the authentication header at offset {offset} is 0"
-    if fault.kind == lib.WOLFAREN_UNSUPPORTED_IP_VERSION:
-        return f"the IP version is {fault.value}, where 4 or 6 is required"
-    return f"the internet header length of the IPv4 header is {fault.value}, where at least 5 is required"
-
-
 def _fault_of(parts: Any) -> Fault | None:
-    """Returns the error of a dissection. The library has the offset of a layer that is too short."""
+    """Returns the error of a dissection."""
     fault = parts.fault
     if fault.kind == lib.WOLFAREN_NO_FAULT:
         return None
-    offset = parts.payload_offset if fault.kind in FAULTS_AT_END else fault.offset
-    return Fault(FaultKind(fault.kind), Layer(fault.header), Layer(fault.layer), offset, fault.required_len, fault.len,
-                 LenSource(fault.len_source), fault.value, _fault_text(fault, offset))
+    text = ffi.new("char[]", lib.WOLFAREN_TEXT_ROOM)
+    lib.wolfaren_fault_text(ffi.addressof(parts, "fault"), text, len(text))
+    return Fault(FaultKind(fault.kind), Layer(fault.header), Layer(fault.layer), fault.offset, fault.required_len, fault.len,
+                 LenSource(fault.len_source), fault.value, ffi.string(text).decode())
 
 
 def dissect(packet: Buffer) -> Dissection:

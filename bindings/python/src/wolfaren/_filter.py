@@ -41,7 +41,10 @@ class Filter:
         icmp, tcp, udp, dccp, gre, esp, icmp6, no-next, sctp, udp-lite       `leads-to` with this name
         fragment, first-fragment, later-fragment
         truncated, incomplete
-        fault, fault KIND                    KIND is too-short, not-at-start, zero-length, unsupported-version or
+        truncated LAYER                      LAYER is IP-header, IPv4-header, IPv4-packet, authentication, IPv6-header,
+                                             IPv6-packet, IPv6-extension, hop-by-hop, destination-options, routing or
+                                             fragment
+        fault, fault KIND, fault KIND LAYER  KIND is too-short, not-at-start, zero-length, unsupported-version or
                                              header-length
         headers OP N, chain-bytes OP N, payload OP N       OP is =, !=, <, <=, > or >=
         length OP N                          the length that the IP header states; false if it states none

@@ -2,7 +2,9 @@
 
 from __future__ import annotations
 
+import functools
 import html
+import io
 import json
 import os
 import re
@@ -23,7 +25,7 @@ _NAMES = 4096
 MOST_HEADERS = 64
 
 # The version of the JSON: major and minor number.
-_FORMAT = (1, 3)
+_FORMAT = (1, 4)
 
 _KINDS = {FaultKind.TOO_SHORT: "too-short", FaultKind.HOP_BY_HOP_NOT_AT_START: "not-at-start",
           FaultKind.ZERO_PAYLOAD_LEN: "zero-length", FaultKind.UNSUPPORTED_IP_VERSION: "unsupported-version",
@@ -52,6 +54,10 @@ def _elements(name: str, size: int) -> dict[int, int | str]:
 
 _ARRAYS = {name: _elements(name, ffi.sizeof(field.type) // 8) for name, field in _TYPE.fields
            if field.type.kind == "array"}
+
+
+# The names of the counts and tables in the JSON, in their order.
+_MEMBERS = [*_SCALARS, "mismatched", "other_protocols", "chains", *_ARRAYS]
 
 
 def chain_name(version: int, numbers: Iterable[int], payload_number: int, end: int) -> str:
@@ -140,7 +146,7 @@ class Statistics:
     """Counts of packets, which are equal to those of `ipcap stat`, and whose sum is that of all packets.
 
     The counts are those of `struct wolfaren_statistics`, which the library counts and merges; its calls are proved. The
-    tables `chains` and `other_protocols` are not. Each count stops at `MOST`. A new object has counted no packets. In
+    count `mismatched` and the tables `chains` and `other_protocols` are not. Each count stops at `MOST`. A new object has counted no packets. In
     tables, the most frequent come first, and no count is 0. Threads may share an object: each call on it is atomic.
     """
 
@@ -168,11 +174,12 @@ class Statistics:
     truncated_headers = _Field[Mapping[str, int]]("Truncated headers by their name, such as `routing`.")
     faults = _Field[Mapping[str, int]]("Faults by kind and header, such as `too-short routing`.")
 
-    __slots__ = ("_counts", "_chains", "_protocols", "_lock")
+    __slots__ = ("_counts", "_mismatched", "_chains", "_protocols", "_lock")
     __hash__ = None  # type: ignore[assignment]
 
     def __init__(self) -> None:
         self._counts = ffi.new("struct wolfaren_statistics *")
+        self._mismatched = 0
         self._chains: dict[str, int] = {}
         self._protocols: dict[str, int] = {}
         self._lock = threading.RLock()  # a signal's handler may read what its thread counts
@@ -194,9 +201,16 @@ class Statistics:
         copied = Statistics()
         with self._lock:
             ffi.memmove(copied._counts, self._counts, ffi.sizeof(_TYPE))
+            copied._mismatched = self._mismatched
             copied._chains.update(self._chains)
             copied._protocols.update(self._protocols)
         return copied
+
+    @property
+    def mismatched(self) -> int:
+        """IPv4 packets that their frame announces as IPv6, or the reverse. This count isn't proved."""
+        with self._lock:
+            return self._mismatched
 
     @property
     def chains(self) -> Mapping[str, int]:
@@ -251,10 +265,16 @@ class Statistics:
         with self._lock:
             lib.wolfaren_count_truncated_frame(self._counts)
 
+    def add_mismatched(self) -> None:
+        """Counts a packet whose IP version isn't the one that its frame announces, in addition to the packet."""
+        with self._lock:
+            self._mismatched = min(self._mismatched + 1, MOST)
+
     def clear(self) -> None:
         """Sets all counts to 0."""
         with self._lock:
             lib.wolfaren_init_statistics(self._counts)
+            self._mismatched = 0
             self._chains.clear()
             self._protocols.clear()
 
@@ -265,6 +285,7 @@ class Statistics:
         with self._lock:
             if not lib.wolfaren_merge_statistics(self._counts, added._counts):
                 raise ValueError("the statistics have different versions")
+            self._mismatched = min(self._mismatched + added._mismatched, MOST)
             for name, count in added._chains.items():
                 _add_to(self._chains, name, count)
             for name, count in added._protocols.items():
@@ -288,8 +309,8 @@ class Statistics:
         if not isinstance(other, Statistics):
             return NotImplemented
         one, two = self._copy(), other._copy()
-        return (ffi.buffer(one._counts)[:] == ffi.buffer(two._counts)[:] and one._chains == two._chains
-                and one._protocols == two._protocols)
+        return (ffi.buffer(one._counts)[:] == ffi.buffer(two._counts)[:] and one._mismatched == two._mismatched
+                and one._chains == two._chains and one._protocols == two._protocols)
 
     def __repr__(self) -> str:
         return f"<Statistics of {self.packets} packets>"
@@ -300,7 +321,7 @@ class Statistics:
     def to_dict(self) -> dict[str, Any]:
         """Returns all counts and tables by their names, as they were at one moment."""
         copied = self._copy()
-        return {name: getattr(copied, name) for name in [*_SCALARS, "other_protocols", "chains", *_ARRAYS]}
+        return {name: getattr(copied, name) for name in _MEMBERS}
 
     def to_json(self) -> str:
         """Returns the line that `ipcap stat --json` prints, without the line feed. `ipcap sum` reads it."""
@@ -343,11 +364,12 @@ class Statistics:
         minor = _minor_version(members.pop("version", None))
         if not isinstance(members.pop("file", ""), str):
             raise ValueError('"file" is not a text')
-        for name in [*_SCALARS, "other_protocols", "chains", *_ARRAYS]:
+        for name in _MEMBERS:
             members.pop(f"inner_{name}", None)
         read = cls()
         for name in _SCALARS:
             setattr(read._counts, name, _count(members.pop(name, None), name))
+        read._mismatched = _count(members.pop("mismatched", 0 if minor < 4 else None), "mismatched")
         for name, count in _table(members.pop("chains", None), "chains", 1 + _NAMES).items():
             if not _CHAIN.fullmatch(name):
                 raise ValueError(f'"{name}" is not a chain')
@@ -383,12 +405,12 @@ class Statistics:
                 (self.at_truncated_header, self.truncated_headers.values()), (self.at_fault, self.faults.values()),
                 (chains, self.chain_headers.values()), (chains, self.chain_bytes.values()),
                 (chains, self._chains.values()), (self.other_frames, self._protocols.values())]
-        if any(total != min(sum(parts), MOST) for total, parts in sums):
+        if any(total != min(sum(parts), MOST) for total, parts in sums) or self._mismatched > self.packets:
             raise ValueError("the counts don't add up")
 
     def plot(self, most: int = 10) -> Any:
         """Returns a matplotlib figure with a bar chart each of the chains, payloads and faults, at most `most` bars in
-        each. Save it with `savefig`, or let a notebook show it.
+        each. Save it with `savefig`. As the last value of a cell, a notebook shows it.
 
         Raises `ImportError` if matplotlib isn't installed.
         """
@@ -400,7 +422,15 @@ class Statistics:
             axes.barh([str(key) for key, _ in bars], [count for _, count in bars])
             axes.set_title(title)
             axes.set_xlabel("packets")
+        figure._repr_png_ = functools.partial(_png_of, figure)  # for notebooks without matplotlib's own way to show figures
         return figure
+
+
+def _png_of(figure: Any) -> bytes:
+    """Returns a figure as a PNG image."""
+    image = io.BytesIO()
+    figure.savefig(image, format="png")
+    return image.getvalue()
 
 
 _NUMBER = r"(?:25[0-5]|2[0-4]\d|1\d\d|[1-9]?\d)"

@@ -9,7 +9,7 @@ from collections.abc import Callable, Iterable
 from typing import TYPE_CHECKING, Any, NamedTuple
 
 from ._captures import Path, Reader, link_layer_name
-from ._dissection import DST, FAULTS_AT_END, HOP_LIMIT, SRC
+from ._dissection import DST, HOP_LIMIT, SRC
 from ._library import ffi, lib
 from ._many import dtype_of
 from ._optional import import_for
@@ -88,7 +88,7 @@ def _hop_limits(batch: _Batch) -> Any:
 def _fault_offsets(batch: _Batch) -> Any:
     """Returns `Fault.offset` of each packet, or 0."""
     fault = batch.parts("fault")
-    return batch.numpy.where(batch.numpy.isin(fault["kind"], FAULTS_AT_END), batch.parts("payload_offset"), fault["offset"])
+    return fault["offset"]
 
 
 def _addresses(places: dict[int, slice], batch: _Batch) -> list[str | None]:

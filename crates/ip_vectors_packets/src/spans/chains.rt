@@ -39,10 +39,11 @@ fn short(header: u8, layer: u8, required_len: usize, len: usize, offset: usize) 
     }
 }
 
-/// Returns the error in the header of a layer.
-fn content(header: u8, kind: u8) -> FaultFields {
+/// Returns the error in the header of a layer at this offset.
+fn content(header: u8, kind: u8, offset: usize) -> FaultFields {
     FaultFields {
         kind,
+        offset,
         header,
         ..NO_FAULT
     }
@@ -93,10 +94,10 @@ fn truncated_chains(rt: HostRuntime) {
 fn what_headers_say_is_wrong(rt: HostRuntime) {
     let again = parse_chain(0, &[0, 0, 0, 0, 0, 0, 0, 0], &mut []);
     assert_same(&rt, "twice", end_of(&again), (1, 8, 0));
-    assert_same(&rt, "twice, fault", again.fault, content(8, 2));
+    assert_same(&rt, "twice, fault", again.fault, content(8, 2, 8));
     let zero = parse_chain(51, &[17, 0, 0, 0, 0, 0, 0, 0, 0, 0, 0, 0], &mut []);
     assert_same(&rt, "zero length", end_of(&zero), (0, 0, 51));
-    assert_same(&rt, "zero length, fault", zero.fault, content(4, 3));
+    assert_same(&rt, "zero length, fault", zero.fault, content(4, 3, 0));
 }
 
 #[test]
@@ -140,13 +141,13 @@ fn cursors_from_anywhere(rt: HostRuntime) {
             60,
             short(9, 7, 8, 0, usize::MAX),
         ),
-        ("hop by hop options later", 8, 0, content(8, 2)),
+        ("hop by hop options later", 8, 0, content(8, 2, 8)),
         ("no extension number", 8, 17, NO_FAULT),
         (
             "an authentication header of no length",
             40,
             51,
-            content(4, 3),
+            content(4, 3, 40),
         ),
     ];
     for (name, offset, number, fault) in rows {
@@ -172,7 +173,7 @@ fn chains_of_ipv4(rt: HostRuntime) {
     assert_same(&rt, "no extension number", end_of(&none), (0, 0, 60));
     assert_same(&rt, "no extension number, fault", none.fault, NO_FAULT);
     let zero = parse_ipv4_chain(51, &[17, 0, 0, 0, 0, 0, 0, 0, 0, 0, 0, 0], &mut spans);
-    assert_same(&rt, "zero length", zero.fault, content(4, 3));
+    assert_same(&rt, "zero length", zero.fault, content(4, 3, 0));
     let truncated = parse_ipv4_chain(51, &bytes[..11], &mut spans);
     assert_same(&rt, "truncated", truncated.fault, short(4, 4, 12, 11, 0));
 }

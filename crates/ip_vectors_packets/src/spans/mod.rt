@@ -1,5 +1,6 @@
 //! Packets and chains as plain numbers.
 mod chains;
+mod contents;
 mod packets;
 mod runs;
 mod samples;

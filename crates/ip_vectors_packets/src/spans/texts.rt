@@ -33,32 +33,54 @@ fn of_kind(kind: u8, value: u32) -> FaultFields {
 }
 
 /// Returns each kind with its text.
-fn rows() -> [(FaultFields, &'static str); 8] {
+fn rows() -> [(FaultFields, &'static str); 11] {
     [
         (NO_FAULT, ""),
         (
             SHORT,
-            "not enough bytes for Ipv6ExtHeader at offset 8: 8 needed, 0 there by Slice",
+            "not enough bytes for the extension header at offset 8: 8 needed, 0 there",
+        ),
+        (
+            FaultFields {
+                header: 10,
+                ..SHORT
+            },
+            "not enough bytes for the routing header at offset 8: 8 needed, 0 there",
         ),
         (
             LARGEST,
-            "not enough bytes for Ipv6DestOptionsHeader at offset 18446744073709551615: 18446744073709551615 needed, 18446744073709551615 there by Ipv6HeaderPayloadLen",
+            "not enough bytes for the destination options header at offset 18446744073709551615: 18446744073709551615 needed, 18446744073709551615 there by the payload length",
         ),
         (
             of_kind(2, 0),
-            "IPv6 Extension Header Error: Encountered an IPv6 hop-by-hop header not directly after the IPv6 header. This is not allowed according to RFC 8200.",
+            "the hop-by-hop options header doesn't follow the IPv6 header directly",
+        ),
+        (
+            FaultFields {
+                header: 8,
+                offset: 48,
+                ..of_kind(2, 0)
+            },
+            "the hop-by-hop options header at offset 48 doesn't follow the IPv6 header directly",
         ),
         (
             of_kind(3, 0),
-            "IP Authentication Header Error: Payload Length too small (0). The payload length must be at least 1.",
+            "the length field of the authentication header is 0",
+        ),
+        (
+            FaultFields {
+                offset: 20,
+                ..of_kind(3, 0)
+            },
+            "the length field of the authentication header at offset 20 is 0",
         ),
         (
             of_kind(4, 255),
-            "IP Header Error: Encountered '255' as IP version number in the IP header (only '4' or '6' are supported).",
+            "the IP version is 255, where 4 or 6 is required",
         ),
         (
             of_kind(5, 255),
-            "IPv4 Header Error: The 'internet header length' value '255' present in the IPv4 header is smaller than the minimum size of an IPv4 header. The minimum allowed value is '5'.",
+            "the internet header length of the IPv4 header is 255, where at least 5 is required",
         ),
         (of_kind(6, 0), ""),
     ]
@@ -101,6 +123,10 @@ fn codes_that_are_none(rt: HostRuntime) {
     let none = [
         FaultFields { layer: 0, ..SHORT },
         FaultFields { layer: 13, ..SHORT },
+        FaultFields {
+            header: 13,
+            ..SHORT
+        },
         FaultFields {
             len_source: 0,
             ..SHORT

@@ -1,13 +1,14 @@
 use Rattle.ip_spec.proofs.Common.{◌≡◌, ℕ, List, Option, Some, None, ap, ◌∙◌, refl, option_map_or}
 use Rattle.std.specs.Prelude.{position}
 use Rattle.std.specs.Option.{option_and_then}
-use Rattle.ip_defragmenter.specs.Slots.{has_key, is_free, is_oldest, own_in, new_place, displaced_in, place_in}
+use Rattle.ip_defragmenter.specs.Slot.{is_free}
+use Rattle.ip_defragmenter.specs.Slots.{has_key, is_oldest, own_in, new_place, displaced_in, place_in}
 use Rattle.ip_defragmenter.specs.declared.key.FragmentKey.{FragmentKey}
-use Rattle.ip_defragmenter.specs.declared.pending.Pending.{Pending}
+use Rattle.ip_defragmenter.specs.declared.slot.Slot.{Slot}
 use Rattle.ip_defragmenter.proofs.slots.place_in.Goals as goal
 
 -- The place by what the three searches found.
-placed_by : (s : List (Option Pending)) (k : FragmentKey) (t : ℕ) (o f d : Option ℕ) → o ≡ position (has_key k) s → f ≡ position is_free s → d ≡ position (is_oldest s) s
+placed_by : (s : List Slot) (k : FragmentKey) (t : ℕ) (o f d : Option ℕ) → o ≡ position (has_key k) s → f ≡ position is_free s → d ≡ position (is_oldest s) s
     → option_map_or (own_in s t) o (option_map_or (λ (i : ℕ). Some (new_place i t)) f (option_and_then (displaced_in s t) d)) ≡ place_in s k t
 placed_by s k t o f d own free oldest = rw (own, free, oldest) refl
 

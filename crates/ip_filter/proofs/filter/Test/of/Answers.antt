@@ -1,8 +1,9 @@
-use Rattle.ip_spec.proofs.Common.{rules, sym, ap, ◌∙◌}
+use Rattle.ip_spec.proofs.Common.{rules, sym, ap, ◌∙◌, ◌&&◌}
+use Rattle.ip_codes.specs.Codes.{layer_code}
 use Rattle.ip_dissect.specs.Dissection.{dissected}
-use Rattle.ip_filter.specs.Truth.{holds}
+use Rattle.ip_filter.specs.Truth.{holds, is_in_layer}
 use Rattle.ip_filter.proofs.MaskLemmas.{by_flags, fragment_mask, first_mask, later_mask, truncated_mask, incomplete_mask, faults_mask}
-use Rattle.ip_filter.proofs.TestLemmas.{by_identification, by_port, by_icmp_type, by_icmp_code, by_segments_left}
+use Rattle.ip_filter.proofs.TestLemmas.{by_identification, by_layer, by_port, by_icmp_type, by_icmp_code, by_segments_left}
 use Rattle.ip_filter.proofs.filter.Test.of.Goals as goal
 
 pub returns-in-Fragment-clause-meets : goal.returns-in-Fragment-clause-meets
@@ -41,3 +42,15 @@ returns-in-Port-clause-meets c =
 
 pub returns-in-IcmpType-clause-meets : goal.returns-in-IcmpType-clause-meets
 returns-in-IcmpType-clause-meets c = λ s. by_icmp_type c.of_number-in-IcmpType.result c.in-IcmpType.number (dissected s) c.of_number-in-IcmpType.ensures.kind (search rules) ∙ ap (λ t. holds t (dissected s)) (sym c.in-IcmpType.is)
+
+pub returns-in-TruncatedAt-clause-meets : goal.returns-in-TruncatedAt-clause-meets
+returns-in-TruncatedAt-clause-meets c =
+    let is = c.of_layer.ensures in
+    λ s. by_layer c.of_layer.result _ _ (dissected s) is.kind is.layer is.flags
+    ∙ ap (λ b. b && is_in_layer (layer_code c.in-TruncatedAt.layer) (dissected s).end) (truncated_mask s) ∙ ap (λ t. holds t (dissected s)) (sym c.in-TruncatedAt.is)
+
+pub returns-in-FaultAt-clause-meets : goal.returns-in-FaultAt-clause-meets
+returns-in-FaultAt-clause-meets c =
+    let is = c.of_layer-in-FaultAt.ensures in
+    λ s. by_layer c.of_layer-in-FaultAt.result _ _ (dissected s) is.kind is.layer is.flags
+    ∙ ap (λ b. b && is_in_layer (layer_code c.in-FaultAt.layer) (dissected s).end) (c.fault_mask-in-FaultAt.ensures s) ∙ ap (λ t. holds t (dissected s)) (sym c.in-FaultAt.is)

@@ -1,0 +1,161 @@
+/*
+ * Times wolfaren_defragment for fragments of 1,280 bytes that are interleaved over 1,000 packets, and for a flood of fragments
+ * whose packets never become whole, beside a copy of the same bytes with a look-up of the packet in a hash table.
+ *
+ * usage: PROGRAM [ROUNDS [JOB]]
+ *
+ * Each round has 50,000 fragments. JOB is `whole`, `flood`, `copy` or `none`; without it, prints nanoseconds for each fragment of
+ * each job, the least of several rounds, and ratios to the copy.
+ */
+#define _DEFAULT_SOURCE
+
+#include "wolfaren.h"
+
+#include <stdio.h>
+#include <stdlib.h>
+#include <string.h>
+#include <sys/mman.h>
+#include <time.h>
+
+enum { KEYS = 1000, PIECES = 50, FRAGMENTS = KEYS * PIECES, LEN = 1280, DATA = LEN - 48, SLOTS = 4096, TABLE = 4096 };
+
+static uint8_t *fragments;
+static struct wolfaren_slot *slots;
+static struct wolfaren_packet_memory *memories;
+static struct wolfaren_defragmenter_counts counts;
+static uint64_t now;
+static uint32_t flooded;
+
+struct entry {
+    uint8_t key[36];
+    uint32_t index; /* of the packet, from 1 on; 0 if the entry is free */
+};
+
+static struct entry table[TABLE];
+static uint8_t *copies;
+static uint32_t copied_keys;
+
+static void *reserve(size_t len)
+{
+    void *memory = mmap(NULL, len, PROT_READ | PROT_WRITE, MAP_PRIVATE | MAP_ANONYMOUS | MAP_NORESERVE, -1, 0);
+    if (memory == MAP_FAILED) exit(2);
+    return memory;
+}
+
+static void put_identification(uint8_t *bytes, uint32_t identification)
+{
+    for (int i = 0; i < 4; i++) bytes[44 + i] = (uint8_t)(identification >> (24 - 8 * i));
+}
+
+/* Fragment j of each packet, then fragment j + 1 of each. */
+static void make_fragments(void)
+{
+    for (unsigned i = 0; i < FRAGMENTS; i++) {
+        uint8_t *bytes = fragments + (size_t)i * LEN;
+        unsigned piece = i / KEYS, offset = piece * DATA | (piece < PIECES - 1 ? 1 : 0);
+        bytes[0] = 0x60;
+        bytes[4] = (LEN - 40) >> 8;
+        bytes[5] = (LEN - 40) & 255;
+        bytes[6] = 44;
+        bytes[23] = (uint8_t)(i % KEYS % 251);
+        bytes[39] = 2;
+        bytes[40] = 17;
+        bytes[42] = (uint8_t)(offset >> 8);
+        bytes[43] = (uint8_t)offset;
+        put_identification(bytes, i % KEYS);
+        memset(bytes + 48, (int)i, DATA);
+    }
+}
+
+static void add(const uint8_t *bytes)
+{
+    struct wolfaren_added added;
+    if (!wolfaren_defragment(slots, SLOTS, memories, SLOTS, &counts, 0x9e3779b1, now++, bytes, LEN, &added)) exit(3);
+}
+
+static void run_whole(void)
+{
+    for (size_t i = 0; i < FRAGMENTS; i++) add(fragments + i * LEN);
+}
+
+/* The first fragments, each with an identification of its own. */
+static void run_flood(void)
+{
+    for (size_t i = 0; i < FRAGMENTS; i++) {
+        uint8_t *bytes = fragments + i % KEYS * LEN;
+        put_identification(bytes, 1000000 + flooded++);
+        add(bytes);
+    }
+    for (unsigned i = 0; i < KEYS; i++) put_identification(fragments + (size_t)i * LEN, i);
+}
+
+/* Returns the number of the packet of a fragment. */
+static uint32_t find(const uint8_t *bytes)
+{
+    uint64_t hash = 0, word;
+    uint8_t key[36];
+    memcpy(key, bytes + 8, 32);
+    memcpy(key + 32, bytes + 44, 4);
+    for (int i = 0; i < 36; i += 4) {
+        memcpy(&word, key + (i < 32 ? i : 28), 8);
+        hash = (hash ^ word) * 0x9e3779b97f4a7c15;
+    }
+    struct entry *entry = &table[hash >> 52];
+    while (entry->index != 0 && memcmp(entry->key, key, 36) != 0) entry = entry == &table[TABLE - 1] ? table : entry + 1;
+    if (entry->index == 0) {
+        memcpy(entry->key, key, 36);
+        entry->index = ++copied_keys;
+    }
+    return entry->index - 1;
+}
+
+static void run_copy(void)
+{
+    for (size_t i = 0; i < FRAGMENTS; i++) {
+        const uint8_t *bytes = fragments + i * LEN;
+        size_t offset = ((size_t)bytes[42] << 8 | bytes[43]) & 0xfff8;
+        memcpy(copies + (size_t)find(bytes) * 65536 + offset, bytes + 48, DATA);
+    }
+}
+
+static void run_none(void)
+{
+}
+
+static const struct job {
+    const char *name;
+    void (*run)(void);
+} jobs[] = {{"none", run_none}, {"copy", run_copy}, {"whole", run_whole}, {"flood", run_flood}};
+
+static double seconds(void)
+{
+    struct timespec time;
+    clock_gettime(CLOCK_MONOTONIC, &time);
+    return (double)time.tv_sec + 1e-9 * (double)time.tv_nsec;
+}
+
+int main(int count, char **arguments)
+{
+    int rounds = count > 1 ? atoi(arguments[1]) : 20;
+    double least[4] = {0, 1e9, 1e9, 1e9};
+    fragments = reserve((size_t)FRAGMENTS * LEN);
+    slots = reserve(SLOTS * sizeof *slots);
+    memories = reserve(SLOTS * sizeof *memories);
+    copies = reserve((size_t)KEYS * 65536);
+    make_fragments();
+    for (int round = 0; round < rounds; round++) {
+        for (int i = 0; i < 4; i++) {
+            if (count > 2 && strcmp(arguments[2], jobs[i].name) != 0) continue;
+            double start = seconds();
+            jobs[i].run();
+            double time = (seconds() - start) / FRAGMENTS * 1e9;
+            if (i > 0 && time < least[i]) least[i] = time;
+        }
+    }
+    if (count > 2) return 0;
+    if (counts.outcomes[WOLFAREN_WHOLE] != (uint64_t)rounds * KEYS) return 4;
+    printf("copy and look-up  %7.1f ns a fragment\n", least[1]);
+    printf("whole packets     %7.1f ns a fragment: %.2f\n", least[2], least[2] / least[1]);
+    printf("flood             %7.1f ns a fragment: %.2f\n", least[3], least[3] / least[1]);
+    return 0;
+}

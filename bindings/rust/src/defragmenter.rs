@@ -1,0 +1,208 @@
+use crate::library;
+use alloc::boxed::Box;
+
+/// What became of a packet that a [`Defragmenter`] got.
+#[derive(Clone, Copy, Debug, PartialEq, Eq, Hash)]
+pub struct Added {
+    /// What became of it.
+    pub outcome: Outcome,
+    /// The index of its packet's slot, if it has one.
+    pub slot: Option<usize>,
+    /// Why the packet that had the slot before was given up, if one was.
+    pub loss: Option<Loss>,
+}
+
+/// What became of a packet.
+#[derive(Clone, Copy, Debug, PartialEq, Eq, Hash)]
+pub enum Outcome {
+    /// It is no fragment, or an atomic one, which is a packet by itself (RFC 6946).
+    NotFragment,
+    /// Fragments of its packet are missing.
+    MoreWanted,
+    /// Its packet is whole.
+    Whole,
+    /// It is a fragment, and was dropped.
+    Dropped(DropReason),
+}
+
+/// Why a fragment was dropped.
+#[derive(Clone, Copy, Debug, PartialEq, Eq, Hash)]
+pub enum DropReason {
+    /// Its extension headers are truncated or faulty (RFC 7112).
+    FaultyHeaders,
+    /// Its base header states a length of 0.
+    NoStatedLength,
+    /// Fewer bytes are here than it states.
+    BytesMissing,
+    /// More fragments follow, and its length isn't a positive multiple of 8.
+    Unaligned,
+    /// It ends after byte 65,535 of the payload.
+    TooLong,
+    /// Bytes of it have already arrived in another fragment, and its packet was abandoned (RFC 5722).
+    Overlap,
+    /// The fragments end at two places, and their packet was abandoned.
+    TwoEnds,
+    /// Its packet was abandoned.
+    Abandoned,
+    /// It is the first fragment, with headers of more than 4,096 bytes.
+    HeadersTooLong,
+    /// There are no slots.
+    NoSlot,
+}
+
+/// Why a packet was given up.
+#[derive(Clone, Copy, Debug, PartialEq, Eq, Hash)]
+pub enum Loss {
+    /// It wasn't whole 60 seconds after its first fragment (RFC 8200, section 4.5).
+    TimedOut,
+    /// Another packet needed its slot, and it was the oldest.
+    Displaced,
+}
+
+impl Outcome {
+    /// The outcomes in the order of their codes.
+    const ALL: [Outcome; 13] = [
+        Outcome::NotFragment,
+        Outcome::MoreWanted,
+        Outcome::Whole,
+        Outcome::Dropped(DropReason::FaultyHeaders),
+        Outcome::Dropped(DropReason::NoStatedLength),
+        Outcome::Dropped(DropReason::BytesMissing),
+        Outcome::Dropped(DropReason::Unaligned),
+        Outcome::Dropped(DropReason::TooLong),
+        Outcome::Dropped(DropReason::Overlap),
+        Outcome::Dropped(DropReason::TwoEnds),
+        Outcome::Dropped(DropReason::Abandoned),
+        Outcome::Dropped(DropReason::HeadersTooLong),
+        Outcome::Dropped(DropReason::NoSlot),
+    ];
+
+    /// Returns the outcome with this code. The library returns no others.
+    fn with_code(code: u8) -> Outcome {
+        Outcome::ALL
+            .get(usize::from(code))
+            .copied()
+            .unwrap_or(Outcome::NotFragment)
+    }
+
+    /// Whether a packet with this outcome has a slot.
+    fn has_slot(self) -> bool {
+        !matches!(
+            self,
+            Outcome::NotFragment
+                | Outcome::Dropped(
+                    DropReason::FaultyHeaders
+                        | DropReason::NoStatedLength
+                        | DropReason::BytesMissing
+                        | DropReason::NoSlot
+                )
+        )
+    }
+}
+
+/// Makes packets whole from their fragments, which may arrive in any order, and repeated. Needs the feature `alloc`.
+///
+/// A packet that isn't whole 60 seconds after its first fragment is given up when its next fragment arrives, or another
+/// packet needs its slot. Of more than 8 slots, 8 are for packets with the same hash; if all of these are in use, the oldest
+/// packet is given up. After an overlap or two ends, all further fragments of the packet are dropped (RFC 5722).
+///
+/// ```
+/// use wolfaren::{Defragmenter, Outcome};
+///
+/// // Two fragments with 8 bytes of payload each, and a fragment header of UDP.
+/// let mut first = [0; 56];
+/// (first[0], first[5], first[6], first[40], first[43]) = (0x60, 16, 44, 17, 1);
+/// let mut last = first;
+/// last[43] = 8;
+/// let mut defragmenter = Defragmenter::new(16, 0x1234_5678);
+/// assert_eq!(defragmenter.add(0, &last).outcome, Outcome::MoreWanted);
+/// let added = defragmenter.add(1, &first);
+/// assert_eq!((added.outcome, added.slot.is_some()), (Outcome::Whole, true));
+/// let mut packet = [0; Defragmenter::PACKET_ROOM];
+/// assert_eq!(added.slot.and_then(|slot| defragmenter.write(slot, &mut packet)), Some(56));
+/// assert_eq!((packet[5], packet[6]), (16, 17));
+/// assert_eq!(defragmenter.count(Outcome::Whole), 1);
+/// ```
+pub struct Defragmenter {
+    slots: Box<[library::Slot]>,
+    memories: Box<[library::PacketMemory]>,
+    counts: library::DefragmenterCounts,
+    factor: u32,
+}
+
+impl core::fmt::Debug for Defragmenter {
+    fn fmt(&self, formatter: &mut core::fmt::Formatter<'_>) -> core::fmt::Result {
+        formatter
+            .debug_struct("Defragmenter")
+            .field("slots", &self.slots.len())
+            .finish_non_exhaustive()
+    }
+}
+
+impl Defragmenter {
+    /// A length in bytes that is enough for each whole packet.
+    pub const PACKET_ROOM: usize = 65_575;
+
+    /// Returns a defragmenter for at most this many incomplete packets at once. `factor` should be a random number that
+    /// senders don't know.
+    ///
+    /// It allocates 78 KB for each slot as zeros, of which a system with virtual memory uses only the pages that packets need.
+    #[must_use]
+    pub fn new(slots: usize, factor: u32) -> Defragmenter {
+        Defragmenter {
+            slots: library::zeroed(slots),
+            memories: library::zeroed(slots),
+            counts: library::DefragmenterCounts::default(),
+            factor,
+        }
+    }
+
+    /// Adds the packet at the start of `bytes`, which arrived at this time, in nanoseconds since any moment. If its packet is
+    /// whole, [`write`](Defragmenter::write) writes it, until another packet has its slot.
+    pub fn add(&mut self, nanoseconds: u64, bytes: &[u8]) -> Added {
+        let added = library::defragment(
+            &mut self.slots,
+            &mut self.memories,
+            &mut self.counts,
+            self.factor,
+            nanoseconds,
+            bytes,
+        );
+        let outcome = Outcome::with_code(added.outcome);
+        Added {
+            outcome,
+            slot: outcome.has_slot().then_some(added.slot),
+            loss: match added.loss {
+                1 => Some(Loss::TimedOut),
+                2 => Some(Loss::Displaced),
+                _ => None,
+            },
+        }
+    }
+
+    /// Writes the whole packet of a slot to the start of `out`, and returns its length in bytes. Returns `None`, and writes
+    /// nothing, if there is no such slot, its packet isn't whole, the packet is longer than its length field can state, or
+    /// `out` is too short.
+    pub fn write(&self, slot: usize, out: &mut [u8]) -> Option<usize> {
+        library::write_whole_packet(self.memories.get(slot)?, out)
+    }
+
+    /// Returns how many packets had this outcome. Stops at `u64::MAX`.
+    #[must_use]
+    pub fn count(&self, outcome: Outcome) -> u64 {
+        let counts = Outcome::ALL.iter().zip(&self.counts.outcomes);
+        counts
+            .filter(|(other, _)| **other == outcome)
+            .map(|(_, count)| *count)
+            .sum()
+    }
+
+    /// Returns how many packets were given up for this reason. Stops at `u64::MAX`.
+    #[must_use]
+    pub fn lost(&self, loss: Loss) -> u64 {
+        match loss {
+            Loss::TimedOut => self.counts.losses[1],
+            Loss::Displaced => self.counts.losses[2],
+        }
+    }
+}

@@ -1,0 +1,93 @@
+//! Tests `Defragmenter` with fragments made here, by RFC 8200, section 4.5, and RFC 791, section 3.2.
+#![cfg(all(feature = "alloc", not(miri)))]
+use wolfaren::{Defragmenter, DropReason, Loss, Outcome};
+
+/// A fragment of an IPv6 packet with 16 bytes of the payload that counts from 0 on.
+fn piece(identification: u32, number: u8, more: bool) -> Vec<u8> {
+    let mut bytes = vec![0; 48];
+    (bytes[0], bytes[5], bytes[6], bytes[40]) = (0x60, 24, 44, 17);
+    bytes[43] = (number * 16) | u8::from(more);
+    bytes[44..48].copy_from_slice(&identification.to_be_bytes());
+    bytes.extend(number * 16..number * 16 + 16);
+    bytes
+}
+
+/// The whole packet of so many pieces.
+fn whole(pieces: u8) -> Vec<u8> {
+    let mut bytes = vec![0; 40];
+    (bytes[0], bytes[5], bytes[6]) = (0x60, 16 * pieces, 17);
+    bytes.extend(0..16 * pieces);
+    bytes
+}
+
+/// Returns the packet in a slot.
+fn packet_in(defragmenter: &Defragmenter, slot: Option<usize>) -> Vec<u8> {
+    let mut out = vec![0; Defragmenter::PACKET_ROOM];
+    let len = slot.and_then(|slot| defragmenter.write(slot, &mut out));
+    out.truncate(len.unwrap_or(0));
+    out
+}
+
+#[test]
+fn any_order() {
+    let mut defragmenter = Defragmenter::new(4096, 7);
+    let orders = [
+        [0, 1, 2],
+        [0, 2, 1],
+        [1, 0, 2],
+        [1, 2, 0],
+        [2, 0, 1],
+        [2, 1, 0],
+    ];
+    for (identification, order) in (1..).zip(orders) {
+        for number in &order[..2] {
+            let added = defragmenter.add(0, &piece(identification, *number, *number < 2));
+            assert_eq!((added.outcome, added.loss), (Outcome::MoreWanted, None));
+            assert_eq!(packet_in(&defragmenter, added.slot), []);
+        }
+        let added = defragmenter.add(0, &piece(identification, order[2], order[2] < 2));
+        assert_eq!(added.outcome, Outcome::Whole);
+        assert_eq!(packet_in(&defragmenter, added.slot), whole(3));
+    }
+    assert_eq!(defragmenter.count(Outcome::Whole), 6);
+    assert_eq!(defragmenter.count(Outcome::MoreWanted), 12);
+}
+
+#[test]
+fn losses_and_drops() {
+    let mut defragmenter = Defragmenter::new(1, 0);
+    assert_eq!(defragmenter.add(5, &piece(1, 0, true)).slot, Some(0));
+    assert_eq!(
+        defragmenter.add(6, &piece(2, 0, true)).loss,
+        Some(Loss::Displaced)
+    );
+    let late = 60_000_000_007;
+    assert_eq!(
+        defragmenter.add(late, &piece(2, 1, true)).loss,
+        Some(Loss::TimedOut)
+    );
+    let added = defragmenter.add(late, &piece(2, 1, false));
+    assert_eq!(added.outcome, Outcome::Dropped(DropReason::Overlap));
+    let added = defragmenter.add(late, &piece(2, 0, true));
+    assert_eq!(added.outcome, Outcome::Dropped(DropReason::Abandoned));
+    let added = defragmenter.add(late, &piece(2, 0, true)[..60]);
+    assert_eq!(added.outcome, Outcome::Dropped(DropReason::BytesMissing));
+    assert_eq!(added.slot, None);
+    assert_eq!(
+        defragmenter.add(late, &whole(1)).outcome,
+        Outcome::NotFragment
+    );
+    assert_eq!(
+        (
+            defragmenter.lost(Loss::TimedOut),
+            defragmenter.lost(Loss::Displaced)
+        ),
+        (1, 1)
+    );
+    assert_eq!(defragmenter.write(9, &mut [0; 100]), None);
+    let mut none = Defragmenter::new(0, 0);
+    assert_eq!(
+        none.add(0, &piece(1, 0, true)).outcome,
+        Outcome::Dropped(DropReason::NoSlot)
+    );
+}

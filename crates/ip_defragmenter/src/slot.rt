@@ -1,0 +1,128 @@
+//! Slots of packets.
+ghost use Rattle.std.specs.Prelude.{◌≡◌, ◌<◌, length, Some, true};
+ghost use Rattle.ip_defragmenter.specs.Slot.{pending_in, is_free, free_slot, slot_of, front_of, padded};
+
+use crate::{FragmentKey, Pending};
+use ip_base::IpNumber;
+
+/// A slot: that of a packet which isn't whole yet, or free.
+///
+/// It consists of numbers alone, so that it can lie in memory of other languages. It is free if all of them are 0.
+#[repr(C)]
+#[derive(Clone, Copy, Debug, PartialEq, Eq)]
+pub struct Slot {
+    /// When the packet's first fragment arrived.
+    since: u64,
+    /// The source address; of IPv4 in the first 4 bytes.
+    source: [u8; 16],
+    /// The destination address; of IPv4 in the first 4 bytes.
+    destination: [u8; 16],
+    /// The identification.
+    identification: u32,
+    /// The protocol number of an IPv4 packet.
+    protocol: u8,
+    /// The IP version, 4 or 6; if it is another number, the slot is free.
+    version: u8,
+}
+
+/// Returns the first 4 bytes.
+#[inline(always)]
+fn front_of(bytes: &[u8; 16]) -> [u8; 4]
+    ensures { result ≡ front_of bytes.now }
+{
+    [bytes[0], bytes[1], bytes[2], bytes[3]]
+}
+
+/// Returns 4 bytes with twelve zeros after them.
+#[inline(always)]
+fn padded(bytes: &[u8; 4]) -> [u8; 16]
+    ensures { result ≡ padded bytes.now }
+{
+    [
+        bytes[0], bytes[1], bytes[2], bytes[3], 0, 0, 0, 0, 0, 0, 0, 0, 0, 0, 0, 0,
+    ]
+}
+
+impl Slot {
+    /// Returns a free slot.
+    pub fn free() -> Slot
+        ensures { result ≡ free_slot }
+    {
+        Slot {
+            since: 0,
+            source: [0; 16],
+            destination: [0; 16],
+            identification: 0,
+            protocol: 0,
+            version: 0,
+        }
+    }
+
+    /// Returns the packet that has the slot, or `None` if the slot is free.
+    #[inline(always)]
+    pub fn pending(&self) -> Option<Pending>
+        ensures { result ≡ pending_in self.now }
+    {
+        let key = match self.version {
+            4 => FragmentKey::Ipv4 {
+                source: front_of(&self.source),
+                destination: front_of(&self.destination),
+                protocol: IpNumber(self.protocol),
+                identification: (self.identification % 65536) as u16,
+            },
+            6 => FragmentKey::Ipv6 {
+                source: self.source,
+                destination: self.destination,
+                identification: self.identification,
+            },
+            _ => return None,
+        };
+        Some(Pending {
+            key,
+            since: self.since,
+        })
+    }
+
+    /// Returns whether the slot is free.
+    #[inline(always)]
+    pub(crate) fn is_free(&self) -> bool
+        ensures { result ≡ is_free self.now }
+    {
+        self.pending().is_none()
+    }
+
+    /// Returns the slot of a packet.
+    #[inline(always)]
+    pub(crate) fn of(pending: Pending) -> Slot
+        ensures { result ≡ slot_of pending }
+    {
+        let since = pending.since;
+        match pending.key {
+            FragmentKey::Ipv4 {
+                source,
+                destination,
+                protocol,
+                identification,
+            } => Slot {
+                since,
+                source: padded(&source),
+                destination: padded(&destination),
+                identification: u32::from(identification),
+                protocol: protocol.0,
+                version: 4,
+            },
+            FragmentKey::Ipv6 {
+                source,
+                destination,
+                identification,
+            } => Slot {
+                since,
+                source,
+                destination,
+                identification,
+                protocol: 0,
+                version: 6,
+            },
+        }
+    }
+}

@@ -1,0 +1,23 @@
+-- The state of an iterator over the addresses of a routing header.
+use Rattle.std.specs.Prelude.{ℕ, ◌-◌, List}
+use Rattle.ip_header_contents.specs.Routing.{addresses_from}
+use Rattle.ip_header_contents.specs.declared.routing_layout.AddressLayout.{AddressLayout}
+use Rattle.ip_header_contents.specs.declared.routing_addresses.RoutingAddress.{RoutingAddress}
+use Rattle.ip_header_contents.specs.declared.routing_addresses.RoutingAddresses.{RoutingAddresses}
+
+-- the bytes of an address that are in the header
+abbrev pub last_bytes : RoutingAddress → List ℕ
+last_bytes a = a.suffix.now
+
+-- The header's bytes, the layout, the index of the next address, and the addresses from there on.
+abbrev pub routing_bytes : RoutingAddresses → List ℕ
+routing_bytes it = it.header.now
+
+abbrev pub layout : RoutingAddresses → AddressLayout
+layout it = it.layout
+
+abbrev pub index : RoutingAddresses → ℕ
+index it = it.index
+
+abbrev pub addresses_left : RoutingAddresses → List (List ℕ)
+addresses_left it = addresses_from (layout it) (routing_bytes it) (index it) ((layout it).count - index it)

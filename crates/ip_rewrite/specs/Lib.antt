@@ -1,0 +1,6 @@
+pub mod Headers
+pub mod Base
+pub mod Rewritten
+pub mod Selection
+pub mod Writing
+pub mod Without

@@ -1,0 +1,50 @@
+-- A packet with other extension headers or another payload, and nothing else changed.
+use Rattle.std.specs.Prelude.{ℕ, ◌+◌, ◌++◌, Bool, ◌==◌, ◌&&◌, not, List, [], length, nat_lt, Option, Some, None, is_some, if◌then◌else◌}
+use Rattle.ip_spec.specs.Chain.{ExtHeader, bytes_of}
+use Rattle.ip_dissect.specs.Extent.{ipv4_stated, ipv6_stated}
+use Rattle.ip_dissect.specs.Fragment.{ipv6_fragment}
+use Rattle.ip_dissect.specs.Dissection.{DissectedParts}
+use Rattle.ip_rewrite.specs.Headers.{number_of_first, linked_headers}
+use Rattle.ip_rewrite.specs.Base.{length_field, base_before}
+use Rattle.ip_rewrite.specs.declared.err.RewriteError.{RewriteError}
+use Rattle.ip_rewrite.specs.declared.err.RewriteError.TheVariants.{TooLong, NoRoom}
+
+-- The packet states no length: its length field is 0 although bytes follow the base header, as in a jumbogram (RFC 2675)
+-- or a packet captured before segmentation offload. The field stays 0.
+abbrev pub is_unstated : DissectedParts → Bool
+is_unstated p = not (is_some p.stated) && not (length (bytes_of p.headers) + length p.payload == 0)
+
+-- the base header of the packet with the parts p if the headers c follow it, and then the bytes q, which start with the
+-- number m
+abbrev pub base_for : DissectedParts → List ExtHeader → ℕ → List ℕ → List ℕ
+base_for p c m q = base_before p.version (is_unstated p) p.base (number_of_first c m) (length (bytes_of c) + length q)
+
+-- that packet
+abbrev pub rewritten : DissectedParts → List ExtHeader → ℕ → List ℕ → List ℕ
+rewritten p c m q = base_for p c m q ++ bytes_of (linked_headers m c) ++ q
+
+-- and its parts: without padding, and with the fragment that its headers then say it is
+abbrev pub rewritten_parts : DissectedParts → List ExtHeader → ℕ → List ℕ → DissectedParts
+rewritten_parts p c m q = record p {
+  base = base_for p c m q;
+  stated = if p.version == 4 then ipv4_stated (base_for p c m q) else ipv6_stated (base_for p c m q);
+  headers = linked_headers m c;
+  number = m;
+  payload = q;
+  fragment = if p.version == 4 then p.fragment else ipv6_fragment (linked_headers m c);
+  padding = [];
+}
+
+-- its length in bytes, and what its length field states
+abbrev pub rewritten_len : DissectedParts → List ExtHeader → List ℕ → ℕ
+rewritten_len p c q = length p.base + length (bytes_of c) + length q
+
+abbrev pub rewritten_field : DissectedParts → List ExtHeader → List ℕ → ℕ
+rewritten_field p c q = length_field p.version (is_unstated p) p.base (length (bytes_of c) + length q)
+
+-- why it can't be written into so many bytes: its length field has 16 bits, or it is longer
+abbrev pub room_fault : DissectedParts → List ExtHeader → List ℕ → ℕ → Option RewriteError
+room_fault p c q room =
+    if nat_lt 65535 (rewritten_field p c q) then Some TooLong
+    else if nat_lt room (rewritten_len p c q) then Some NoRoom
+    else None

@@ -1,0 +1,74 @@
+-- A packet without some of its extension headers.
+use Rattle.std.specs.Prelude.{ℕ, Bool, true, false, ◌==◌, ◌&&◌, ◌||◌, not, List, slice_index, Option, Some, None, is_some, if◌then◌else◌}
+use Rattle.std.specs.List.{list_any}
+use Rattle.std.specs.Option.{option_or}
+use Rattle.ip_spec.specs.Numbers.{ROUTING, AUTHENTICATION}
+use Rattle.ip_spec.specs.Chain.{ExtHeader}
+use Rattle.ip_dissect.specs.Fragment.{fragments}
+use Rattle.ip_dissect.specs.End.{has_error}
+use Rattle.ip_dissect.specs.Outline.{is_later_end}
+use Rattle.ip_dissect.specs.Dissection.{DissectedParts}
+use Rattle.ip_rewrite.specs.Rewritten.{rewritten, rewritten_len, rewritten_parts, room_fault}
+use Rattle.ip_rewrite.specs.Selection.{kept, any_selected, selects_fragmented}
+use Rattle.ip_rewrite.specs.declared.which.Which.{Which}
+use Rattle.ip_rewrite.specs.declared.which.Authentication.{Authentication}
+use Rattle.ip_rewrite.specs.declared.which.Authentication.TheVariants.{Valid, Invalid}
+use Rattle.ip_rewrite.specs.declared.err.RewriteError.{RewriteError}
+use Rattle.ip_rewrite.specs.declared.err.RewriteError.TheVariants as err
+
+-- an authentication header
+abbrev pub is_authentication : ExtHeader → Bool
+is_authentication h = h.number == AUTHENTICATION
+
+-- A routing header with segments left: the destination in the base header isn't the final one, which transport checksums
+-- cover (RFC 8200, sections 4.4 and 8.1).
+abbrev pub has_segments : ExtHeader → Bool
+has_segments h = (h.number == ROUTING) && not (slice_index h.bytes 3 == 0)
+
+-- why no packet can be made of this one, whatever is changed: its headers end with an error, bytes of it are missing, or it
+-- is a later fragment, whose chain isn't there
+abbrev pub packet_fault : DissectedParts → Option RewriteError
+packet_fault p =
+    if has_error p.end then Some err.Headers
+    else if not (p.missing == 0) then Some err.Missing
+    else if is_later_end p.end then Some err.LaterFragment
+    else None
+
+-- An IPv4 packet is a fragment by its base header: its extension header is in the payload that is fragmented.
+abbrev pub is_ipv4_fragment : DissectedParts → Bool
+is_ipv4_fragment p = (p.version == 4) && is_some p.fragment
+
+-- an authentication header may be kept whose check value doesn't hold for the changed packet
+abbrev pub may_be_invalid : Authentication → Bool
+may_be_invalid Valid = false
+may_be_invalid Invalid = true
+
+-- why these headers can't be left out: none is selected; one is the fragment header of a fragment, or is fragmented; an
+-- authentication header is kept, which covers the whole packet (RFC 4302, section 3.3.3); or the payload of an IPv4 packet
+-- would be read as one
+abbrev pub selection_fault : Which → Authentication → DissectedParts → Option RewriteError
+selection_fault w a p =
+    if not (any_selected (λ h. true) w 0 p.headers) then Some err.NoHeader
+    else if any_selected fragments w 0 p.headers then Some err.FragmentHeader
+    else if is_ipv4_fragment p || selects_fragmented w 0 false p.headers then Some err.Fragmented
+    else if list_any is_authentication (kept w p.headers) && not (may_be_invalid a) then Some err.Authenticated
+    else if (p.version == 4) && (p.number == AUTHENTICATION) then Some err.HeaderFollows
+    else None
+
+-- the packet without these headers, its length and its parts
+abbrev pub without : Which → DissectedParts → List ℕ
+without w p = rewritten p (kept w p.headers) p.number p.payload
+
+abbrev pub len_without : Which → DissectedParts → ℕ
+len_without w p = rewritten_len p (kept w p.headers) p.payload
+
+abbrev pub parts_without : Which → DissectedParts → DissectedParts
+parts_without w p = rewritten_parts p (kept w p.headers) p.number p.payload
+
+-- why the packet can't be written without these headers into so many bytes
+abbrev pub without_fault : Which → Authentication → DissectedParts → ℕ → Option RewriteError
+without_fault w a p room = option_or (packet_fault p) (option_or (selection_fault w a p) (room_fault p (kept w p.headers) p.payload room))
+
+-- a transport checksum holds as before
+abbrev pub keeps_checksums : Which → DissectedParts → Bool
+keeps_checksums w p = not (any_selected has_segments w 0 p.headers)

@@ -1,0 +1,77 @@
+-- What is known while a packet is written.
+use Rattle.std.specs.Prelude.{◌≡◌, ◌<◌, ℕ, ◌+◌, true, false, ◌||◌, ◌&&◌, not, ◌++◌, List, [], ◌∷◌, length, drop, slice_set, slice_index, if◌then◌else◌}
+use Rattle.std.specs.List.{list_any, AllByRecursion}
+use Rattle.ip_spec.specs.Header.{IsHeader}
+use Rattle.ip_spec.specs.Chain.{ExtHeader, bytes_of, leads_to}
+use Rattle.ip_dissect.specs.Fragment.{fragments}
+use Rattle.ip_rewrite.specs.Headers.{number_of_first, linked_headers}
+use Rattle.ip_rewrite.specs.Selection.{selects, kept, any_selected, selects_fragmented}
+use Rattle.ip_rewrite.specs.Without.{is_authentication, has_segments}
+use Rattle.ip_rewrite.specs.declared.which.Which.{Which}
+use Rattle.ip_rewrite.specs.declared.survey.Survey.{Survey}
+use Rattle.ip_rewrite.specs.declared.survey.HeaderFacts.{HeaderFacts}
+
+-- what matters of the header h with the index i
+abbrev pub facts_of : Which → ℕ → ExtHeader → HeaderFacts
+facts_of w i h = record {
+  is_selected = selects w i h;
+  fragments = fragments h;
+  authenticates = is_authentication h;
+  has_segments = has_segments h;
+  len = length h.bytes;
+}
+
+-- a survey before the first header
+abbrev pub no_survey : Which → Survey
+no_survey w = record {
+  which = w;
+  selects = false;
+  selects_fragmenting = false;
+  selects_fragmented = false;
+  selects_segments = false;
+  is_fragmented = false;
+  keeps_authentication = false;
+  kept_len = 0;
+}
+
+-- a survey after one more header
+abbrev pub surveyed_one : Survey → HeaderFacts → Survey
+surveyed_one v s = record v {
+  selects = v.selects || s.is_selected;
+  selects_fragmenting = v.selects_fragmenting || s.is_selected && s.fragments;
+  selects_fragmented = v.selects_fragmented || v.is_fragmented && s.is_selected;
+  selects_segments = v.selects_segments || s.is_selected && s.has_segments;
+  is_fragmented = v.is_fragmented || s.fragments;
+  keeps_authentication = v.keeps_authentication || not s.is_selected && s.authenticates;
+  kept_len = if s.is_selected then v.kept_len else v.kept_len + s.len;
+}
+
+-- after all headers of a chain
+abbrev pub surveyed : Survey → List ExtHeader → Survey
+surveyed v c = record v {
+  selects = v.selects || any_selected (λ h. true) v.which 0 c;
+  selects_fragmenting = v.selects_fragmenting || any_selected fragments v.which 0 c;
+  selects_fragmented = v.selects_fragmented || selects_fragmented v.which 0 v.is_fragmented c;
+  selects_segments = v.selects_segments || any_selected has_segments v.which 0 c;
+  is_fragmented = v.is_fragmented || list_any fragments c;
+  keeps_authentication = v.keeps_authentication || list_any is_authentication (kept v.which c);
+  kept_len = v.kept_len + length (bytes_of (kept v.which c));
+}
+
+-- The base header b, in which the number of what follows is at the offset l, and the headers c after it, each of which leads
+-- to the next one, and the last to m.
+abbrev pub front : ℕ → List ℕ → List ExtHeader → ℕ → List ℕ
+front l b c m = slice_set b l (number_of_first c m) ++ bytes_of (linked_headers m c)
+
+-- the offset of the number of what follows them
+abbrev pub link_of : ℕ → List ℕ → List ExtHeader → ℕ
+link_of l b [] = l
+link_of l b (h ∷ c) = length b + link_of 0 h.bytes c
+
+-- These headers, of which the last leads to what it led to, are written at the front of the buffer `old`.
+pub record IsWritten (l : ℕ) (b : List ℕ) (old : List ℕ) (c : List ExtHeader) (new : List ℕ) (size field : ℕ) : Type 0 where
+  pub at : l < length b
+  pub headers : AllByRecursion (λ h. IsHeader h.number h.bytes) c
+  pub bytes : new ≡ front l b c (leads_to (slice_index b l) c) ++ drop (length b + length (bytes_of c)) old
+  pub len : size ≡ length b + length (bytes_of c)
+  pub link : field ≡ link_of l b c

@@ -1,0 +1,38 @@
+//! Why packets aren't rewritten.
+
+use thiserror::Error;
+
+/// A packet isn't rewritten.
+#[derive(Clone, Copy, Debug, PartialEq, Eq, Hash, Error)]
+pub enum RewriteError {
+    /// There is no base header, or the extension headers are truncated or faulty; `ip_dissect::dissect` says why.
+    #[error("the headers of the packet are truncated or faulty")]
+    Headers,
+    /// Fewer bytes are here than the base header states.
+    #[error("bytes of the packet are missing")]
+    Missing,
+    /// The packet is a fragment with an offset other than 0: it has no chain of its own (RFC 8200, section 4.5).
+    #[error("the packet is a later fragment")]
+    LaterFragment,
+    /// No header is selected.
+    #[error("the packet has no such header")]
+    NoHeader,
+    /// The header is the fragment header of a fragment.
+    #[error("the header is that of a fragment")]
+    FragmentHeader,
+    /// The change is in the part of the packet that is fragmented.
+    #[error("the change is in the part that is fragmented")]
+    Fragmented,
+    /// An authentication header covers what is changed (RFC 4302, section 3.3.3).
+    #[error("an authentication header covers the change")]
+    Authenticated,
+    /// The payload would be read as an extension header.
+    #[error("the payload would be read as an extension header")]
+    HeaderFollows,
+    /// The length field can't state the length of the packet (RFC 791, section 3.1; RFC 8200, section 3).
+    #[error("the packet is too long for its length field")]
+    TooLong,
+    /// The buffer is too short.
+    #[error("the buffer is too short for the packet")]
+    NoRoom,
+}

@@ -1,0 +1,17 @@
+//! Packets with other extension headers.
+#![tactic(auto)]
+
+mod base;
+mod checksum;
+mod err;
+mod keeper;
+mod removal;
+mod survey;
+#[cfg(test)]
+mod tests;
+mod which;
+mod write;
+
+pub use err::RewriteError;
+pub use removal::{Rewritten, without};
+pub use which::{Authentication, Which};

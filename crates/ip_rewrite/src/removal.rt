@@ -1,0 +1,130 @@
+//! Packets without some of their extension headers.
+ghost use Rattle.std.specs.Prelude.{◌≡◌, ◌≤◌, ◌<◌, ◌+◌, ◌^◌, ◌++◌, ◌==◌, ℕ, List, length, drop, take, false, if◌then◌else◌, IfOk, OnOk, OnErr};
+ghost use Rattle.std.specs.Result.{result_err};
+ghost use Rattle.ip_dissect.specs.Dissection.{DissectedParts, dissected};
+ghost use Rattle.ip_dissect.specs.Outline.{outline_of};
+ghost use Rattle.ip_rewrite.specs.Rewritten.{rewritten_field};
+ghost use Rattle.ip_rewrite.specs.Selection.{kept};
+ghost use Rattle.ip_rewrite.specs.Without.{packet_fault, selection_fault, without, len_without, parts_without, without_fault, keeps_checksums};
+ghost use Rattle.ip_rewrite.specs.Writing.{no_survey, surveyed};
+
+use crate::survey::Survey;
+use crate::write::{test_room, write_kept};
+use crate::{Authentication, RewriteError, Which};
+use ip_base::ip_number;
+use ip_dissect::{Outline, Packet};
+
+/// A packet that was written.
+#[derive(Clone, Copy, Debug, PartialEq, Eq)]
+pub struct Rewritten {
+    /// Its length in bytes.
+    pub len: usize,
+    /// Whether a transport checksum holds as before.
+    pub keeps_checksums: bool,
+}
+
+/// Returns why no packet can be made of this one, whatever is changed.
+#[inline(always)]
+pub(crate) fn test_packet(outline: &Outline) -> Result<(), RewriteError>
+    ensures fault { (p : DissectedParts) → outline.now ≡ outline_of p → result_err result ≡ packet_fault p }
+    ensures whole { OnOk result (outline.now.has_error ≡ false) }
+{
+    if outline.has_error {
+        return Err(RewriteError::Headers);
+    }
+    if outline.missing != 0 {
+        return Err(RewriteError::Missing);
+    }
+    if outline.is_later_fragment {
+        return Err(RewriteError::LaterFragment);
+    }
+    Ok(())
+}
+
+/// Returns why the headers that are selected can't be left out.
+#[inline(always)]
+fn test_selection(
+    outline: &Outline,
+    survey: &Survey,
+    authentication: Authentication,
+) -> Result<(), RewriteError>
+    ensures { (p : DissectedParts) → outline.now ≡ outline_of p
+        → survey.now ≡ surveyed (no_survey survey.now.which) p.headers
+        → result_err result ≡ selection_fault survey.now.which authentication p }
+{
+    let is_ipv4 = outline.version == 4;
+    if !survey.selects {
+        return Err(RewriteError::NoHeader);
+    }
+    if survey.selects_fragmenting {
+        return Err(RewriteError::FragmentHeader);
+    }
+    if is_ipv4 & outline.fragment.is_some() | survey.selects_fragmented {
+        return Err(RewriteError::Fragmented);
+    }
+    if survey.keeps_authentication && authentication == Authentication::Valid {
+        return Err(RewriteError::Authenticated);
+    }
+    if is_ipv4 && outline.next_header == ip_number::AUTH {
+        return Err(RewriteError::HeaderFollows);
+    }
+    Ok(())
+}
+
+/// Returns the number for the length field, or why the packet can't be written without the headers that are selected.
+#[inline(always)]
+fn test(
+    packet: &Packet<'_>,
+    survey: &Survey,
+    authentication: Authentication,
+    room: usize,
+) -> Result<u16, RewriteError>
+    requires survey { survey.now ≡ surveyed (no_survey survey.now.which) (dissected packet.now.bytes.now).headers }
+    requires small { length packet.now.bytes.now < 2 ^ 64 }
+    ensures fault { result_err result
+        ≡ without_fault survey.now.which authentication (dissected packet.now.bytes.now) room }
+    ensures field { IfOk result (λ n. n ≡ rewritten_field (dissected packet.now.bytes.now)
+        (kept survey.now.which (dissected packet.now.bytes.now).headers) (dissected packet.now.bytes.now).payload) }
+    ensures fits { OnOk result (len_without survey.now.which (dissected packet.now.bytes.now) ≤ room) }
+    ensures base { OnOk result ((if (dissected packet.now.bytes.now).version == 4 then 20 else 40)
+        ≤ length (dissected packet.now.bytes.now).base) }
+{
+    let outline = &packet.outline;
+    test_packet(outline)?;
+    test_selection(outline, survey, authentication)?;
+    test_room(outline, survey.kept_len, outline.payload_len, room)
+}
+
+/// Writes a packet to the front of `out` without the extension headers that are selected, and nothing else changed.
+pub fn without(
+    packet: &[u8],
+    which: Which,
+    authentication: Authentication,
+    out: &mut [u8],
+) -> Result<Rewritten, RewriteError>
+    ensures fault { result_err result
+        ≡ without_fault which authentication (dissected packet.now) (length out.old) }
+    ensures len { IfOk result (λ r. r.len ≡ len_without which (dissected packet.now)) }
+    ensures checksums { IfOk result (λ r.
+        r.keeps_checksums ≡ keeps_checksums which (dissected packet.now)) }
+    ensures written { IfOk result (λ r.
+        out.new ≡ without which (dissected packet.now) ++ drop r.len out.old) }
+    ensures dissects { IfOk result (λ r.
+        dissected (take r.len out.new) ≡ parts_without which (dissected packet.now)) }
+    ensures stays { OnErr result (out.new ≡ out.old) }
+{
+    let mut survey = Survey::new(which);
+    let packet = Packet::walk(packet, &mut survey);
+    match test(&packet, &survey, authentication, out.len()) {
+        Ok(field) => {
+            let outline = &packet.outline;
+            let len = outline.base_len + survey.kept_len + outline.payload_len;
+            write_kept(&packet, which, survey.kept_len, field, out);
+            Ok(Rewritten {
+                len,
+                keeps_checksums: !survey.selects_segments,
+            })
+        }
+        Err(error) => Err(error),
+    }
+}

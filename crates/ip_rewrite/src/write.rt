@@ -1,0 +1,135 @@
+//! How a packet is written: its base header, the headers that are kept, and a payload.
+ghost use Rattle.std.specs.Prelude.{◌≡◌, ◌≤◌, ◌<◌, ◌+◌, ◌^◌, ◌++◌, ◌==◌, ℕ, List, length, drop, if◌then◌else◌, OnOk, IfOk};
+ghost use Rattle.std.specs.Result.{result_err};
+ghost use Rattle.ip_spec.specs.Chain.{ExtHeader, bytes_of};
+ghost use Rattle.ip_dissect.specs.Outline.{outline_of};
+ghost use Rattle.ip_dissect.specs.Dissection.{DissectedParts, dissected};
+ghost use Rattle.ip_rewrite.specs.Base.{number_offset};
+ghost use Rattle.ip_rewrite.specs.Rewritten.{rewritten_len, rewritten_field, room_fault};
+ghost use Rattle.ip_rewrite.specs.Selection.{kept};
+ghost use Rattle.ip_rewrite.specs.Without.{without, len_without};
+ghost use Rattle.ip_rewrite.specs.Writing.{IsWritten};
+
+use crate::base::state;
+use crate::keeper::{Keeper, put_at, set};
+use crate::{RewriteError, Which};
+use ip_dissect::{Outline, Packet};
+
+/// Returns the number for the length field of a packet with `kept_len` bytes of extension headers and `payload_len` bytes
+/// of payload, if it has one.
+#[inline(always)]
+fn length_field(outline: &Outline, kept_len: usize, payload_len: usize) -> usize
+    requires new { outline.now.base_len + kept_len + payload_len < 2 ^ 64 }
+    requires old { outline.now.extensions_len + outline.now.payload_len < 2 ^ 64 }
+    ensures { (p : DissectedParts) (c : List ExtHeader) (q : List ℕ) → outline.now ≡ outline_of p
+        → kept_len ≡ length (bytes_of c) → payload_len ≡ length q
+        → result ≡ rewritten_field p c q }
+{
+    if outline.stated_len.is_none() && outline.extensions_len + outline.payload_len != 0 {
+        return 0;
+    }
+    if outline.version == 4 {
+        outline.base_len + (kept_len + payload_len)
+    } else {
+        kept_len + payload_len
+    }
+}
+
+/// Returns the number for the length field, or why the packet can't be written into `room` bytes.
+#[inline(always)]
+pub(crate) fn test_room(
+    outline: &Outline,
+    kept_len: usize,
+    payload_len: usize,
+    room: usize,
+) -> Result<u16, RewriteError>
+    requires new { outline.now.base_len + kept_len + payload_len < 2 ^ 64 }
+    requires old { outline.now.extensions_len + outline.now.payload_len < 2 ^ 64 }
+    ensures fault { (p : DissectedParts) (c : List ExtHeader) (q : List ℕ) → outline.now ≡ outline_of p
+        → kept_len ≡ length (bytes_of c) → payload_len ≡ length q
+        → result_err result ≡ room_fault p c q room }
+    ensures field { IfOk result (λ n. (p : DissectedParts) (c : List ExtHeader) (q : List ℕ) → outline.now ≡ outline_of p
+        → kept_len ≡ length (bytes_of c) → payload_len ≡ length q
+        → n ≡ rewritten_field p c q) }
+    ensures fits { OnOk result (outline.now.base_len + kept_len + payload_len ≤ room) }
+{
+    let field = length_field(outline, kept_len, payload_len);
+    if field > 65535 {
+        return Err(RewriteError::TooLong);
+    }
+    if outline.base_len + kept_len + payload_len > room {
+        return Err(RewriteError::NoRoom);
+    }
+    Ok(field as u16)
+}
+
+/// Returns the bytes of the base header, and none if there is none.
+#[inline(always)]
+fn base_of<'a>(packet: &Packet<'a>) -> &'a [u8]
+    ensures { result.now ≡ (dissected packet.now.bytes.now).base }
+{
+    match packet.base {
+        Some(base) => base.slice(),
+        None => &[],
+    }
+}
+
+/// Writes the base header and the headers that are kept. Returns the offset of the number of what follows them.
+#[inline(always)]
+fn write_headers(packet: &Packet<'_>, which: Which, offset: usize, out: &mut [u8]) -> usize
+    requires small { length out.old < 2 ^ 64 }
+    requires link { offset < length (dissected packet.now.bytes.now).base }
+    requires fits { length (dissected packet.now.bytes.now).base
+        + length (bytes_of (kept which (dissected packet.now.bytes.now).headers)) ≤ length out.old }
+    ensures { IsWritten offset (dissected packet.now.bytes.now).base out.old
+        (kept which (dissected packet.now.bytes.now).headers) out.new
+        (length (dissected packet.now.bytes.now).base
+        + length (bytes_of (kept which (dissected packet.now.bytes.now).headers))) result }
+{
+    let base = base_of(packet);
+    put_at(out, 0, base);
+    let mut keeper = Keeper {
+        which,
+        out,
+        len: base.len(),
+        link: offset,
+    };
+    Packet::walk(packet.bytes, &mut keeper);
+    keeper.link
+}
+
+/// Returns the offset in the base header of the number of what follows it.
+#[inline(always)]
+fn number_offset(version: u8) -> usize
+    ensures { result ≡ number_offset version }
+{
+    if version == 4 { 9 } else { 6 }
+}
+
+/// Writes the packet of which these headers are kept, whose length is `kept_len`; `field` is the number for the length field.
+#[inline(always)]
+pub(crate) fn write_kept(
+    packet: &Packet<'_>,
+    which: Which,
+    kept_len: usize,
+    field: u16,
+    out: &mut [u8],
+)
+    requires small { length out.old < 2 ^ 64 }
+    requires base { (if (dissected packet.now.bytes.now).version == 4 then 20 else 40)
+        ≤ length (dissected packet.now.bytes.now).base }
+    requires kept { kept_len ≡ length (bytes_of (kept which (dissected packet.now.bytes.now).headers)) }
+    requires field { field ≡ rewritten_field (dissected packet.now.bytes.now)
+        (kept which (dissected packet.now.bytes.now).headers) (dissected packet.now.bytes.now).payload }
+    requires fits { len_without which (dissected packet.now.bytes.now) ≤ length out.old }
+    ensures { out.new ≡ without which (dissected packet.now.bytes.now)
+        ++ drop (len_without which (dissected packet.now.bytes.now)) out.old }
+{
+    let outline = &packet.outline;
+    let offset = number_offset(outline.version);
+    let link = write_headers(packet, which, offset, out);
+    set(out, link, outline.next_header.0);
+    put_at(out, outline.base_len + kept_len, packet.payload());
+    let (base, _) = out.split_at_mut(outline.base_len);
+    state(base, outline.version, field);
+}

@@ -1,0 +1,88 @@
+//! Packets from their fragments.
+ghost use Rattle.std.specs.Prelude.{◌≡◌, ◌+◌, ◌++◌, ℕ, List, length, drop, false, IsTrue, Ok, Err, Some, None};
+ghost use Rattle.ip_dissect.specs.Dissection.{dissected};
+ghost use Rattle.ip_defrag.specs.Received.{Received};
+ghost use Rattle.ip_defragmenter.specs.FragmentOf.{FragmentParts, fragment_in};
+ghost use Rattle.ip_defragmenter.specs.Added.{IsAdded, added_nothing};
+ghost use Rattle.ip_defragmenter.specs.Counts.{counted, added_fields};
+ghost use Rattle.ip_defragmenter.specs.Memory.{HoldsReceived, FirstParts, first_in, payload_in};
+ghost use Rattle.ip_defragmenter.specs.Whole.{whole_packet, whole_fault};
+ghost use Rattle.ip_defragmenter.specs.declared.err.FragmentError.{FragmentError};
+ghost use Rattle.ip_defragmenter.specs.declared.outcome.Added.{Added as WasAdded};
+ghost use Rattle.ip_defragmenter.specs.declared.outcome.Outcome.TheVariants.{NotFragment, Dropped};
+ghost use Rattle.ip_defragmenter.specs.declared.outcome.DropReason.TheVariants.{Unusable};
+
+use crate::bytes::Bytes;
+use ip_defragmenter::{AddedFields, DefragmenterCounts, PacketMemory, Slot, defragment};
+
+/// Calls `defragment` and counts what became of the packet, as `Defragmenter::add` does, if there are as many memories as
+/// slots. Returns whether there are. If so, stores what became of it in `added`; otherwise nothing is changed.
+#[unsafe(no_mangle)]
+pub extern "C" fn wolfaren_defragment(
+    slots: &mut [Slot],
+    memories: &mut [PacketMemory],
+    counts: &mut DefragmenterCounts,
+    factor: u32,
+    time: u64,
+    bytes: Bytes<'_>,
+    added: &mut AddedFields,
+) -> bool
+    ensures not_fragment { IsTrue result
+        → fragment_in (dissected bytes.entry.slice.now) ≡ Ok None
+        → (added.new ≡ added_fields (added_nothing NotFragment))
+        × (counts.new ≡ counted counts.old (added_nothing NotFragment))
+        × (slots.new ≡ slots.old) × (memories.new ≡ memories.old) }
+    ensures unusable { IsTrue result
+        → (e : FragmentError) → fragment_in (dissected bytes.entry.slice.now) ≡ Err e
+        → (added.new ≡ added_fields (added_nothing (Dropped (Unusable e))))
+        × (counts.new ≡ counted counts.old (added_nothing (Dropped (Unusable e))))
+        × (slots.new ≡ slots.old) × (memories.new ≡ memories.old) }
+    ensures added { IsTrue result
+        → (f : FragmentParts) → fragment_in (dissected bytes.entry.slice.now) ≡ Ok (Some f)
+        → (a : WasAdded) × (added.new ≡ added_fields a) × (counts.new ≡ counted counts.old a)
+        × IsAdded slots.old memories.old factor time f slots.new memories.new a }
+    ensures as_many { IsTrue result → length slots.old ≡ length memories.old }
+    ensures other { result ≡ false → (length slots.old ≡ length memories.old → ⊥)
+        × (slots.new ≡ slots.old) × (memories.new ≡ memories.old)
+        × (counts.new ≡ counts.old) × (added.new ≡ added.old) }
+{
+    if slots.len() != memories.len() {
+        return false;
+    }
+    let done = defragment(slots, memories, factor, time, bytes.slice());
+    counts.count(&done);
+    *added = done.fields();
+    true
+}
+
+/// Calls `PacketMemory::write`. Returns whether the packet is whole and was written, and stores its length in bytes in `len`,
+/// which is 0 if it wasn't.
+#[unsafe(no_mangle)]
+pub extern "C" fn wolfaren_write_whole_packet(
+    memory: &PacketMemory,
+    out: &mut [u8],
+    len: &mut usize,
+) -> bool
+    ensures not_whole { (s : Received) → HoldsReceived memory.now s → payload_in s ≡ None → result ≡ false }
+    ensures not_first { first_in memory.now ≡ None → result ≡ false }
+    ensures refused { (s : Received) (f : FirstParts) (payload : List ℕ)
+        → HoldsReceived memory.now s → payload_in s ≡ Some payload → first_in memory.now ≡ Some f
+        → result ≡ false
+        → whole_fault f.headers f.link (length payload) (length out.old) ≡ None → ⊥ }
+    ensures written { (s : Received) (f : FirstParts) (payload : List ℕ)
+        → HoldsReceived memory.now s → payload_in s ≡ Some payload → first_in memory.now ≡ Some f
+        → IsTrue result → (len.new ≡ length f.headers + length payload)
+        × (out.new ≡ whole_packet f.headers f.link f.number payload ++ drop len.new out.old)
+        × (whole_fault f.headers f.link (length payload) (length out.old) ≡ None) }
+    ensures same { result ≡ false → (out.new ≡ out.old) × (len.new ≡ 0) }
+{
+    *len = 0;
+    match memory.write(out) {
+        Ok(Some(written)) => {
+            *len = written;
+            true
+        }
+        Ok(None) => false,
+        Err(_) => false,
+    }
+}

@@ -1,0 +1,16 @@
+/* The addresses of IP headers as text. */
+#ifndef IPCAP_ADDRESS_H
+#define IPCAP_ADDRESS_H
+
+#include <stdbool.h>
+
+#include "parts.h"
+#include "writer.h"
+
+/*
+ * Writes the source or the destination address of a packet with an IP header, as the system's `inet_ntop` does: an IPv6
+ * address by RFC 5952, section 4.
+ */
+void put_address(struct writer *writer, const struct parts *parts, bool is_destination);
+
+#endif

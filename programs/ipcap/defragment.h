@@ -1,0 +1,43 @@
+/* Makes packets of a capture whole from their fragments. */
+#ifndef IPCAP_DEFRAGMENT_H
+#define IPCAP_DEFRAGMENT_H
+
+#include <stdbool.h>
+#include <stdint.h>
+
+#include "capture.h"
+
+/* How many packets can be incomplete at once, unless it is said otherwise. */
+enum { DEFAULT_SLOTS = 4096 };
+
+struct defragmenter;
+
+/*
+ * Begins to make packets whole, of which at most `slots` are incomplete at once. Each of these uses memory when its first
+ * fragment arrives. If `keeps`, the fragments that make no packet whole are kept for `next_kept`. Returns null if there isn't
+ * enough memory.
+ */
+struct defragmenter *begin_defragmenter(uint64_t slots, bool keeps);
+
+/*
+ * Makes `read_packet` read a whole packet in place of the fragment that completes it, and no other fragment. The whole packet
+ * has that fragment's number and time, and the link header of its first fragment.
+ */
+void pass_whole(struct defragmenter *defragmenter, struct capture *capture);
+
+/* Gives up what isn't whole, and releases the slots. Call it once no more packets are read. */
+void stop_defragmenter(struct defragmenter *defragmenter);
+
+/*
+ * Stores the next of the fragments that were kept, in the order of the capture, and returns true. At the end, returns false. The
+ * defragmenter must have been stopped.
+ */
+bool next_kept(struct defragmenter *defragmenter, struct packet *packet);
+
+/* Reports how many fragments of the capture made no packet whole, by reason. It must have been stopped. */
+void report_fragments(const struct defragmenter *defragmenter, const char *name);
+
+/* Ends it. Does nothing if it is null. */
+void end_defragmenter(struct defragmenter *defragmenter);
+
+#endif

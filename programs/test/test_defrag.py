@@ -1,0 +1,400 @@
+"""Tests of `ipcap defrag`. A plain, slow program makes packets whole in its own way."""
+
+import itertools
+import random
+import struct
+import subprocess
+
+from blocks import interface, obsolete, packet, section, simple
+from captures import *
+
+MORE = 0x2000
+FIRST_LINK, LINK = b"\2\0\0\0\0\1\2\0\0\0\0\7", b"\2\0\0\0\0\1\2\0\0\0\0\2"
+
+
+def frame(packet_bytes, link=LINK):
+    return link + struct.pack(">H", 0x0800 if packet_bytes[0] >> 4 == 4 else 0x86DD) + packet_bytes
+
+
+def ipv4_part(identification, offset, more, data, protocol=17):
+    """A fragment of an IPv4 packet, with the offset in units of 8 bytes."""
+    bits = (MORE if more else 0) | offset
+    before = struct.pack(">BBHHHBB", 0x46, 0, 24 + len(data), identification, bits, 64, protocol)
+    addresses = bytes([192, 0, 2, 1, 192, 0, 2, 2]) + b"\1\1\1\1"
+    return before + struct.pack(">H", checksum(before + b"\0\0" + addresses)) + addresses + data
+
+
+def ipv4_whole(identification, data, protocol=17):
+    return ipv4_part(identification, 0, False, data, protocol)
+
+
+def ipv6_part(identification, offset, more, data, number=17):
+    """A fragment of an IPv6 packet with hop-by-hop options, with the offset in units of 8 bytes."""
+    return ipv6(0, options(44) + fragment(number, offset, more, identification) + data)
+
+
+def ipv6_whole(identification, data, number=17):
+    return ipv6(0, options(number) + data)
+
+
+FAMILIES = [(ipv4_part, ipv4_whole), (ipv6_part, ipv6_whole)]
+
+
+def pieces(data, sizes):
+    """The pieces of a payload, each an offset in units of 8 bytes, whether more follow, and bytes."""
+    at, found = 0, []
+    for size in sizes:
+        found.append((at // 8, True, data[at:at + size]))
+        at += size
+    return found + [(at // 8, False, data[at:])]
+
+
+def payload(seed, length):
+    return random.Random(seed).randbytes(length)
+
+
+class Plain:
+    """Makes packets whole from lists of bytes, one per offset, and looks at all of them each time."""
+
+    def __init__(self):
+        self.packets = {}
+
+    def add(self, key, time, offset, more, data):
+        """Returns the payload if it is whole, `None` if more is wanted, or why the fragment is dropped."""
+        if key in self.packets and time - self.packets[key]["since"] > 60:
+            del self.packets[key]
+        of = self.packets.setdefault(key, {"since": time, "bytes": {}, "accepted": [], "end": None, "dead": False})
+        start, end = 8 * offset, 8 * offset + len(data)
+        reach = max([at + 1 for at in of["bytes"]] + [8 * o + len(d) for o, _, d in of["accepted"]], default=0)
+        if of["dead"]:
+            return "of packets with an overlap or two ends"
+        if more and (len(data) == 0 or len(data) % 8):
+            return "whose length isn't a positive multiple of 8, though more follow"
+        if end > 65535:
+            return "that end after byte 65,535"
+        if (offset, more, data) not in of["accepted"]:
+            if any(at in of["bytes"] for at in range(start, end)):
+                of["dead"] = True
+                return "that overlap others"
+            if (not more and end < reach) or (of["end"] is not None and end > of["end"]):
+                of["dead"] = True
+                return "that contradict the end of their packet"
+            of["accepted"].append((offset, more, data))
+            of["bytes"].update((start + i, byte) for i, byte in enumerate(data))
+            if not more:
+                of["end"] = end
+        if of["end"] is not None and all(at in of["bytes"] for at in range(of["end"])):
+            del self.packets[key]
+            return bytes(of["bytes"][at] for at in range(of["end"]))
+        return None
+
+
+def frames_of(content):
+    """The frames of a classic capture, each with its time."""
+    found, at = [], 24
+    while at < len(content):
+        seconds, fraction, kept, length = struct.unpack("<IIII", content[at:at + 16])
+        assert kept == length
+        found.append((seconds, fraction, content[at + 16:at + 16 + kept]))
+        at += 16 + kept
+    return found
+
+
+def defragment(harness, frames, *arguments, status=0):
+    """Runs `defrag` on frames, each one second after the one before. Returns the frames that it writes, and its messages."""
+    path = harness.file(capture(frames))
+    found = harness.run("defrag", *arguments, path)
+    harness.equal(found[0], status, "status of defrag", found[2])
+    return [it for _, _, it in frames_of(found[1])], found[2].replace(path, "FILE")
+
+
+def orders(harness):
+    """Fragments in any order make their packet whole, in the place of the last one to arrive."""
+    for part, whole in FAMILIES:
+        frames, wanted, number = [], [], 0
+        for count in range(2, 7):
+            for order in itertools.permutations(range(count)):
+                number += 1
+                data = payload(number, 8 * count - number % 8)
+                parts = pieces(data, [8] * (count - 1))
+                frames += [frame(part(number, *parts[i]), FIRST_LINK if i == 0 else LINK) for i in order]
+                wanted.append(frame(whole(number, data), FIRST_LINK))
+        harness.equal(defragment(harness, frames), (wanted, ""), "orders of", part.__name__)
+
+
+def places(harness):
+    """A whole packet has the time of its last fragment, and all else stays in order."""
+    data = payload(1, 40)
+    first, middle, last = [frame(ipv6_part(9, *it)) for it in pieces(data, [16, 16])]
+    other, arp, atomic = ethernet(ipv6_chain([0])), ethernet(bytes(28), (), 0x0806), frame(ipv6_part(9, 0, False, data))
+    frames = [other, last, arp, first, atomic, middle, other]
+    path = harness.file(capture(frames))
+    found = harness.run("defrag", path)
+    whole = frame(ipv6_whole(9, data))
+    harness.equal(frames_of(found[1]), [(1000, 5, other), (1002, 7, arp), (1004, 9, atomic), (1005, 10, whole), (1006, 11, other)],
+                  "places of packets", found[2])
+    harness.equal(harness.run("defrag", "-w", "{}", path)[3], found[1], "defrag -w")
+    harness.equal(harness.run("defrag", content=capture(frames))[1], found[1], "defrag of standard input")
+
+
+def refused(harness):
+    """Overlaps of each kind, contradicting ends and fragments that can't be used make nothing whole."""
+    data = payload(2, 64)
+    a, b, c = [(0, True, data[:24]), (3, True, data[24:48]), (6, False, data[48:])]
+    changed = bytes(24)
+    overlaps = [(0, True, changed), (1, True, data[8:24]), (2, True, data[16:32]), (2, True, changed), (0, True, data[:32]),
+                (1, False, data[8:24]), (0, True, data[:16]), (2, False, data[16:40])]
+    for part, _ in FAMILIES:
+        for piece in overlaps:
+            frames = [frame(part(3, *it)) for it in [a, piece, b, c, a]]
+            wanted = ("ipcap: FILE: 1 fragment that overlap others\nipcap: FILE: 3 fragments of packets with an overlap or two ends\n"
+                      "ipcap: FILE: 1 fragment of packets that aren't whole at the end\n")
+            harness.equal(defragment(harness, frames), ([], wanted), "overlap", piece)
+            harness.equal(defragment(harness, frames, "--keep")[0], frames, "overlap kept", piece)
+        for pieces_of in [[c, (9, True, data[:8])], [(9, True, data[:8]), c], [c, (8, False, data[:8])]]:
+            frames = [frame(part(3, *it)) for it in pieces_of]
+            harness.check("1 fragment that contradict the end of their packet" in defragment(harness, frames)[1], "two ends", pieces_of)
+        found = defragment(harness, [frame(part(3, 0, True, data[:20])), frame(part(3, 0, True, b""))])[1]
+        harness.check("2 fragments whose length isn't a positive multiple of 8" in found, "lengths", found)
+        found = defragment(harness, [frame(part(3, 8191, False, data[:8])), frame(part(3, 8191, False, data[:7]))])[1]
+        harness.check("1 fragment that end after byte 65,535" in found, "long payloads", found)
+    faulty = frame(ipv6(44, fragment(60, 0, 1) + b"\x11\x04" + bytes(6)))
+    found = defragment(harness, [faulty, frame(ipv6(44, fragment(17, 0, 1) + bytes(8), 0)), frame(ipv6(44, fragment(17, 0, 1) + bytes(8), 24))])
+    harness.equal(found, ([], "ipcap: FILE: 1 fragment whose headers are truncated or faulty\nipcap: FILE: 1 fragment that state no length\n"
+                          "ipcap: FILE: 1 fragment of which bytes are missing\n"), "fragments that can't be used")
+
+
+def keys(harness):
+    """A packet's fragments have its addresses and identification, and in IPv4 its protocol."""
+    data = payload(4, 32)
+    first, last = pieces(data, [16])
+    frames = []
+    for at in range(22, 54):
+        one = bytearray(frame(ipv6_part(at, *first)))
+        one[at] ^= 1
+        frames += [bytes(one), frame(ipv6_part(at, *last))]
+    for at in range(26, 34):
+        one = bytearray(frame(ipv4_part(at, *first)))
+        one[at] ^= 1
+        frames += [bytes(one), frame(ipv4_part(at, *last))]
+    others = [(ipv4_part(5, *first), ipv4_part(5, *last, 6)), (ipv4_part(6, *first), ipv4_part(262, *last)),
+              (ipv6_part(7, *first), ipv6_part(7 | 1 << 31, *last)), (ipv4_part(8, *first), ipv6_part(8, *last))]
+    frames += [frame(it) for pair in others for it in pair]
+    path = harness.file(timed([1000 + i / 1000 for i in range(len(frames))], frames))
+    found = harness.run("defrag", path)
+    harness.equal((found[1][24:], found[2]), (b"", "ipcap: %s: %d fragments of packets that aren't whole at the end\n" % (path, len(frames))),
+                  "fragments of different packets")
+    harness.equal(defragment(harness, [frame(ipv6_part(5, *first)), frame(ipv6_part(5, *last, 6))])[0],
+                  [frame(ipv6_whole(5, data))], "another number in a later fragment of IPv6")
+
+
+def timed(times, frames):
+    return file_header() + b"".join(record(it, None, int(time), round(1e6 * (time % 1))) for time, it in zip(times, frames))
+
+
+def times(harness):
+    """A packet is given up after 60 seconds, and no fragment extends that."""
+    parts = [frame(ipv4_part(8, *it)) for it in pieces(payload(5, 40), [16, 16])]
+    for last, is_whole in [(1060, True), (1060.000001, False)]:
+        path = harness.file(timed([1000, 1059, last], parts))
+        found = harness.run("defrag", path)
+        harness.equal(len(frames_of(found[1])), int(is_whole), "packets after", last, found[2])
+        harness.equal("2 fragments of packets that weren't whole after 60 seconds" in found[2], not is_whole, found[2])
+
+
+def slots(harness):
+    """The oldest packet is given up for a new one."""
+    data = payload(6, 32)
+    first, last = pieces(data, [16])
+    frames = [frame(ipv4_part(i, *first)) for i in (1, 2, 3)] + [frame(ipv4_part(i, *last)) for i in (3, 2, 1)]
+    found = defragment(harness, frames, "--slots", "2")
+    wanted = [frame(ipv4_whole(i, data)) for i in (3, 2)]
+    harness.equal(found, (wanted, "ipcap: FILE: 1 fragment of packets given up for others, since all slots were in use\n"
+                          "ipcap: FILE: 1 fragment of packets that aren't whole at the end\n"), "two slots")
+    found = defragment(harness, frames, "--slots", "2", "--keep")
+    harness.equal(found[0], wanted + [frames[0], frames[5]], "kept fragments of two slots")
+
+
+def long_packets(harness):
+    """The longest packets are written, and longer ones aren't."""
+    for length, part, whole in [(65535 - 8, ipv6_part, ipv6_whole), (65535 - 24, ipv4_part, ipv4_whole)]:
+        for more in (0, 1):
+            data = payload(length, length + more)
+            sizes = [1448] * (len(data) // 1448)
+            frames = [frame(part(7, *it)) for it in pieces(data, sizes)]
+            found = defragment(harness, frames)
+            if more:
+                harness.equal(found[0], [], "too long a packet")
+                harness.check("of packets that are too long for their length field" in found[1], found[1])
+            else:
+                harness.equal(found, ([frame(whole(7, data))], ""), "the longest packet")
+
+
+def forms_of_files(harness):
+    """Whole packets in pcapng files have the interface and the time of their last fragment."""
+    data = payload(7, 44)
+    first, last = [frame(ipv6_part(9, *it)) for it in pieces(data, [24])]
+    whole = frame(ipv6_whole(9, data))
+    for order in "<>":
+        head = section(order) + interface(snap_len=96, order=order) + interface(order=order)
+        blocks = packet(first, 0, 5, order=order) + interface(snap_len=70, order=order) + packet(last, 1, 77, options=struct.pack(order + "HH4sHH", 1, 4, b"note", 0, 0), order=order)
+        wanted = (section(order) + interface(order=order) + interface(order=order) + interface(order=order)
+                  + packet(whole, 1, 77, order=order))
+        found = harness.run("defrag", content=head + blocks)
+        harness.equal(found[1], wanted, "pcapng with order", order, found[2])
+        found = harness.run("defrag", content=head + packet(first, 0, 5, order=order) + obsolete(last, 1, 77, order=order))
+        harness.equal(found[1][-len(packet(whole)):], packet(whole, 1, 77, order=order), "obsolete packet block", order)
+        found = harness.run("defrag", content=head + simple(first[:], order=order) + simple(last, order=order))
+        harness.equal(found[1][-len(simple(whole)):], simple(whole, order=order), "simple packet block", order)
+    for magic in (MICROSECONDS, NANOSECONDS):
+        for order in "<>":
+            content = capture([first, last], magic=magic, order=order, snap_len=100)
+            found = harness.run("defrag", content=content)
+            harness.equal(found[1][24 + 16:], whole, "classic form", magic, order)
+            harness.equal(struct.unpack("<I", found[1][:4])[0], magic, "precision")
+
+
+def random_list(rng, number):
+    """Fragments of one key: pieces of a payload, of which some are lost, repeated, moved, cut or of another payload."""
+    length = rng.choice([9, 24, 31, 64, 100])
+    data = rng.randbytes(length)
+    sizes, left = [], length
+    while left > 8 and rng.random() < 0.8:
+        sizes.append(8 * rng.randint(1, (left - 1) // 8))
+        left -= sizes[-1]
+    found = [it for it in pieces(data, sizes) if rng.random() < 0.97]
+    found += [it for it in found if rng.random() < 0.2]
+    if rng.random() < 0.3 and found:
+        offset, more, part = rng.choice(found)
+        found.append(rng.choice([(offset + 1, more, part), (offset, not more, part), (offset, more, part[:-1]),
+                                 (offset, more, bytes(len(part))), (max(0, offset - 1), more, part), (offset, more, part[:8])]))
+    rng.shuffle(found)
+    return found
+
+
+def random_capture(seed, count):
+    """Lists of fragments, some of them interleaved, the frames that the plain program writes, and how many it drops."""
+    rng, plain, time = random.Random(seed), Plain(), 0
+    lists = [(number, FAMILIES[rng.randint(0, 1)], random_list(rng, number)) for number in range(1, count + 1)]
+    frames, wanted, active = [], [], []
+    while lists or active:
+        if lists and (len(active) < 4):
+            active.append(lists.pop())
+        number, (part, whole), left = active[rng.randrange(len(active))]
+        if left:
+            offset, more, data = left.pop()
+            frames.append(frame(part(number, offset, more, data)))
+            time += 1
+            if offset == 0 and not more:
+                wanted.append(frames[-1])
+            else:
+                answer = plain.add((part, number), time / 1000, offset, more, data)
+                if isinstance(answer, bytes):
+                    wanted.append(frame(whole(number, answer)))
+        active = [it for it in active if it[2]]
+    content = file_header() + b"".join(record(it, None, 1000 + i // 1000, i % 1000 * 1000) for i, it in enumerate(frames))
+    return content, wanted
+
+
+def plain_agrees(harness):
+    """A plain program makes the same packets whole, of random lists of fragments."""
+    for seed in range(6):
+        content, wanted = random_capture(seed, 250)
+        found = harness.run("defrag", content=content)
+        harness.equal([it for _, _, it in frames_of(found[1])], wanted, "random lists", seed)
+    for seed in range(6, 86):
+        content, wanted = random_capture(seed, 250)
+        found = harness.answer(harness.plain, ["defrag"], content, None)
+        harness.equal([it for _, _, it in frames_of(found[1])], wanted, "random lists", seed)
+
+
+def shuffled(seed):
+    """Fragments of some packets in a random order, and the packets' payloads by version and identification."""
+    rng, frames, wanted = random.Random(seed), [], {}
+    for number in range(1, 41):
+        data = udp(9999, rng.randbytes(rng.randint(40, 3000)))
+        sizes = [8 * rng.randint(1, 80) for _ in range(rng.randint(1, 4))]
+        while sum(sizes) >= len(data):
+            sizes.pop()
+        part, _ = FAMILIES[number % 2]
+        frames += [frame(part(number, *it)) for it in pieces(data, sizes)] if sizes else []
+        if sizes:
+            wanted[number] = data
+    rng.shuffle(frames)
+    return frames, wanted
+
+
+def tshark_agrees(harness):
+    """tshark reassembles the same bytes."""
+    for seed in range(3):
+        frames, wanted = shuffled(seed)
+        path = harness.file(timed([1000 + i / 1000 for i in range(len(frames))], frames))
+        found = harness.tshark(path, "-o", "ip.defragment:TRUE", "-o", "ipv6.defragment:TRUE", "-T", "fields", "-e", "ip.reassembled.data",
+                               "-e", "ipv6.reassembled.data").decode().split("\n")
+        theirs = [bytes.fromhex(it.strip().replace(":", "")) for it in found if it.strip()]
+        written = [it for _, _, it in frames_of(harness.run("defrag", path)[1])]
+        ours = [it[14 + (24 if it[12:14] == b"\x08\0" else 48):] for it in written]
+        harness.equal(sorted(ours), sorted(wanted.values()), "payloads")
+        harness.equal(ours, theirs, "payloads as tshark reassembles them")
+
+
+def scapy_agrees(harness):
+    """scapy makes the same packets of fragments, and ours of its fragments."""
+    from scapy.layers.inet import IP, UDP as ScapyUdp, defragment as defragment4, fragment as fragment4
+    from scapy.layers.inet6 import IPv6, IPv6ExtHdrDestOpt, IPv6ExtHdrFragment, IPv6ExtHdrHopByHop, defragment6, fragment6
+    rng = random.Random(1)
+    for number in range(1, 16):
+        whole = IP(src="192.0.2.1", dst="192.0.2.2", id=number) / ScapyUdp(dport=9999) / rng.randbytes(rng.randint(600, 4000))
+        parts = [IP(bytes(it)) for it in fragment4(IP(bytes(whole)), 400)]
+        rng.shuffle(parts)
+        theirs = [bytes(it) for it in defragment4(parts)]
+        found = defragment(harness, [frame(bytes(it)) for it in parts])
+        harness.equal(found, ([frame(bytes(whole))], ""), "a packet that scapy fragmented")
+        harness.equal([it[14:] for it in found[0]], theirs, "a packet as scapy makes it whole")
+        whole = (IPv6(src="2001:db8::1", dst="2001:db8::2") / IPv6ExtHdrHopByHop() / IPv6ExtHdrFragment(id=number)
+                 / IPv6ExtHdrDestOpt() / ScapyUdp(dport=9999) / rng.randbytes(rng.randint(1500, 4000)))
+        parts = [IPv6(bytes(it)) for it in fragment6(IPv6(bytes(whole)), 1280)]
+        theirs = bytes(defragment6(parts))
+        rng.shuffle(parts)
+        found = defragment(harness, [frame(bytes(it)) for it in parts])
+        harness.equal(found, ([frame(theirs)], ""), "an IPv6 packet as scapy makes it whole")
+
+
+def other_commands(harness):
+    """`stat`, `filter` and `show` work on whole packets."""
+    data = udp(53, payload(8, 300))
+    parts = [frame(ipv6_part(9, *it)) for it in pieces(data, [96, 96])]
+    other, lost = frame(ipv4_part(1, 0, False, UDP)), frame(ipv4_part(2, 0, True, UDP + bytes(4)))
+    whole = frame(ipv6_whole(9, data))
+    fragments, wholes = capture([parts[2], other, lost, parts[0], parts[1]]), capture([other, whole])
+    path, plain = harness.file(fragments), harness.file(wholes)
+    message = "ipcap: %s: 1 fragment of packets that aren't whole at the end\n" % path
+    for arguments in [["stat", "--json"], ["stat", "--top", "3"]]:
+        harness.equal(harness.run(*arguments, "--defrag", path), (0, harness.run(*arguments, plain)[1], message, None), arguments)
+    many = harness.run("stat", "--json", "--defrag", "-j2", path, path, path)
+    harness.equal(many[1:3], (harness.run("stat", "--json", plain, plain, plain)[1], 3 * message), "files side by side")
+    harness.check(harness.run("stat", "--json", path)[1] != harness.run("stat", "--json", plain)[1], "fragments are counted")
+    for condition in ["port 53", "not fragment", "length > 300", "ip"]:
+        found = harness.run("filter", "--defrag", condition, path)
+        wanted = [it for _, _, it in frames_of(harness.run("filter", condition, plain)[1])]
+        harness.equal(([it for _, _, it in frames_of(found[1])], found[2]), (wanted, message), "filter --defrag", condition)
+    harness.equal(frames_of(harness.run("filter", "dst port 53", path)[1])[0][2], parts[0], "the first fragment alone")
+    found = harness.run("show", "--defrag", "--one-line", path)
+    harness.equal(found[2], message, "show --defrag")
+    harness.equal([line.split()[1].strip(",:") for line in found[1].decode().splitlines()], ["2", "5"], "numbers of packets")
+    harness.check(b"IPv6 0 -> 17" in found[1], found[1])
+    harness.equal(harness.run("show", "--defrag", "-c", "1", "--json", path)[1], harness.run("show", "-c", "2", "--json", path)[1].split(b"\n")[1] + b"\n",
+                  "one packet")
+
+
+def wrong_usage(harness):
+    """What `defrag` refuses."""
+    path = harness.file(capture([]))
+    for arguments in [["a", "b"], ["--slots", "0"], ["--slots", "x"], ["--keep=1"], ["-c", "1"]]:
+        harness.equal(harness.run("defrag", *arguments)[0], 2, "status of", arguments)
+    found = harness.run("defrag", "-w", path, path)
+    harness.equal(found[0], 1, "the input as output")
+    harness.check("input and output are the same file" in found[2], found[2])
+    harness.equal(harness.run("defrag", "-w", "/nonexistent/x", path)[0], 1, "an output that can't be opened")
+    harness.equal(harness.run("defrag", "/nonexistent/x")[0], 1, "an input that can't be opened")
+    harness.equal(harness.run("defrag", path)[1][16:24], struct.pack("<II", 262144, ETHERNET), "an empty capture")

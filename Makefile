@@ -22,7 +22,7 @@
 # make test-c         test the library, ipcap, and the packages in bindings/rust and bindings/python
 # make page           build the files that page/index.html needs
 # make test-page      test that page in Chromium
-# make mutants        try the mutants in mutants/ (CRATE='NAME ..': only these crates; ONLY=WORD: only those whose
+# make mutants        try the mutants in tests/mutants/ (CRATE='NAME ..': only these crates; ONLY=WORD: only those whose
 #                     names contain the word; JOBS=3: so many at a time)
 # make memory         run the program once for each of its allocations, with that allocation refused
 # make bench          compare its speed with etherparse 0.19.0 (ONLY=WORD: only rows whose names contain the word)
@@ -159,7 +159,7 @@ install: install-pcap-lib
 	[ -f build/ipcap ] && [ -f build/ipexts ] || { echo "The programs are missing: run 'make programs' first." >&2; exit 1; }
 	$(INSTALL) -d $(DESTDIR)$(BINDIR) $(DESTDIR)$(MANDIR)/man1 $(DESTDIR)$(BASHDIR) $(DESTDIR)$(ZSHDIR)
 	$(INSTALL) -m 755 build/ipcap build/ipexts $(DESTDIR)$(BINDIR)/
-	$(INSTALL) -m 644 programs/ipcap/ipcap.1 programs/ipexts.1 $(DESTDIR)$(MANDIR)/man1/
+	$(INSTALL) -m 644 programs/ipcap/ipcap.1 crates/ipexts/ipexts.1 $(DESTDIR)$(MANDIR)/man1/
 	$(INSTALL) -m 644 programs/ipcap/completion/ipcap.bash $(DESTDIR)$(BASHDIR)/ipcap
 	$(INSTALL) -m 644 programs/ipcap/completion/_ipcap $(DESTDIR)$(ZSHDIR)/
 
@@ -184,7 +184,7 @@ test-c: programs
 	$(CARGO_IS_THERE)
 	scripts/test-c
 	scripts/test-statistics
-	programs/test/run build build
+	tests/ipcap/run build build
 	scripts/test-python
 	cd bindings/rust && WOLFAREN_LIB_DIR=$(CURDIR)/build cargo test --quiet $$CARGO_FLAGS
 
@@ -221,16 +221,16 @@ cost:
 	bench/cost
 
 diff:
-	diff/run
+	tests/diff/run
 
 diff-test:
-	diff/test
+	tests/diff/test
 
 diff-fields:
-	diff/fields
+	tests/diff/fields
 
 fuzz:
-	fuzz/run
+	tests/fuzz/run
 
 fuzz-test:
-	fuzz/test
+	tests/fuzz/test

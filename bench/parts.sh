@@ -1,4 +1,4 @@
-# Functions shared by the scripts in bench/, diff/ and fuzz/. `top` is the directory of the repository.
+# Functions shared by the scripts in bench/, tests/diff/ and tests/fuzz/. `top` is the directory of the repository.
 
 # Ends the script with a message.
 give_up() {
@@ -44,8 +44,8 @@ build() {
     shift
     cd "$top/$folder"
     # shellcheck disable=SC2086
-    cargo build --quiet --release --offline $flags "$@" 2>"$work/$folder.txt" \
-        || { tail -40 "$work/$folder.txt" >&2; give_up "The package in $folder/ could not be built."; }
+    cargo build --quiet --release --offline $flags "$@" 2>"$work/${folder//\//-}.txt" \
+        || { tail -40 "$work/${folder//\//-}.txt" >&2; give_up "The package in $folder/ could not be built."; }
 }
 
 # Cargo rejects a repeated flag, and every call above except the second `cargo fetch` has `--offline` itself.

@@ -6,9 +6,9 @@
 //!     bench cost TOOL FILE RUNS             our time for each byte of inputs that are made to take long
 mod cost;
 mod dissect_rows;
-// The functions for single headers are used by diff/ only.
+// The functions for single headers are used by tests/diff/ only.
 #[allow(dead_code)]
-#[path = "../../diff/src/fragment_bits.rs"]
+#[path = "../../tests/diff/src/fragment_bits.rs"]
 mod fragment_bits;
 // Some functions are used by border/ only.
 #[allow(dead_code)]
@@ -19,7 +19,7 @@ mod original_ipv4;
 mod original_reads;
 mod original_slices;
 mod ours;
-#[path = "../../diff/src/random.rs"]
+#[path = "../../tests/diff/src/random.rs"]
 mod random;
 mod read_rows;
 mod report;

@@ -7,9 +7,9 @@
 mod c;
 mod dissect;
 mod filter;
-// The functions for single headers are used by diff/ only.
+// The functions for single headers are used by tests/diff/ only.
 #[allow(dead_code)]
-#[path = "../../../diff/src/fragment_bits.rs"]
+#[path = "../../../tests/diff/src/fragment_bits.rs"]
 mod fragment_bits;
 // The inputs for chains and single headers are used by bench/ only.
 #[allow(dead_code)]
@@ -21,7 +21,7 @@ mod inputs;
 mod measure;
 mod original;
 mod package;
-#[path = "../../../diff/src/random.rs"]
+#[path = "../../../tests/diff/src/random.rs"]
 mod random;
 #[path = "../../src/report.rs"]
 mod report;

@@ -1,4 +1,4 @@
-//! A program over etherparse's layer, as it is written with this library. `diff/src/before.rs` has the original form.
+//! A program over etherparse's layer, as it is written with this library. `tests/diff/src/before.rs` has the original form.
 ghost use Rattle.std.specs.Prelude.{◌≡◌};
 ghost use Rattle.std.specs.Option.{option_map};
 ghost use Rattle.ip_ext_chains.specs.ChainLimitedReadError.{len_of};

@@ -1,4 +1,4 @@
-//! Calls whose complete results `diff/` and `fuzz/` compare, and which aren't measured.
+//! Calls whose complete results `tests/diff/` and `tests/fuzz/` compare, and which aren't measured.
 mod dissections;
 pub mod every_byte;
 mod fields;

@@ -5,7 +5,7 @@ import re
 import shutil
 import subprocess
 
-FOLDER = os.path.join(os.path.dirname(os.path.abspath(__file__)), "..", "ipcap", "completion")
+FOLDER = os.path.join(os.path.dirname(os.path.abspath(__file__)), "..", "..", "programs", "ipcap", "completion")
 COMMANDS = ["stat", "sum", "filter", "show", "defrag"]
 SCRIPT = 'source "$0"; COMP_WORDS=("$@"); COMP_CWORD=$(($# - 1)); _ipcap; printf "%s\\n" "${COMPREPLY[@]}"'
 

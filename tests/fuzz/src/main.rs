@@ -18,19 +18,19 @@ mod input;
 #[cfg(not(afl))]
 mod lines;
 #[allow(dead_code)] // Some functions are used by bench/ only.
-#[path = "../../bench/src/ours.rs"]
+#[path = "../../../bench/src/ours.rs"]
 mod measured;
 #[allow(dead_code)]
-#[path = "../../bench/src/original.rs"]
+#[path = "../../../bench/src/original.rs"]
 mod original;
 #[allow(dead_code)]
-#[path = "../../bench/src/original_ipv4.rs"]
+#[path = "../../../bench/src/original_ipv4.rs"]
 mod original_ipv4;
 #[allow(dead_code)]
-#[path = "../../bench/src/original_reads.rs"]
+#[path = "../../../bench/src/original_reads.rs"]
 mod original_reads;
 #[allow(dead_code)]
-#[path = "../../bench/src/original_slices.rs"]
+#[path = "../../../bench/src/original_slices.rs"]
 mod original_slices;
 mod ours;
 mod plant;

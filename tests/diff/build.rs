@@ -3,7 +3,7 @@ use std::path::Path;
 use std::process::Command;
 
 fn main() {
-    let library = Path::new("../crates/ipexts_calls/out")
+    let library = Path::new("../../crates/ipexts_calls/out")
         .canonicalize()
         .expect("the static library is missing: `rt lib` in crates/ipexts_calls builds it");
     let output = Command::new("rt")

@@ -1,4 +1,4 @@
-//! A program that uses the original. `crates/ip_uses/src/from_etherparse.rt` is the same program with this
+//! A program that uses the original. `crates/check_uses/src/from_etherparse.rt` is the same program with this
 //! project, and `docs/from-etherparse.md` explains the changes.
 use etherparse::err::ipv6_exts::{HeaderLimitedReadError, HeaderWriteError};
 use etherparse::err::{Layer, LenError};

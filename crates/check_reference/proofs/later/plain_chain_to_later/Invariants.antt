@@ -1,0 +1,10 @@
+use Rattle.ip_spec.proofs.Common.{length, map}
+use Rattle.check_reference.specs.PlainHeader.{plain_header_of}
+use Rattle.check_reference.proofs.LaterLemmas.{BeforeLater}
+use Rattle.check_reference.proofs.later.plain_chain_to_later.Given as goal
+
+abbrev pub invariant-headers : goal.invariant-headers
+invariant-headers l = BeforeLater l.start l.bytes (map plain_header_of l.headers.items) l.number l.rest
+
+abbrev pub decreases-headers : goal.decreases-headers
+decreases-headers l = length l.rest

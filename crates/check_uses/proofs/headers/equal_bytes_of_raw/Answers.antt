@@ -1,0 +1,4 @@
+use Rattle.check_uses.proofs.headers.equal_bytes_of_raw.Goals as goal
+
+pub returns : goal.returns
+returns c = c.one_encoding.ensures.raw _ _ _ c.to_bytes.ensures.encoding (rw c.requires c.to_bytes-2.ensures.encoding)

@@ -1,5 +1,0 @@
-use Rattle.etherparse_ip.proofs.PacketEqualLemmas.{ipv6_same}
-use Rattle.ip_api_checks.proofs.packet_checks.ipv6_packets.Goals as goal
-
-pub returns-clause-same : goal.returns-clause-same
-returns-clause-same c = ipv6_same c.args.a.now c.args.b.now _ c.eq.ensures

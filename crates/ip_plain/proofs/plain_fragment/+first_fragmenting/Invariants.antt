@@ -1,5 +1,0 @@
-use Rattle.ip_spec.proofs.Common.{length}
-use Rattle.ip_plain.proofs.plain_fragment.+first_fragmenting.Given as goal
-
-abbrev pub decreases-first_fragmenting : goal.decreases-first_fragmenting
-decreases-first_fragmenting l = length l.headers.now

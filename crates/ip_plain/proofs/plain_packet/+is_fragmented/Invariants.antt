@@ -1,5 +1,0 @@
-use Rattle.ip_spec.proofs.Common.{length}
-use Rattle.ip_plain.proofs.plain_packet.+is_fragmented.Given as goal
-
-abbrev pub decreases-is_fragmented : goal.decreases-is_fragmented
-decreases-is_fragmented l = length l.headers.now

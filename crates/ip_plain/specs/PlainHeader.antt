@@ -1,7 +1,0 @@
--- A header of the plain program.
-use Rattle.ip_spec.specs.Chain.{ExtHeader}
-use Rattle.ip_plain.specs.declared.chain.PlainHeader.{PlainHeader}
-
--- its number and bytes
-abbrev pub plain_header_of : PlainHeader → ExtHeader
-plain_header_of h = record { number = h.number; bytes = h.bytes.now }

@@ -1,4 +1,0 @@
-use Rattle.ip_uses.proofs.headers.equal_bytes_of_auth.Goals as goal
-
-pub returns : goal.returns
-returns c = c.one_encoding.ensures.auth _ _ _ c.to_bytes.ensures.encoding (rw c.requires c.to_bytes-2.ensures.encoding)

@@ -11,7 +11,7 @@
     form(pcap_close) form(pcap_datalink) form(pcap_datalink_val_to_description) form(pcap_datalink_val_to_name)           \
     form(pcap_dump) form(pcap_dump_close) form(pcap_dump_fopen) form(pcap_fopen_offline_with_tstamp_precision)            \
     form(pcap_get_tstamp_precision) form(pcap_geterr) form(pcap_lib_version) form(pcap_next_ex)                           \
-    form(pcap_open_dead_with_tstamp_precision)
+    form(pcap_open_dead_with_tstamp_precision) form(pcap_snapshot)
 
 #define POINTER(call) __typeof__(call) *call;
 #define FIND(call) *(void **)&loaded.call = dlsym(library, #call); is_loaded = is_loaded && loaded.call;
@@ -65,6 +65,11 @@ void pcap_close(pcap_t *handle)
 int pcap_datalink(pcap_t *handle)
 {
     return loaded.pcap_datalink(handle);
+}
+
+int pcap_snapshot(pcap_t *handle)
+{
+    return loaded.pcap_snapshot(handle);
 }
 
 int pcap_get_tstamp_precision(pcap_t *handle)

@@ -716,9 +716,10 @@ bool wolfaren_write_whole_packet(const struct wolfaren_packet_memory *memory, ui
 
 /*
  * Formats the fault as text, such as "not enough bytes for the routing header at offset 40: 8 needed, 1 there". It names
- * the faulty extension header, if there is one, and otherwise the layer. Writes the text and a terminating null byte to `text`, which has `room` bytes. Returns the
- * length of the text in bytes, without the null byte. If the return value is `room` or more, nothing is written.
- * Returns 0 for a fault that no call reports, such as one of kind WOLFAREN_NO_FAULT or of an unknown kind.
+ * the faulty extension header, if there is one, and otherwise the layer. Writes the text and a terminating null byte to
+ * `text`, which has `room` bytes. Returns the length of the text in bytes, without the null byte. If the return value is
+ * `room` or more, nothing is written. Returns 0 for a fault that no call reports, such as one of kind WOLFAREN_NO_FAULT or
+ * of an unknown kind.
  */
 size_t wolfaren_fault_text(const struct wolfaren_fault *fault, char *text, size_t room) WOLFAREN_NONNULL(1);
 

@@ -2,7 +2,6 @@
 
 #include <string.h>
 
-#include "fault_text.h"
 #include "names.h"
 
 /* A row shows 16 bytes, each in a cell of two digits and a space. */
@@ -186,7 +185,9 @@ static void write_fault(const struct drawing *drawing, size_t row)
     indent(drawing, at - row);
     set_color(drawing, fault_color);
     put_text(drawing->writer, has_fault(parts) ? "^ " : "^ truncated: ");
-    put_fault(drawing->writer, parts);
+    char text[WOLFAREN_TEXT_ROOM];
+    wolfaren_fault_text(&parts->packet.fault, text, sizeof text);
+    put_text(drawing->writer, text);
     set_color(drawing, plain_color);
     put_byte(drawing->writer, '\n');
 }

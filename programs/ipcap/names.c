@@ -39,21 +39,6 @@ static const char *const layer_names[] = {
     [WOLFAREN_FRAGMENT_HEADER] = "fragment",
 };
 
-static const char *const words_of_layers[] = {
-    [WOLFAREN_NO_LAYER] = "a header",
-    [WOLFAREN_IP_HEADER] = "the IP header",
-    [WOLFAREN_IPV4_HEADER] = "the IPv4 header",
-    [WOLFAREN_IPV4_PACKET] = "the IPv4 packet",
-    [WOLFAREN_AUTHENTICATION_HEADER] = "the authentication header",
-    [WOLFAREN_IPV6_HEADER] = "the IPv6 header",
-    [WOLFAREN_IPV6_PACKET] = "the IPv6 packet",
-    [WOLFAREN_IPV6_EXTENSION_HEADER] = "the extension header",
-    [WOLFAREN_HOP_BY_HOP_HEADER] = "the hop-by-hop options header",
-    [WOLFAREN_DESTINATION_OPTIONS_HEADER] = "the destination options header",
-    [WOLFAREN_ROUTING_HEADER] = "the routing header",
-    [WOLFAREN_FRAGMENT_HEADER] = "the fragment header",
-};
-
 const char *number_name(uint8_t number)
 {
     return number_names[number] ? number_names[number] : "";
@@ -69,11 +54,6 @@ const char *kind_name(uint8_t kind)
 const char *layer_name(uint8_t layer)
 {
     return layer < LAYERS ? layer_names[layer] : "";
-}
-
-const char *layer_words(uint8_t layer)
-{
-    return words_of_layers[layer < LAYERS ? layer : WOLFAREN_NO_LAYER];
 }
 
 /* Finds one of the names after the first, which is empty. */

@@ -13,9 +13,6 @@ const char *number_name(uint8_t number);
 const char *kind_name(uint8_t kind);
 const char *layer_name(uint8_t layer);
 
-/* Returns the name of a header or packet in a sentence, such as `the routing header`. */
-const char *layer_words(uint8_t layer);
-
 /* Find the kind and the layer whose name has these `len` bytes. Return false if there is none. */
 bool find_kind(const char *name, size_t len, uint8_t *kind);
 bool find_layer(const char *name, size_t len, uint8_t *layer);

@@ -50,18 +50,6 @@ size_t fault_offset(const struct parts *parts)
     return fault->kind == WOLFAREN_TOO_SHORT ? fault->offset : parts->packet.payload_offset;
 }
 
-uint8_t fault_layer(const struct parts *parts)
-{
-    const struct wolfaren_fault *fault = &parts->packet.fault;
-    if (fault->header != WOLFAREN_NO_LAYER) return fault->header;
-    switch (fault->kind) {
-        case WOLFAREN_UNSUPPORTED_IP_VERSION: return WOLFAREN_IP_HEADER;
-        case WOLFAREN_IPV4_HEADER_LENGTH: return WOLFAREN_IPV4_HEADER;
-        case WOLFAREN_ZERO_PAYLOAD_LEN: return WOLFAREN_AUTHENTICATION_HEADER;
-        default: return fault->layer;
-    }
-}
-
 void free_parts(struct parts *parts)
 {
     free(parts->headers);

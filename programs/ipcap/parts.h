@@ -42,9 +42,6 @@ bool is_fragment(const struct parts *parts);
 /* Returns where the faulty or truncated header begins, or the packet that has the error. */
 size_t fault_offset(const struct parts *parts);
 
-/* Returns the faulty or truncated header, or the packet that has the error. */
-uint8_t fault_layer(const struct parts *parts);
-
 /* Releases the memory. */
 void free_parts(struct parts *parts);
 

@@ -179,7 +179,7 @@ static bool read_end(const char *text, uint8_t *end)
 static bool read_key(const char *text, struct key *key, struct path *path)
 {
     struct headers headers;
-    *path = (struct path){0};
+    begin_path(path);
     memset(key, 0, sizeof *key);
     if (!read_path(&text, path, &headers)) return false;
     key->bytes[VERSION_AT] = headers.version;

@@ -19,13 +19,21 @@ enum { PATH_TUNNELS = 7 };
 /* A buffer size that is large enough for the text of every key and its terminating null byte. */
 enum { CHAIN_TEXT_ROOM = 320 };
 
-/* The outer packets of a packet in tunnels, from the outermost on. All zeros are the path of a packet in no tunnel. */
+/* The outer packets of a packet in tunnels, from the outermost on. */
 struct path {
     uint8_t bytes[KEY_HEADERS]; /* of each packet: IP version and tunnel, number of headers, and their numbers */
-    size_t len;
+    size_t len; /* how many of the bytes are used */
     unsigned tunnels;
     bool is_too_long; /* it doesn't fit, so that the inner chain has no key */
 };
+
+/* Makes it the path of a packet in no tunnel. Its bytes are left as they are, since each packet of a capture needs a path. */
+static inline void begin_path(struct path *path)
+{
+    path->len = 0;
+    path->tunnels = 0;
+    path->is_too_long = false;
+}
 
 /* Adds an outer packet to the end of a path, which has less than PATH_TUNNELS tunnels. */
 void extend_path(struct path *path, const struct parts *parts, enum tunnel tunnel);

@@ -75,7 +75,8 @@ static bool count_packet(struct counts *counts, struct parts *parts, const struc
 {
     if (packet->is_left_out) return true;
     struct packet_counts *current = &counts->outer;
-    struct path path = {0};
+    struct path path;
+    begin_path(&path);
     struct inner inner = {.is_ip = packet->is_ip, .bytes = packet->frame + packet->ip_offset,
                           .len = packet->header.caplen - packet->ip_offset, .protocol = packet->protocol};
     for (;;) {

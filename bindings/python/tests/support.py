@@ -7,7 +7,7 @@ import sys
 ROOT = os.path.realpath(os.path.join(os.path.dirname(__file__), "..", "..", ".."))
 BUILD = os.environ.get("WOLFAREN_LIB_DIR", f"{ROOT}/build")
 IPCAP = os.environ.get("IPCAP", f"{BUILD}/ipcap")
-sys.path.append(f"{ROOT}/programs/test")
+sys.path.append(f"{ROOT}/tests/ipcap")
 
 # An IPv6 packet with each extension header, one with a fault, an IPv4 packet, a later fragment, and no bytes.
 from captures import (LATER_FRAGMENT, TCP, UDP, authentication, capture, chain, ethernet, file_header, fragment, ipv4, ipv6,

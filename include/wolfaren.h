@@ -55,7 +55,7 @@
 #define WOLFAREN_VERSION (10000 * WOLFAREN_VERSION_MAJOR + 100 * WOLFAREN_VERSION_MINOR + WOLFAREN_VERSION_PATCH)
 
 /* A checksum of the structs, numbers and calls in this header, made by scripts/abi of the repository. */
-#define WOLFAREN_ABI 0x3bb3fe11u
+#define WOLFAREN_ABI 0xcd430216u
 
 #if !(defined(__x86_64__) && !defined(__ILP32__)) && !defined(_M_X64) && !defined(__aarch64__) && !defined(_M_ARM64)
 #error "libwolfaren needs a 64-bit machine: x86-64 or ARM64"
@@ -694,8 +694,8 @@ struct wolfaren_added {
  */
 WOLFAREN_USE_RESULT
 bool wolfaren_defragment(struct wolfaren_slot *slots, size_t slot_count, struct wolfaren_packet_memory *memories,
-                         size_t memory_count, struct wolfaren_defragmenter_counts *counts, uint32_t factor, uint64_t time,
-                         const uint8_t *bytes, size_t len, struct wolfaren_added *added) WOLFAREN_NONNULL(5, 10);
+                         size_t memory_count, struct wolfaren_defragmenter_counts *counts, uint32_t factor,
+                         const uint8_t *bytes, size_t len, uint64_t time, struct wolfaren_added *added) WOLFAREN_NONNULL(5, 10);
 
 /*
  * Writes the whole packet of a memory to the start of `out`, which has `room` bytes: the headers of the first fragment up to

@@ -70,7 +70,7 @@ static void make_fragments(void)
 static void add(const uint8_t *bytes)
 {
     struct wolfaren_added added;
-    if (!wolfaren_defragment(slots, SLOTS, memories, SLOTS, &counts, 0x9e3779b1, now++, bytes, LEN, &added)) exit(3);
+    if (!wolfaren_defragment(slots, SLOTS, memories, SLOTS, &counts, 0x9e3779b1, bytes, LEN, now++, &added)) exit(3);
 }
 
 static void run_whole(void)

@@ -263,8 +263,9 @@ static bool add(struct defragmenter *defragmenter, struct capture *capture, stru
     struct wolfaren_added added;
     note_time(defragmenter, capture, packet);
     if (!wolfaren_defragment(defragmenter->slots, defragmenter->slot_count, defragmenter->memories,
-                             defragmenter->slot_count, &defragmenter->counts, defragmenter->factor, defragmenter->time,
-                             packet->frame + packet->ip_offset, packet->header.caplen - packet->ip_offset, &added))
+                             defragmenter->slot_count, &defragmenter->counts, defragmenter->factor,
+                             packet->frame + packet->ip_offset, packet->header.caplen - packet->ip_offset,
+                             defragmenter->time, &added))
         return true;
     if (added.outcome == WOLFAREN_NOT_FRAGMENT) return true;
     struct pending *pending = has_slot(&added) ? &defragmenter->pendings[added.slot] : NULL;

@@ -56,7 +56,7 @@ static struct wolfaren_added add(size_t count, uint64_t time, const uint8_t *pac
     uint8_t *bytes = malloc(len > 0 ? len : 1);
     expect(bytes != NULL, "memory");
     memcpy(bytes, packet, len);
-    expect(wolfaren_defragment(slots, count, memories, count, &counts, 0x12345678, time, len > 0 ? bytes : NULL, len, &added),
+    expect(wolfaren_defragment(slots, count, memories, count, &counts, 0x12345678, len > 0 ? bytes : NULL, len, time, &added),
            "as many memories as slots");
     free(bytes);
     return added;
@@ -161,7 +161,7 @@ static void test_outcomes(void)
         expect(counts.outcomes[i] == (i == WOLFAREN_WHOLE || i == WOLFAREN_HEADERS_TOO_LONG ? 0 : i == WOLFAREN_MORE_WANTED ? 3 : i == 0 ? 2 : 1),
                "counts of outcomes");
     struct wolfaren_defragmenter_counts before = counts;
-    expect(!wolfaren_defragment(slots, 2, memories, 1, &counts, 1, 0, bytes, PIECE_LEN, &added), "fewer memories than slots");
+    expect(!wolfaren_defragment(slots, 2, memories, 1, &counts, 1, bytes, PIECE_LEN, 0, &added), "fewer memories than slots");
     expect(added.slot == 99 && memcmp(&before, &counts, sizeof counts) == 0, "nothing is changed");
 }
 

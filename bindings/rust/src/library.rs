@@ -242,7 +242,7 @@ const _: () = {
 
 /// `WOLFAREN_ABI`: the checksum of the header that this file was written for (`scripts/abi` of the repository).
 #[cfg(all(test, not(miri)))]
-pub(crate) const ABI: u32 = 0x3bb3_fe11;
+pub(crate) const ABI: u32 = 0xcd43_0216;
 
 unsafe extern "C" {
     fn wolfaren_parse_chain(
@@ -326,9 +326,9 @@ unsafe extern "C" {
         memory_count: usize,
         counts: *mut DefragmenterCounts,
         factor: u32,
-        time: u64,
         bytes: *const u8,
         len: usize,
+        time: u64,
         added: *mut Added,
     ) -> bool;
 
@@ -1094,9 +1094,9 @@ pub(crate) fn defragment(
             memories.len(),
             counts,
             factor,
-            time,
             bytes.as_ptr(),
             bytes.len(),
+            time,
             &raw mut added,
         )
     };

@@ -23,8 +23,8 @@ pub extern "C" fn wolfaren_defragment(
     memories: &mut [PacketMemory],
     counts: &mut DefragmenterCounts,
     factor: u32,
-    time: u64,
     bytes: Bytes<'_>,
+    time: u64,
     added: &mut AddedFields,
 ) -> bool
     ensures not_fragment { IsTrue result

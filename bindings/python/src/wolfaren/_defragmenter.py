@@ -45,8 +45,8 @@ class Defragmenter:
         otherwise `None`. Bytes after a packet that isn't a fragment are returned as well.
         """
         data = ffi.from_buffer(packet)
-        lib.wolfaren_defragment(self._slots, self._count, self._memories, self._count, self._counts, self._factor, time_ns, data,
-                                len(data), self._added)
+        lib.wolfaren_defragment(self._slots, self._count, self._memories, self._count, self._counts, self._factor, data,
+                                len(data), time_ns, self._added)
         if self._added.outcome == lib.WOLFAREN_NOT_FRAGMENT:
             return bytes(packet)
         if self._added.outcome != lib.WOLFAREN_WHOLE:

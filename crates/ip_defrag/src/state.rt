@@ -75,7 +75,7 @@ pub struct ReassemblyState {
 }
 
 impl ReassemblyState {
-    ghost use Rattle.std.specs.Prelude.{◌≡◌, ◌+◌, ◌-◌, ◌*◌, ◌≤◌, ◌<◌, ◌==◌, ◌&&◌, ◌||◌, if◌then◌else◌, not, nat_lt, ℕ, Bool, List, min, length, true, false, Ok, None, Some, IfOk, MatchResult, MatchBool};
+    ghost use Rattle.std.specs.Prelude.{◌≡◌, ◌+◌, ◌-◌, ◌*◌, ◌≤◌, ◌<◌, ◌==◌, ◌&&◌, ◌||◌, if◌then◌else◌, not, nat_lt, ℕ, Bool, List, min, length, true, false, Ok, None, Some, IfOk, MatchResult, MatchBool, IsTrue, ◌↔◌, slice_index};
     ghost use Rattle.std.specs.List.{list_any};
     ghost use Rattle.std.specs.Option.{option_copied};
     ghost use Rattle.ip_defrag.specs.Fragment.{fragment_at, is_same};
@@ -248,6 +248,19 @@ impl ReassemblyState {
         is_set(self.ended) && self.reach < end || !more && end < self.reach
     }
 
+    /// Returns whether these units haven't arrived. Their marks are only read if a fragment ends after the first of them,
+    /// so not if fragments arrive in order.
+    #[inline(always)]
+    fn are_free(&self, first: usize, end: usize) -> bool
+        requires ordered { first ≤ end }
+        requires within { end ≤ 8192 }
+        ensures free { (buffer : List ℕ) (s : Received) → HasArrived self.now buffer s → IsTrue result
+            ↔ ((i : ℕ) → first ≤ i → i < end → slice_index self.now.marks i ≡ 0) }
+        ensures some { result ≡ false → first < end }
+    {
+        self.reach <= 8 * first || are_free(&self.marks, first, end)
+    }
+
     /// Returns whether a fragment can be stored, or repeats another one, or why it is refused.
     fn test(&self, buffer: &[u8], first: usize, more: bool, bytes: &[u8]) -> Result<bool, AddError>
         requires { first ≤ 8191 }
@@ -267,7 +280,7 @@ impl ReassemblyState {
         if end > buffer.len().min(MAX_PAYLOAD) {
             return Err(AddError::TooLong);
         }
-        if !are_free(&self.marks, first, end.div_ceil(8)) {
+        if !self.are_free(first, end.div_ceil(8)) {
             if self.repeats(buffer, first, more, bytes) {
                 return Ok(false);
             }

@@ -1,3 +1,5 @@
 pub mod FinderLemmas
 pub mod FragmentLemmas
+pub mod HashLemmas
 pub mod MemoryLemmas
+pub mod OldestLemmas

@@ -5,10 +5,11 @@ ghost use Rattle.ip_defragmenter.specs.FragmentOf.{FragmentParts, parts_of, frag
 ghost use Rattle.ip_defragmenter.specs.Added.{outcome_of, is_whole, freed, IsAdded, added_nothing};
 ghost use Rattle.ip_defragmenter.specs.declared.err.FragmentError.{FragmentError};
 
+use crate::fragment::Reading;
 use crate::store::store;
 use crate::{
     Added, DefragmenterCounts, DropReason, IpFragment, Outcome, PacketMemory, Slot, StoreError,
-    fragment_of, place,
+    place,
 };
 use ip_defrag::Progress;
 
@@ -86,15 +87,17 @@ pub fn defragment(
     ensures added { (f : FragmentParts) → fragment_in (dissected bytes.now) ≡ Ok (Some f)
         → IsAdded slots.old memories.old factor time f slots.new memories.new result }
 {
-    match fragment_of(bytes) {
-        Ok(Some(fragment)) => add_fragment(slots, memories, factor, time, &fragment),
+    let mut reading = Reading::new();
+    reading.read(bytes);
+    match &reading.fragment {
+        Ok(Some(fragment)) => add_fragment(slots, memories, factor, time, fragment),
         Ok(None) => Added {
             outcome: Outcome::NotFragment,
             slot: None,
             lost: None,
         },
         Err(error) => Added {
-            outcome: Outcome::Dropped(DropReason::Unusable(error)),
+            outcome: Outcome::Dropped(DropReason::Unusable(*error)),
             slot: None,
             lost: None,
         },

@@ -14,7 +14,7 @@ ghost use Rattle.ip_defragmenter.specs.FragmentOf.{parts_of, fragment_in, ipv4_p
 use crate::finder::Finder;
 use crate::{FragmentError, FragmentKey};
 use ip_base::{IpFragOffset, IpNumber, Ipv4HeaderSlice, Ipv6HeaderSlice};
-use ip_dissect::{BaseHeader, Outline, Packet, PacketStart, PacketVisitor, Visited};
+use ip_dissect::{BaseHeader, Outline, Packet, PacketStart, PacketVisitor};
 
 /// A fragment of a packet, borrowed from its bytes.
 #[derive(Clone, Copy, Debug)]
@@ -46,38 +46,54 @@ pub struct IpFragment<'a> {
 pub fn fragment_of(bytes: &[u8]) -> Result<Option<IpFragment<'_>>, FragmentError>
     ensures { result_map_both (option_map parts_of) (λ e. e) result ≡ fragment_in (dissected bytes.now) }
 {
-    match Packet::visit(bytes, &mut Reading) {
-        Visited::Plain(read) => read,
-        Visited::Slow(read) => read,
-    }
+    let mut reading = Reading::new();
+    reading.read(bytes);
+    reading.fragment
 }
 
 /// A visitor of packets that reads which fragment each is.
 #[derive(Clone, Copy, Debug)]
-struct Reading;
+pub(crate) struct Reading<'a> {
+    /// The fragment that the packet is, as `fragment_of` returns it. It isn't moved: it is large.
+    pub(crate) fragment: Result<Option<IpFragment<'a>>, FragmentError>,
+}
 
-impl<'a> PacketVisitor<'a> for Reading {
-    type Plain = Result<Option<IpFragment<'a>>, FragmentError>;
+impl<'a> Reading<'a> {
+    /// Returns a visitor that has read no packet.
+    #[inline(always)]
+    pub(crate) fn new() -> Reading<'a> {
+        Reading { fragment: Ok(None) }
+    }
 
-    type Slow = Result<Option<IpFragment<'a>>, FragmentError>;
+    /// Reads which fragment the packet at the start of `bytes` is.
+    #[inline(always)]
+    pub(crate) fn read(&mut self, bytes: &'a [u8])
+        ensures { result_map_both (option_map parts_of) (λ e. e) self.new.fragment
+            ≡ fragment_in (dissected bytes.now) }
+    {
+        let _ = Packet::visit(bytes, self);
+    }
+}
 
-    ghost plain = { λ old s new x. result_map_both (option_map parts_of) (λ e. e) x ≡ fragment_in (dissected s) };
+impl<'a> PacketVisitor<'a> for Reading<'a> {
+    type Plain = ();
 
-    ghost slow = { λ old s new x. result_map_both (option_map parts_of) (λ e. e) x ≡ fragment_in (dissected s) };
+    type Slow = ();
+
+    ghost plain = { λ old s new _. result_map_both (option_map parts_of) (λ e. e) new.fragment ≡ fragment_in (dissected s) };
+
+    ghost slow = { λ old s new _. result_map_both (option_map parts_of) (λ e. e) new.fragment ≡ fragment_in (dissected s) };
 
     #[inline(always)]
-    fn visit_plain(&mut self, packet: Packet<'a>) -> Result<Option<IpFragment<'a>>, FragmentError> {
-        fragment_by(&packet, &Finder::new())
+    fn visit_plain(&mut self, packet: Packet<'a>) {
+        self.fragment = fragment_by(&packet, &Finder::new());
     }
 
     #[inline(always)]
-    fn visit_slow(
-        &mut self,
-        start: PacketStart<'a>,
-    ) -> Result<Option<IpFragment<'a>>, FragmentError> {
+    fn visit_slow(&mut self, start: PacketStart<'a>) {
         let mut finder = Finder::new();
         let packet = start.walk(&mut finder);
-        fragment_by(&packet, &finder)
+        self.fragment = fragment_by(&packet, &finder);
     }
 }
 

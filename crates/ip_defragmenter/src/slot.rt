@@ -1,6 +1,7 @@
 //! Slots of packets.
 ghost use Rattle.std.specs.Prelude.{◌≡◌, ◌<◌, length, Some, true};
-ghost use Rattle.ip_defragmenter.specs.Slot.{pending_in, is_free, free_slot, slot_of, front_of, padded};
+ghost use Rattle.ip_defragmenter.specs.Slots.{has_key, since_of};
+ghost use Rattle.ip_defragmenter.specs.Slot.{pending_in, is_free, free_slot, slot_with, front_of, padded};
 
 use crate::{FragmentKey, Pending};
 use ip_base::IpNumber;
@@ -88,41 +89,78 @@ impl Slot {
     pub(crate) fn is_free(&self) -> bool
         ensures { result ≡ is_free self.now }
     {
-        self.pending().is_none()
+        self.version != 4 && self.version != 6
     }
 
-    /// Returns the slot of a packet.
+    /// Returns when the first fragment of its packet arrived, or 0 if the slot is free.
     #[inline(always)]
-    pub(crate) fn of(pending: Pending) -> Slot
-        ensures { result ≡ slot_of pending }
+    pub(crate) fn since(&self) -> u64
+        ensures { result ≡ since_of self.now }
     {
-        let since = pending.since;
-        match pending.key {
+        if self.is_free() { 0 } else { self.since }
+    }
+
+    /// Returns whether the slot is that of the packet with this key. Compares the shortest fields first.
+    #[inline(always)]
+    pub(crate) fn has_key(&self, key: &FragmentKey) -> bool
+        ensures { result ≡ has_key key.now self.now }
+    {
+        match key {
             FragmentKey::Ipv4 {
                 source,
                 destination,
                 protocol,
                 identification,
-            } => Slot {
-                since,
-                source: padded(&source),
-                destination: padded(&destination),
-                identification: u32::from(identification),
-                protocol: protocol.0,
-                version: 4,
-            },
+            } => {
+                self.version == 4
+                    && self.identification % 65536 == u32::from(*identification)
+                    && self.protocol == protocol.0
+                    && front_of(&self.source) == *source
+                    && front_of(&self.destination) == *destination
+            }
             FragmentKey::Ipv6 {
                 source,
                 destination,
                 identification,
-            } => Slot {
-                since,
+            } => {
+                self.version == 6
+                    && self.identification == *identification
+                    && self.source == *source
+                    && self.destination == *destination
+            }
+        }
+    }
+
+    /// Makes the slot that of the packet with this key, whose first fragment arrived at this time.
+    #[inline(always)]
+    pub(crate) fn hold(&mut self, key: &FragmentKey, since: u64)
+        ensures { self.new ≡ slot_with since key.now }
+    {
+        self.since = since;
+        match key {
+            FragmentKey::Ipv4 {
+                source,
+                destination,
+                protocol,
+                identification,
+            } => {
+                self.source = padded(source);
+                self.destination = padded(destination);
+                self.identification = u32::from(*identification);
+                self.protocol = protocol.0;
+                self.version = 4;
+            }
+            FragmentKey::Ipv6 {
                 source,
                 destination,
                 identification,
-                protocol: 0,
-                version: 6,
-            },
+            } => {
+                self.source = *source;
+                self.destination = *destination;
+                self.identification = *identification;
+                self.protocol = 0;
+                self.version = 6;
+            }
         }
     }
 }

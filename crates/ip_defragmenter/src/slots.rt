@@ -1,5 +1,6 @@
 //! Which slot a packet has.
-ghost use Rattle.std.specs.Prelude.{◌≡◌, ◌<◌, ◌≤◌, length, Some, None, IfSome, is_some, if◌then◌else◌, position, true, false};
+ghost use Rattle.std.specs.Prelude.{◌≡◌, ◌<◌, ◌≤◌, nat_le, min, length, Some, None, IfSome, is_some, if◌then◌else◌, position, true, false};
+ghost use Rattle.std.specs.List.{fold};
 ghost use Rattle.ip_defragmenter.specs.Slots.{has_key, is_oldest, is_expired, since_of, own_place, own_in, new_place, displaced_place, displaced_in, slot_at, place_in, first_of, place_of, slots_after, loss_of};
 ghost use Rattle.ip_defragmenter.specs.Slot.{free_slot, is_free};
 
@@ -21,28 +22,6 @@ pub struct Placement {
     pub lost: Option<Loss>,
 }
 
-/// Returns whether a slot is that of the packet with this key.
-#[inline(always)]
-fn has_key(slot: &Slot, key: &FragmentKey) -> bool
-    ensures { result ≡ has_key key.now slot.now }
-{
-    match slot.pending() {
-        Some(pending) => pending.key.is_same(key),
-        None => false,
-    }
-}
-
-/// Returns when the first fragment of a slot's packet arrived, or 0 if the slot is free.
-#[inline(always)]
-fn since_of(slot: &Slot) -> u64
-    ensures { result ≡ since_of slot.now }
-{
-    match slot.pending() {
-        Some(pending) => pending.since,
-        None => 0,
-    }
-}
-
 /// Returns whether 60 seconds have passed.
 #[inline(always)]
 fn is_expired(since: u64, time: u64) -> bool
@@ -51,13 +30,14 @@ fn is_expired(since: u64, time: u64) -> bool
     time.saturating_sub(since) > TIMEOUT
 }
 
-/// Returns whether no slot has an older packet.
+/// Returns the time of the oldest packet of these slots, or `time` if it is earlier.
 #[inline(always)]
-fn is_oldest(slots: &[Slot], slot: &Slot) -> bool
-    ensures { result ≡ is_oldest slots.now slot.now }
+fn oldest_of(slots: &[Slot], time: u64) -> u64
+    ensures { result ≡ fold (λ oldest slot. min oldest (since_of slot)) time slots.now }
 {
-    let since = since_of(slot);
-    slots.iter().all(|other| since <= since_of(other))
+    slots
+        .iter()
+        .fold(time, |oldest, slot| oldest.min(slot.since()))
 }
 
 /// Returns the place of a packet in the slot that has it.
@@ -154,7 +134,7 @@ fn find_own(slots: &[Slot], key: &FragmentKey) -> Option<usize>
     ensures has { IfSome result (λ i. has_key key.now (slot_at slots.now i) ≡ true) }
     ensures within { IfSome result (λ i. i < length slots.now) }
 {
-    slots.iter().position(|slot| has_key(slot, key))
+    slots.iter().position(|slot| slot.has_key(key))
 }
 
 /// Returns the index of the first free slot.
@@ -166,13 +146,25 @@ fn find_free(slots: &[Slot]) -> Option<usize>
     slots.iter().position(|slot| slot.is_free())
 }
 
+/// Returns the index of the first slot whose packet isn't newer than this time.
+#[inline(always)]
+fn find_until(slots: &[Slot], time: u64) -> Option<usize>
+    ensures until { result ≡ position (λ slot. nat_le (since_of slot) time) slots.now }
+    ensures within { IfSome result (λ i. i < length slots.now) }
+{
+    slots.iter().position(|slot| slot.since() <= time)
+}
+
 /// Returns the index of the first slot whose packet is the oldest.
 #[inline(always)]
 fn find_oldest(slots: &[Slot]) -> Option<usize>
     ensures oldest { result ≡ position (is_oldest slots.now) slots.now }
     ensures within { IfSome result (λ i. i < length slots.now) }
 {
-    slots.iter().position(|slot| is_oldest(slots, slot))
+    match slots.first() {
+        Some(first) => find_until(slots, oldest_of(slots, first.since())),
+        None => None,
+    }
 }
 
 /// Returns the place of the packet with this key in a set of slots: its own slot, else a free one, else that of the
@@ -225,10 +217,7 @@ pub fn place(slots: &mut [Slot], factor: u32, key: FragmentKey, time: u64) -> Op
     match place_in(&slots[first..end], &key, time) {
         Some(found) => {
             let index = first + found.index;
-            slots[index] = Slot::of(Pending {
-                key,
-                since: found.since,
-            });
+            slots[index].hold(&key, found.since);
             Some(Placement { index, ..found })
         }
         None => None,

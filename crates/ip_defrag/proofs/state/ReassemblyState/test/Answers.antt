@@ -12,17 +12,17 @@ returns-then-end-min-clause-verdict c = λ s h. refused_too_long s.limit s.fragm
 pub returns-then-not-are_free-clause-verdict : goal.returns-then-not-are_free-clause-verdict
 returns-then-not-are_free-clause-verdict c = λ s h.
     tested_overlap (fields_of c.args.self.now c.args.buffer.now) s c.args.first c.div_ceil.result c.args.more c.args.bytes.now h (record { offset = omega arith; aligned = sym c.is_unaligned.ensures ∙ c.if-is_unaligned.false; within = omega (arith, h.limit) }) c.div_ceil.ensures
-    (λ free. both_ways c.are_free.result c.if-not-are_free.true (c.are_free.ensures.1 free)) (λ sound. sym (c.repeats.ensures s h sound) ∙ c.if-repeats.false)
+    (λ free. both_ways c.are_free.result c.if-not-are_free.true ((c.are_free.ensures.free c.args.buffer.now s h).1 free)) (λ sound. sym (c.repeats.ensures s h sound) ∙ c.if-repeats.false)
 
 pub returns-then-ends_elsewhere-clause-verdict : goal.returns-then-ends_elsewhere-clause-verdict
 returns-then-ends_elsewhere-clause-verdict c = λ s h.
     tested_two_ends (fields_of c.args.self.now c.args.buffer.now) s c.args.first c.div_ceil.result c.args.more c.args.bytes.now h (record { offset = omega arith; aligned = sym c.is_unaligned.ensures ∙ c.if-is_unaligned.false; within = omega (arith, h.limit) }) c.div_ceil.ensures
-    (c.are_free.ensures.0 c.if-not-are_free.false) (sym c.ends_elsewhere.ensures ∙ c.if-ends_elsewhere.true)
+    ((c.are_free.ensures.free c.args.buffer.now s h).0 c.if-not-are_free.false) (sym c.ends_elsewhere.ensures ∙ c.if-ends_elsewhere.true)
 
 pub returns-clause-verdict : goal.returns-clause-verdict
 returns-clause-verdict c = λ s h.
     tested_new (fields_of c.args.self.now c.args.buffer.now) s c.args.first c.div_ceil.result c.args.more c.args.bytes.now h (record { offset = omega arith; aligned = sym c.is_unaligned.ensures ∙ c.if-is_unaligned.false; within = omega (arith, h.limit) }) c.div_ceil.ensures
-    (c.are_free.ensures.0 c.if-not-are_free.false) (sym c.ends_elsewhere.ensures ∙ c.if-ends_elsewhere.false)
+    ((c.are_free.ensures.free c.args.buffer.now s h).0 c.if-not-are_free.false) (sym c.ends_elsewhere.ensures ∙ c.if-ends_elsewhere.false)
 
 pub returns-then-repeats-clause-verdict : goal.returns-then-repeats-clause-verdict
 returns-then-repeats-clause-verdict c = λ s h.

@@ -3,3 +3,4 @@ pub mod FragmentLemmas
 pub mod HashLemmas
 pub mod MemoryLemmas
 pub mod OldestLemmas
+pub mod ReadLemmas

@@ -6,10 +6,10 @@ ghost use Rattle.ip_defragmenter.specs.Added.{outcome_of, is_whole, freed, IsAdd
 ghost use Rattle.ip_defragmenter.specs.declared.err.FragmentError.{FragmentError};
 
 use crate::fragment::Reading;
+use crate::slots::place_by;
 use crate::store::store;
 use crate::{
     Added, DefragmenterCounts, DropReason, IpFragment, Outcome, PacketMemory, Slot, StoreError,
-    place,
 };
 use ip_defrag::Progress;
 
@@ -48,7 +48,7 @@ pub fn add_fragment(
     requires { length slots.old ≡ length memories.old }
     ensures { IsAdded slots.old memories.old factor time (parts_of fragment.now) slots.new memories.new result }
 {
-    match place(slots, factor, fragment.key, time) {
+    match place_by(slots, factor, &fragment.key, time) {
         Some(found) => {
             let stored = store(memories, found.index, found.is_known, fragment);
             free_if_whole(slots, found.index, &stored);

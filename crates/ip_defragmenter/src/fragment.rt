@@ -6,12 +6,13 @@ ghost use Rattle.ip_spec.specs.Chain.{bytes_of};
 ghost use Rattle.ip_dissect.specs.Dissection.{dissected, DissectedParts};
 ghost use Rattle.ip_dissect.specs.declared.dissection.BaseHeader.TheVariants.{Ipv4, Ipv6};
 ghost use Rattle.ip_dissect.specs.Outline.{outline_of};
+ghost use Rattle.ip_base.specs.Ipv4Header.{is_ipv4_fragmenting};
 ghost use Rattle.ip_base.specs.Ipv4HeaderSlice as ipv4_header;
 ghost use Rattle.ip_base.specs.Ipv6HeaderSlice as ipv6_header;
 ghost use Rattle.ip_defragmenter.specs.Finder.{found_after};
 ghost use Rattle.ip_defragmenter.specs.FragmentOf.{parts_of, fragment_in, ipv4_parts, ipv6_parts, unusable, fragmented};
 
-use crate::finder::Finder;
+use crate::finder::{Finder, FoundHeader};
 use crate::{FragmentError, FragmentKey};
 use ip_base::{IpFragOffset, IpNumber, Ipv4HeaderSlice, Ipv6HeaderSlice};
 use ip_dissect::{BaseHeader, Outline, Packet, PacketStart, PacketVisitor};
@@ -65,6 +66,56 @@ impl<'a> Reading<'a> {
         Reading { fragment: Ok(None) }
     }
 
+    /// Reads which fragment a packet is, by what was found among its headers.
+    #[inline(always)]
+    fn read_packet(&mut self, packet: &Packet<'a>, finder: &Finder)
+        requires { finder.now ≡ found_after (length (dissected packet.now.bytes.now).base)
+            (dissected packet.now.bytes.now).headers }
+        ensures { result_map_both (option_map parts_of) (λ e. e) self.new.fragment
+            ≡ fragment_in (dissected packet.now.bytes.now) }
+    {
+        match packet.base {
+            Some(BaseHeader::Ipv4(base)) => self.read_ipv4(packet, base),
+            Some(BaseHeader::Ipv6(base)) => self.read_ipv6(packet, base, finder),
+            None => self.fragment = Ok(None),
+        }
+    }
+
+    /// Reads which fragment an IPv4 packet is.
+    #[inline(always)]
+    fn read_ipv4(&mut self, packet: &Packet<'a>, base: Ipv4HeaderSlice<'a>)
+        requires { packet.now.base ≡ Some (Ipv4 base) }
+        ensures { result_map_both (option_map parts_of) (λ e. e) self.new.fragment
+            ≡ fragment_in (dissected packet.now.bytes.now) }
+    {
+        if !base.is_fragmenting_payload() {
+            self.fragment = Ok(None);
+            return;
+        }
+        match test(&packet.outline) {
+            Ok(()) => self.fragment = Ok(Some(ipv4_fragment(packet, base))),
+            Err(error) => self.fragment = Err(error),
+        }
+    }
+
+    /// Reads which fragment an IPv6 packet is, by what was found among its headers.
+    #[inline(always)]
+    fn read_ipv6(&mut self, packet: &Packet<'a>, base: Ipv6HeaderSlice<'a>, finder: &Finder)
+        requires base { packet.now.base ≡ Some (Ipv6 base) }
+        requires found { finder.now ≡ found_after (length (dissected packet.now.bytes.now).base)
+            (dissected packet.now.bytes.now).headers }
+        ensures { result_map_both (option_map parts_of) (λ e. e) self.new.fragment
+            ≡ fragment_in (dissected packet.now.bytes.now) }
+    {
+        match finder.header {
+            Some(header) => match test(&packet.outline) {
+                Ok(()) => self.fragment = Ok(Some(ipv6_fragment(packet, base, finder, &header))),
+                Err(error) => self.fragment = Err(error),
+            },
+            None => self.fragment = Ok(None),
+        }
+    }
+
     /// Reads which fragment the packet at the start of `bytes` is.
     #[inline(always)]
     pub(crate) fn read(&mut self, bytes: &'a [u8])
@@ -86,47 +137,14 @@ impl<'a> PacketVisitor<'a> for Reading<'a> {
 
     #[inline(always)]
     fn visit_plain(&mut self, packet: Packet<'a>) {
-        self.fragment = fragment_by(&packet, &Finder::new());
+        self.read_packet(&packet, &Finder::new());
     }
 
     #[inline(always)]
     fn visit_slow(&mut self, start: PacketStart<'a>) {
         let mut finder = Finder::new();
         let packet = start.walk(&mut finder);
-        self.fragment = fragment_by(&packet, &finder);
-    }
-}
-
-/// Returns the fragment that a packet is, by what was found among its headers.
-#[inline(always)]
-fn fragment_by<'a>(
-    packet: &Packet<'a>,
-    finder: &Finder,
-) -> Result<Option<IpFragment<'a>>, FragmentError>
-    requires { finder.now ≡ found_after (length (dissected packet.now.bytes.now).base) (dissected packet.now.bytes.now).headers }
-    ensures { result_map_both (option_map parts_of) (λ e. e) result ≡ fragment_in (dissected packet.now.bytes.now) }
-{
-    let fragment = unchecked(packet, finder);
-    match fragment {
-        Some(fragment) => match test(&packet.outline) {
-            Ok(()) => Ok(Some(fragment)),
-            Err(error) => Err(error),
-        },
-        None => Ok(None),
-    }
-}
-
-/// Returns the fragment that a packet is, even if it can't be used.
-#[inline(always)]
-fn unchecked<'a>(packet: &Packet<'a>, finder: &Finder) -> Option<IpFragment<'a>>
-    requires { finder.now ≡ found_after (length (dissected packet.now.bytes.now).base)
-        (dissected packet.now.bytes.now).headers }
-    ensures { option_map parts_of result ≡ fragmented (dissected packet.now.bytes.now) }
-{
-    match packet.base {
-        Some(BaseHeader::Ipv4(base)) => ipv4_fragment(packet, base),
-        Some(BaseHeader::Ipv6(base)) => ipv6_fragment(packet, base, finder),
-        None => None,
+        self.read_packet(&packet, &finder);
     }
 }
 
@@ -150,15 +168,13 @@ fn test(outline: &Outline) -> Result<(), FragmentError>
 
 /// Returns the fragment that an IPv4 packet is.
 #[inline(always)]
-fn ipv4_fragment<'a>(packet: &Packet<'a>, base: Ipv4HeaderSlice<'a>) -> Option<IpFragment<'a>>
-    requires { packet.now.base ≡ Some (Ipv4 base) }
-    ensures { option_map parts_of result ≡ ipv4_parts (dissected packet.now.bytes.now) }
+fn ipv4_fragment<'a>(packet: &Packet<'a>, base: Ipv4HeaderSlice<'a>) -> IpFragment<'a>
+    requires base { packet.now.base ≡ Some (Ipv4 base) }
+    requires fragments { is_ipv4_fragmenting (ipv4_header.bytes base) ≡ true }
+    ensures { Some (parts_of result) ≡ ipv4_parts (dissected packet.now.bytes.now) }
 {
-    if !base.is_fragmenting_payload() {
-        return None;
-    }
     let start = packet.outline.base_len;
-    Some(IpFragment {
+    IpFragment {
         key: FragmentKey::Ipv4 {
             source: base.source(),
             destination: base.destination(),
@@ -171,36 +187,35 @@ fn ipv4_fragment<'a>(packet: &Packet<'a>, base: Ipv4HeaderSlice<'a>) -> Option<I
         offset: base.fragments_offset(),
         more: base.more_fragments(),
         bytes: part(packet.bytes, start, end_of(packet)),
-    })
+    }
 }
 
-/// Returns the fragment that an IPv6 packet is.
+/// Returns the fragment that an IPv6 packet is, with this fragment header.
 #[inline(always)]
 fn ipv6_fragment<'a>(
     packet: &Packet<'a>,
     base: Ipv6HeaderSlice<'a>,
     finder: &Finder,
-) -> Option<IpFragment<'a>>
+    header: &FoundHeader,
+) -> IpFragment<'a>
     requires base { packet.now.base ≡ Some (Ipv6 base) }
     requires found { finder.now ≡ found_after (length (dissected packet.now.bytes.now).base)
         (dissected packet.now.bytes.now).headers }
-    ensures { option_map parts_of result ≡ ipv6_parts (dissected packet.now.bytes.now) }
+    requires header { finder.now.header ≡ Some header.now }
+    ensures { Some (parts_of result) ≡ ipv6_parts (dissected packet.now.bytes.now) }
 {
-    match finder.header {
-        Some(header) => Some(IpFragment {
-            key: FragmentKey::Ipv6 {
-                source: base.source(),
-                destination: base.destination(),
-                identification: header.identification,
-            },
-            headers: front(packet.bytes, header.start),
-            link: finder.link,
-            next_header: header.next_header,
-            offset: header.offset,
-            more: header.more,
-            bytes: part(packet.bytes, header.start + header.len, end_of(packet)),
-        }),
-        None => None,
+    IpFragment {
+        key: FragmentKey::Ipv6 {
+            source: base.source(),
+            destination: base.destination(),
+            identification: header.identification,
+        },
+        headers: front(packet.bytes, header.start),
+        link: finder.link,
+        next_header: header.next_header,
+        offset: header.offset,
+        more: header.more,
+        bytes: part(packet.bytes, header.start + header.len, end_of(packet)),
     }
 }
 

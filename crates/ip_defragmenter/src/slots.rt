@@ -212,12 +212,29 @@ pub fn place(slots: &mut [Slot], factor: u32, key: FragmentKey, time: u64) -> Op
         → has_key key (slot_at slots.old p.index) ≡ true) }
     ensures within { IfSome result (λ p. p.index < length slots.old) }
 {
-    let first = first_of(slots.len(), factor, &key);
+    place_by(slots, factor, &key, time)
+}
+
+/// Returns the slot of the packet with this key, as `place` does. A key that isn't moved is compared 16 bytes at a time.
+#[inline(always)]
+pub(crate) fn place_by(
+    slots: &mut [Slot],
+    factor: u32,
+    key: &FragmentKey,
+    time: u64,
+) -> Option<Placement>
+    ensures place { result ≡ place_of slots.old factor key.now time }
+    ensures slots { slots.new ≡ slots_after slots.old key.now result }
+    ensures known { IfSome result (λ p. p.is_known ≡ true
+        → has_key key.now (slot_at slots.old p.index) ≡ true) }
+    ensures within { IfSome result (λ p. p.index < length slots.old) }
+{
+    let first = first_of(slots.len(), factor, key);
     let end = (first + 8).min(slots.len());
-    match place_in(&slots[first..end], &key, time) {
+    match place_in(&slots[first..end], key, time) {
         Some(found) => {
             let index = first + found.index;
-            slots[index].hold(&key, found.since);
+            slots[index].hold(key, found.since);
             Some(Placement { index, ..found })
         }
         None => None,

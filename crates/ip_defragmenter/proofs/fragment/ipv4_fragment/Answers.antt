@@ -22,15 +22,10 @@ same_number n m e = rw (← e) refl
 same_key : (a b c d : List ℕ) (p q : IpNumber) (i j : ℕ) → a ≡ b → c ≡ d → p ≡ q → i ≡ j → key.Ipv4 a c p i ≡ key.Ipv4 b d q j
 same_key a b c d p q i j e f g h = cc
 
-pub returns-then-not-is_fragmenting_payload : goal.returns-then-not-is_fragmenting_payload
-returns-then-not-is_fragmenting_payload c =
-    let base : ipv4_header.bytes c.args.base ≡ (dissected c.args.packet.now.bytes.now).base = (subst (IsBaseOf c.args.packet.now.bytes.now) c.requires c.args.packet.now.base_is).base in
-    sym (cond-false (is_ipv4_fragmenting (dissected c.args.packet.now.bytes.now).base) _ None (ap is_ipv4_fragmenting (sym base) ∙ (sym c.is_fragmenting_payload.ensures ∙ c.if-not-is_fragmenting_payload.true)))
-
 pub returns : goal.returns
 returns c =
     let s = c.args.packet.now.bytes.now in
-    let base : ipv4_header.bytes c.args.base ≡ (dissected c.args.packet.now.bytes.now).base = (subst (IsBaseOf c.args.packet.now.bytes.now) c.requires c.args.packet.now.base_is).base in
+    let base : ipv4_header.bytes c.args.base ≡ (dissected c.args.packet.now.bytes.now).base = (subst (IsBaseOf c.args.packet.now.bytes.now) c.requires.base c.args.packet.now.base_is).base in
     let bytes = c.part.ensures ∙ ipv4_bytes s c.args.packet.now.base c.args.packet.now.base_is c.args.packet.now.outline.base_len c.end_of.result (ap (λ (o : Outline). o.base_len) c.args.packet.now.outline_is) c.end_of.ensures.is in
     let of = λ (b : List ℕ). key.Ipv4 (ipv4_source_octets b) (ipv4_destination_octets b) (record { 0 = protocol b }) (ipv4_identification b) in
     ap Some (same_parts _ (record {
@@ -49,4 +44,4 @@ returns c =
     (c.fragments_offset.ensures ∙ ap ipv4_fragment_offset base)
     (c.more_fragments.ensures ∙ ap ipv4_more_fragments base)
     bytes)
-    ∙ sym (cond-true (is_ipv4_fragmenting (dissected s).base) _ None (ap is_ipv4_fragmenting (sym base) ∙ (sym c.is_fragmenting_payload.ensures ∙ c.if-not-is_fragmenting_payload.false)))
+    ∙ sym (cond-true (is_ipv4_fragmenting (dissected s).base) _ None (ap is_ipv4_fragmenting (sym base) ∙ c.requires.fragments))

@@ -16,33 +16,28 @@ same_key : (a b c d : List ℕ) (i j : ℕ) → a ≡ b → c ≡ d → i ≡ j 
 same_key a b c d i j e f h = cc
 
 pub front-requires : goal.front-requires
-front-requires c = (fragment_lies c.args.packet.now c.in-Some.header c.args.finder.now c.requires.found c.in-Some.is).start
+front-requires c = (fragment_lies c.args.packet.now c.args.header.now c.args.finder.now c.requires.found c.requires.header).start
 
 pub overflow_add-header : goal.overflow_add-header
-overflow_add-header c = let w = (fragment_lies c.args.packet.now c.in-Some.header c.args.finder.now c.requires.found c.in-Some.is).end in search (rules, w)
+overflow_add-header c = let w = (fragment_lies c.args.packet.now c.args.header.now c.args.finder.now c.requires.found c.requires.header).end in search (rules, w)
 
 pub part-requires-clause-ordered : goal.part-requires-clause-ordered
-part-requires-clause-ordered c = omega (arith, (fragment_lies c.args.packet.now c.in-Some.header c.args.finder.now c.requires.found c.in-Some.is).before, c.end_of.ensures.is)
+part-requires-clause-ordered c = omega (arith, (fragment_lies c.args.packet.now c.args.header.now c.args.finder.now c.requires.found c.requires.header).before, c.end_of.ensures.is)
 
 pub part-requires-clause-within : goal.part-requires-clause-within
 part-requires-clause-within c = c.end_of.ensures.within
 
-pub returns-in-Some : goal.returns-in-Some
-returns-in-Some c =
+pub returns : goal.returns
+returns c =
     let s = c.args.packet.now.bytes.now in
-    let w = fragment_lies c.args.packet.now c.in-Some.header c.args.finder.now c.requires.found c.in-Some.is in
+    let w = fragment_lies c.args.packet.now c.args.header.now c.args.finder.now c.requires.found c.requires.header in
     let base : ipv6_header.bytes c.args.base ≡ (dissected c.args.packet.now.bytes.now).base = (subst (IsBaseOf c.args.packet.now.bytes.now) c.requires.base c.args.packet.now.base_is).base in
     ap Some (same_parts _ (ipv6_parts_by (dissected s) w.header)
     (same_key _ _ _ _ _ _ (c.source.ensures ∙ ap ipv6_source_octets base) (c.destination.ensures ∙ ap ipv6_destination_octets base) (ap (λ (x : FoundHeader). x.identification) w.is))
-    (c.front.ensures ∙ ipv6_headers s c.args.packet.now.base c.args.packet.now.base_is w.header w.found c.in-Some.header.start (ap (λ (x : FoundHeader). x.start) w.is))
+    (c.front.ensures ∙ ipv6_headers s c.args.packet.now.base c.args.packet.now.base_is w.header w.found c.args.header.now.start (ap (λ (x : FoundHeader). x.start) w.is))
     (ap (λ (f : Finder). f.link) c.requires.found)
     (ap (λ (x : FoundHeader). x.next_header.0) w.is)
     (ap (λ (x : FoundHeader). x.offset) w.is)
     (ap (λ (x : FoundHeader). x.more) w.is)
     (c.part.ensures ∙ ipv6_bytes s c.args.packet.now.base c.args.packet.now.base_is w.header w.found _ _ (ap (λ (x : FoundHeader). x.start + x.len) w.is) c.end_of.ensures.is))
     ∙ sym (ap (option_map (ipv6_parts_by (dissected s))) w.found)
-
-pub returns-in-None : goal.returns-in-None
-returns-in-None c =
-    let s = c.args.packet.now.bytes.now in
-    sym (ap (option_map (ipv6_parts_by (dissected s))) (none_is (length (dissected s).base + length (bytes_of (before_fragment (dissected s).headers))) (find fragments (dissected s).headers) (sym c.in-None.is ∙ ap (λ (f : Finder). f.header) c.requires.found)))

@@ -9,8 +9,8 @@ is_nil : (c : List ExtHeader) → is_empty c ≡ true → [] ≡ c
 is_nil [] e = refl
 is_nil (h ∷ c) e = absurd (cc)
 
-pub fragment_by-self-requires : goal.fragment_by-self-requires
-fragment_by-self-requires c =
+pub read_packet-requires : goal.read_packet-requires
+read_packet-requires c =
     let p = dissected c.args.packet.bytes.now in
     let empty = (and_parts _ _ (and_parts (not (has_error p.end) && is_empty p.headers) (not (is_some p.fragment)) c.requires).0).1 in
     c.new.ensures (length p.base) ∙ ap (found_after (length p.base)) (is_nil p.headers empty)

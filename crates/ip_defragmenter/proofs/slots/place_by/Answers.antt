@@ -3,7 +3,7 @@ use Rattle.ip_defragmenter.specs.Slots.{first_of, place_in, place_of}
 use Rattle.ip_defragmenter.specs.declared.key.FragmentKey.{FragmentKey}
 use Rattle.ip_defragmenter.specs.declared.slot.Slot.{Slot}
 use Rattle.ip_defragmenter.specs.declared.slots.Placement.{Placement}
-use Rattle.ip_defragmenter.proofs.slots.place.Goals as goal
+use Rattle.ip_defragmenter.proofs.slots.place_by.Goals as goal
 
 -- The place among all slots, by that in its set.
 placed_by : (s : List Slot) (factor : ℕ) (k : FragmentKey) (t n m : ℕ) (r : Option Placement) → n ≡ first_of (length s) factor k → m ≡ min (n + 8) (length s) → r ≡ place_in (slice_range s n m) k t
@@ -15,7 +15,7 @@ placed_by s factor k t n m r first end is =
     ∙ ap (λ (i : ℕ). option_map (λ (p : Placement). record p { index = i + p.index }) (place_in (slice_range s i (min (i + 8) (length s))) k t)) first)
 
 pub returns-in-Some-clause-place : goal.returns-in-Some-clause-place
-returns-in-Some-clause-place c = placed_by c.args.slots.now c.args.factor c.args.key c.args.time c.first_of-first.result c.min-end.result (Some c.in-Some.found) c.first_of-first.ensures.first c.min-end.ensures c.in-Some.ensures.place
+returns-in-Some-clause-place c = placed_by c.args.slots.now c.args.factor c.args.key.now c.args.time c.first_of-first.result c.min-end.result (Some c.in-Some.found) c.first_of-first.ensures.first c.min-end.ensures c.in-Some.ensures.place
 
 pub returns-in-None-clause-place : goal.returns-in-None-clause-place
-returns-in-None-clause-place c = placed_by c.args.slots.now c.args.factor c.args.key c.args.time c.first_of-first.result c.min-end.result None c.first_of-first.ensures.first c.min-end.ensures c.in-None.ensures.place
+returns-in-None-clause-place c = placed_by c.args.slots.now c.args.factor c.args.key.now c.args.time c.first_of-first.result c.min-end.result None c.first_of-first.ensures.first c.min-end.ensures c.in-None.ensures.place

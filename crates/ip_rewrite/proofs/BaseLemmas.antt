@@ -1,5 +1,5 @@
 -- The base header of a packet whose headers end without an error.
-use Rattle.ip_spec.proofs.Common.{◌≡◌, ℕ, ◌≤◌, List, length, subst, refl, sym, ◌∙◌, ap, arith, false, false≢true, Option, None, Some, ◌==◌, if◌then◌else◌}
+use Rattle.ip_spec.proofs.Common.{◌≡◌, ℕ, ◌≤◌, ◌<◌, List, length, subst, refl, sym, ◌∙◌, ap, arith, common_steps, false, false≢true, Option, None, Some, ◌==◌, if◌then◌else◌}
 use Rattle.ip_base.specs.Ipv4HeaderSlice as ipv4_header
 use Rattle.ip_base.specs.Ipv6HeaderSlice as ipv6_header
 use Rattle.ip_dissect.specs.End.{has_error}
@@ -8,6 +8,7 @@ use Rattle.ip_dissect.specs.Outline.{IsBaseOf}
 use Rattle.ip_dissect.specs.declared.dissection.BaseHeader.{BaseHeader}
 use Rattle.ip_dissect.specs.declared.dissection.BaseHeader.TheVariants.{Ipv4, Ipv6}
 use Rattle.ip_dissect.proofs.DissectedLemmas.{BeginIpv4, begins4, BeginIpv6, begins6, BeginNone, begins_none, base_error}
+use Rattle.ip_rewrite.specs.Base.{number_offset}
 
 abbrev HasBase : DissectedParts → Type 0
 HasBase p = (if p.version == 4 then 20 else 40) ≤ length p.base
@@ -27,3 +28,7 @@ has_base s (Some (Ipv6 h)) is none =
 
 pub base_there : (s : List ℕ) (o : Option BaseHeader) → IsBaseOf s o → has_error (dissected s).end ≡ false → (if (dissected s).version == 4 then 20 else 40) ≤ length (dissected s).base
 base_there s o is none = has_base s o is none
+
+-- The number of what follows is within the base header.
+pub offset_within : (p : DissectedParts) → (if p.version == 4 then 20 else 40) ≤ length p.base → number_offset p.version < length p.base
+offset_within p fits = grind (arith, common_steps)

@@ -1,24 +1,31 @@
--- A packet that is written without some of its headers dissects as the old one without them.
-use Rattle.ip_spec.proofs.Common.{◌≡◌, ℕ, ◌+◌, ◌≤◌, ◌<◌, ◌⊎◌, inl, inr, List, [], ◌∷◌, ◌++◌, length, take, slice_set, length-set, length-append, take-append_seam, subst, refl, sym, ◌∙◌, ap, arith, common_steps, Bool, true, false, false≢true, if◌then◌else◌, cases_Bool, cond-true, cond-false, not, ◌&&◌, ◌==◌, eq-eqb, Option, None, Some, is_some, option_or, IsSome, IsExtensionNumber, is_empty, ExtHeader, IsChain, AtMostOneOf, leads_to, bytes_of, rest_after}
+-- A packet that is written with other headers, or with another payload, dissects as the old one with this change.
+use Rattle.ip_spec.proofs.Common.{◌≡◌, ℕ, ◌+◌, ◌≤◌, ◌<◌, ◌⊎◌, inl, inr, List, [], ◌∷◌, ◌++◌, length, take, drop, slice_set, slice_index, length-set, length-append, take-append_seam, subst, refl, sym, ◌∙◌, ap, arith, rules, common_steps, Bool, true, false, false≢true, if◌then◌else◌, cases_Bool, cond-true, cond-false, not, ◌&&◌, ◌==◌, eq-eqb, eqb-true, Option, None, Some, option_map, option_map_or, is_some, option_or, IsSome, AllByRecursion, IsExtensionNumber, is_empty, ExtHeader, IsChain, AtMostOneOf, IsLongestUnder, leads_to, bytes_of, rest_after, fault_after}
 use Rattle.ip_spec.proofs.UnderLemmas.{longest_ends_under}
-use Rattle.ip_base.specs.declared.len_source.LenSource.TheVariants.{Slice}
+use Rattle.ip_spec.proofs.DemandKinds.{at_most_one_of}
+use Rattle.ip_base.specs.LenError.{too_short}
+use Rattle.ip_base.specs.declared.len_source.LenSource.TheVariants.{Slice, Ipv4HeaderTotalLen}
+use Rattle.ip_base.specs.declared.err.layer.Layer.TheVariants.{Ipv4Packet}
+use Rattle.ip_base.specs.declared.err.ip.slice_error.SliceError.TheVariants.{Len}
 use Rattle.ip_base.specs.Ipv4HeaderSlice as ipv4_header
 use Rattle.ip_base.specs.Ipv6HeaderSlice as ipv6_header
-use Rattle.ip_base.specs.Ipv4Header.{protocol, ipv4_fragment_offset, is_ipv4_fragmenting}
+use Rattle.ip_base.specs.Ipv4Header.{total_len, protocol, ipv4_fragment_offset}
 use Rattle.ip_base.specs.Ipv6Header.{ipv6_next_header}
-use Rattle.ip_ext_slices.specs.ChainFault.{slice_fault}
+use Rattle.ip_ext_headers.specs.HeaderFault.{auth_fault, auth_in_packet}
+use Rattle.ip_ext_headers.specs.declared.err.ip_auth.header_slice_error.HeaderSliceError.{HeaderSliceError as AuthError}
+use Rattle.ip_ext_slices.specs.ChainFault.{slice_fault, auth_at}
+use Rattle.ip_ext_slices.specs.Ipv4Fault.{ipv4_faults}
 use Rattle.ip_ext_slices.proofs.FaultLemmas.{fault_at_end}
+use Rattle.ip_ext_slices.specs.Ipv4Longest.{longest_ipv4_chain}
 use Rattle.ip_ext_slices.proofs.Ipv4Lemmas.{ipv4_longest}
 use Rattle.ip_dissect.specs.LaterDemand.{has_later, NothingAfterLater, nothing_after_later}
-use Rattle.ip_dissect.specs.Extent.{after_base, ipv4_stated, ipv6_stated, ipv6_chain}
-use Rattle.ip_dissect.specs.End.{has_error, ipv6_end}
+use Rattle.ip_dissect.specs.Extent.{after_base, ipv4_stated, ipv6_stated, ipv4_chain, ipv6_chain}
+use Rattle.ip_dissect.specs.End.{has_error, auth_end, is_too_short, ipv6_end}
 use Rattle.ip_dissect.specs.Dissection.{DissectedParts, ipv4_dissected, ipv6_dissected, dissected}
 use Rattle.ip_dissect.specs.Outline.{IsBaseOf, is_later_end}
 use Rattle.ip_dissect.specs.declared.dissection.BaseHeader.{BaseHeader}
 use Rattle.ip_dissect.specs.declared.dissection.BaseHeader.TheVariants.{Ipv4, Ipv6}
 use Rattle.ip_dissect.specs.declared.end.End.{End}
 use Rattle.ip_dissect.specs.declared.end.End.TheVariants.{Payload, LaterFragment, Truncated, Fault}
-use Rattle.ip_dissect.specs.declared.fragment.Fragment.{Fragment}
 use Rattle.ip_dissect.proofs.LaterLemmas.{chain_to_later-longest, may_follow}
 use Rattle.ip_dissect.proofs.OutlineLemmas.{end_with}
 use Rattle.ip_dissect.proofs.DissectedLemmas.{BeginIpv4, begins4, BeginIpv6, begins6, BeginNone, begins_none, base_error}
@@ -26,7 +33,7 @@ use Rattle.ip_rewrite.specs.Headers.{number_of_first, linked_headers}
 use Rattle.ip_rewrite.specs.Base.{number_offset, without_checksum, ipv4_stating, length_field, base_stating}
 use Rattle.ip_rewrite.specs.Rewritten.{is_unstated, base_for, rewritten, rewritten_len, rewritten_field, rewritten_parts, room_fault}
 use Rattle.ip_rewrite.specs.Selection.{selects, kept, any_selected}
-use Rattle.ip_rewrite.specs.Without.{packet_fault, selection_fault, is_ipv4_fragment, without, parts_without, without_fault}
+use Rattle.ip_rewrite.specs.Without.{packet_fault, selection_fault, without, parts_without, without_fault}
 use Rattle.ip_rewrite.specs.declared.err.RewriteError.{RewriteError}
 use Rattle.ip_rewrite.specs.declared.which.Which.{Which}
 use Rattle.ip_rewrite.specs.declared.which.Authentication.{Authentication}
@@ -34,12 +41,12 @@ use Rattle.ip_defragmenter.specs.Checksum.{checksum_of}
 use Rattle.ip_defragmenter.specs.Whole.{with_word}
 use Rattle.ip_rewrite.proofs.FieldLemmas.{word_len}
 use Rattle.ip_rewrite.proofs.FrontLemmas.{joined_len}
-use Rattle.ip_rewrite.proofs.ChainLemmas.{all_kept, zero_kept, later_kept}
+use Rattle.ip_rewrite.proofs.ChainLemmas.{AreHeaders, NoZero, all_kept, zero_kept, later_kept}
 use Rattle.ip_rewrite.proofs.Ipv6Lemmas.{same_parts, sent6_dissected}
 use Rattle.ip_rewrite.proofs.Ipv4Lemmas.{sent4_dissected}
 
 -- what is known of a packet that can be changed
-none_first : (a b : Option RewriteError) → option_or a b ≡ None → (a ≡ None) × (b ≡ None)
+pub none_first : (a b : Option RewriteError) → option_or a b ≡ None → (a ≡ None) × (b ≡ None)
 none_first None b e = (refl, e)
 none_first (Some x) b e = absurd (cc)
 
@@ -59,11 +66,10 @@ payload_end (Fault e h) a b = absurd (false≢true (sym a))
 
 record IsSelected (w : Which) (p : DissectedParts) : Type 0 where
   some : any_selected (λ h. true) w 0 p.headers ≡ true
-  no_fragment : is_ipv4_fragment p ≡ false
   no_header : ((p.version == 4) && (p.number == 51)) ≡ false
 
 selected : (w : Which) (a : Authentication) (p : DissectedParts) → selection_fault w a p ≡ None → IsSelected w p
-selected w a p e = record { some = grind (arith, common_steps); no_fragment = grind (arith, common_steps); no_header = grind (arith, common_steps) }
+selected w a p e = record { some = grind (arith, common_steps); no_header = grind (arith, common_steps) }
 
 field_fits : (p : DissectedParts) (c : List ExtHeader) (q : List ℕ) (room : ℕ) → room_fault p c q room ≡ None → rewritten_field p c q < 65536
 field_fits p c q room e = grind (arith, common_steps)
@@ -98,9 +104,9 @@ field6 : (unstated : Bool) (b : List ℕ) (n : ℕ) → (length_field 6 unstated
 field6 true b n = inl refl
 field6 false b n = inr refl
 
-field4 : (unstated : Bool) (b : List ℕ) (n k : ℕ) → n ≡ k → (length_field 4 unstated b n ≡ 0) ⊎ (length_field 4 unstated b n ≡ length b + k)
-field4 true b n k e = inl refl
-field4 false b n k e = inr (ap (λ j. length b + j) e)
+field4 : (unstated : Bool) (b : List ℕ) (n : ℕ) → (length_field 4 unstated b n ≡ 0) ⊎ (length_field 4 unstated b n ≡ length b + n)
+field4 true b n = inl refl
+field4 false b n = inr refl
 
 -- IPv4
 one_kept : (w : Which) (c : List ExtHeader) → length c ≤ 1 → any_selected (λ h. true) w 0 c ≡ true → kept w c ≡ []
@@ -111,58 +117,155 @@ one_kept w (h ∷ []) one some = elim (cases_Bool (selects w 0 h)) [
 ]
 one_kept w (h ∷ g ∷ c) one some = absurd (omega (arith, one))
 
-at_most_one : (offset : ℕ) (c : List ExtHeader) → AtMostOneOf 51 c → length (if offset == 0 then c else []) ≤ 1
-at_most_one offset c o = elim (cases_Bool (offset == 0)) [
-  | inl s ↦ omega (arith, o.one, ap length (cond-true (offset == 0) c [] s))
-  | inr s ↦ omega (arith, ap length (cond-false (offset == 0) c [] s))
+no_later : (c : List ExtHeader) → AllByRecursion (λ h. h.number ≡ 51) c → has_later c ≡ false
+no_later [] a = refl
+no_later (h ∷ c) a = rw (a.0, no_later c a.1) refl
+
+zero_offset : (short : Bool) (k : ℕ) (x y : End) → has_error x ≡ true → has_error (if short then x else if not (k == 0) then LaterFragment else y) ≡ false
+    → is_later_end (if short then x else if not (k == 0) then LaterFragment else y) ≡ false → k ≡ 0
+zero_offset true k x y wrong none later = absurd (false≢true (sym none ∙ wrong))
+zero_offset false k x y wrong none later = elim (cases_Bool (k == 0)) [
+  | inl s ↦ eqb-true k 0 s
+  | inr s ↦ absurd (false≢true (sym later ∙ ap (λ (b : Bool). is_later_end (if not b then LaterFragment else y)) s))
 ]
 
-not_fragmenting : (f : Bool) (x : Fragment) → is_some (let o : Option Fragment = if f then Some x else None in o) ≡ false → f ≡ false
-not_fragmenting true x e = absurd (false≢true (sym e))
-not_fragmenting false x e = refl
+-- where no authentication header follows its number, there is an error
+auth_error : (n : ℕ) (x : List ℕ) → n ≡ 51 → IsLongestUnder (AtMostOneOf 51) n x [] → IsSome (auth_fault Slice (length x) 0 x)
+auth_error n x e longest =
+    let ends = longest_ends_under (AtMostOneOf 51) (at_most_one_of 51) 51 x [] (subst (λ k. IsLongestUnder (AtMostOneOf 51) k x []) e longest) in
+    let some : IsSome (option_map auth_at (auth_fault Slice (length x) 0 x)) = fault_at_end Slice (length x) x 0 true 51 (inr (inr refl)) (λ h y. ends h y (record { one = omega arith; number = (y.number, tt) })) in
+    search rules
 
-module _ (w : Which) (a : Authentication) (room : ℕ) where
+auth_end_fails : (t : Option ℕ) (e : AuthError) → has_error (auth_end t e) ≡ true
+auth_end_fails t e = search rules
+
+auth_ends_fail : (t : Option ℕ) (k : ℕ) (o : Option AuthError) → IsSome o → has_error (option_map_or (auth_end t) (option_map (auth_in_packet Slice k) o) Payload) ≡ true
+auth_ends_fail t k o some = search (rules, auth_end_fails t)
+
+some_header : (b : List ℕ) (t : Option ℕ) (offset n : ℕ) (x : List ℕ) (c : List ExtHeader) → IsLongestUnder (AtMostOneOf 51) n x c → leads_to n c ≡ 51 → offset ≡ 0
+    → has_error (if is_too_short b then Fault (Len (too_short Ipv4HeaderTotalLen (total_len b) 0 Ipv4Packet (length b))) None else if not (offset == 0) then LaterFragment
+    else option_map_or (auth_end t) (option_map (auth_in_packet Slice (length b)) (fault_after (ipv4_faults Slice) c n x)) Payload) ≡ false → 1 ≤ length c
+some_header b t offset n x (h ∷ c) longest auth zero none = omega arith
+some_header b t offset n x [] longest auth zero none =
+    absurd (false≢true (sym none ∙ rw (zero, auth) (either (is_too_short b) _ _ refl (auth_ends_fail t (length b) (auth_fault Slice (length x) 0 x) (auth_error n x auth longest)))))
+  where
+    either : (first : Bool) (d e : End) → has_error d ≡ true → has_error e ≡ true → has_error (if first then d else e) ≡ true
+    either true d e p q = p
+    either false d e p q = q
+
+-- The headers of a packet that can be changed, and the number after them.
+pub record IsWholeChain (p : DissectedParts) : Type 0 where
+  pub chain : IsChain (slice_index p.base (number_offset p.version)) p.headers
+  pub number : p.number ≡ leads_to (slice_index p.base (number_offset p.version)) p.headers
+  pub later : has_later p.headers ≡ false
+  pub ipv6 : p.version ≡ 6 → IsExtensionNumber p.number → ⊥
+  pub ipv4 : p.version ≡ 4 → AtMostOneOf 51 p.headers
+  pub last : p.version ≡ 4 → p.number ≡ 51 → 1 ≤ length p.headers
+
+-- The headers c can follow the base header of version v, and lead to the number m.
+pub record CanFollow (v : ℕ) (c : List ExtHeader) (m : ℕ) : Type 0 where
+  pub headers : AreHeaders c
+  pub zero : NoZero (drop 1 c)
+  pub later : has_later c ≡ false
+  pub ipv6 : v ≡ 6 → IsExtensionNumber m → ⊥
+  pub ipv4 : v ≡ 4 → AtMostOneOf 51 c
+  pub last : v ≡ 4 → m ≡ 51 → 1 ≤ length c
+
+module _ (b s : List ℕ) where
+  abbrev p4 : DissectedParts
+  p4 = ipv4_dissected b s
+
+  offset4 : IsWhole p4 → ipv4_fragment_offset b ≡ 0
+  offset4 whole = zero_offset (is_too_short b) (ipv4_fragment_offset b) _ _ refl whole.no_error whole.not_later
+
+  longest4 : IsWhole p4 → IsLongestUnder (AtMostOneOf 51) (protocol b) (after_base b (ipv4_stated b) s) p4.headers
+  longest4 whole =
+      let n : ℕ = protocol b in
+      let x : List ℕ = after_base b (ipv4_stated b) s in
+      subst (λ (c : List ExtHeader). IsLongestUnder (AtMostOneOf 51) n x c) (sym (cond-true (ipv4_fragment_offset b == 0) (longest_ipv4_chain n x) [] (eq-eqb (ipv4_fragment_offset b) 0 (offset4 whole)))) (ipv4_longest n x)
+
+pub whole_chain : (s : List ℕ) (o : Option BaseHeader) → IsBaseOf s o → packet_fault (dissected s) ≡ None → IsWholeChain (dissected s)
+whole_chain s None is = λ e.
+    let v : BeginNone s = begins_none s is in
+    absurd (false≢true (sym (whole_packet (dissected s) e).no_error ∙ (ap (λ (p : DissectedParts). has_error p.end) v.is ∙ base_error s v.reason v.ends)))
+whole_chain s (Some (Ipv6 h)) is =
+    let b : List ℕ = ipv6_header.bytes h in
+    let v : BeginIpv6 s b = begins6 s (Some (Ipv6 h)) b is refl refl in
+    subst (λ (p : DissectedParts). packet_fault p ≡ None → IsWholeChain p) (sym v.is) (λ e.
+    let whole : IsWhole (ipv6_dissected b s) = whole_packet (ipv6_dissected b s) e in
+    let later : has_later (ipv6_chain b s) ≡ false = later_of (has_later (ipv6_chain b s)) _ whole.not_later in
+    record {
+      chain = (chain_to_later-longest (ipv6_next_header b) (after_base b (ipv6_stated b) s)).has.0.chain;
+      number = refl;
+      later = later;
+      ipv6 = λ _. no_extension b s later whole.no_error;
+      ipv4 = λ n. absurd (cc);
+      last = λ n. absurd (cc);
+    })
+whole_chain s (Some (Ipv4 h)) is =
+    let b : List ℕ = ipv4_header.bytes h in
+    let v : BeginIpv4 s b = begins4 s (Some (Ipv4 h)) b is refl refl in
+    subst (λ (p : DissectedParts). packet_fault p ≡ None → IsWholeChain p) (sym v.is) (λ e.
+    let whole : IsWhole (ipv4_dissected b s) = whole_packet (ipv4_dissected b s) e in
+    let has = (longest4 b s whole).has in
+    record {
+      chain = has.0.chain;
+      number = refl;
+      later = no_later (ipv4_chain b s) has.1.number;
+      ipv6 = λ n. absurd (cc);
+      ipv4 = λ _. has.1;
+      last = λ _ auth. some_header b (ipv4_stated b) (ipv4_fragment_offset b) (protocol b) (after_base b (ipv4_stated b) s) (ipv4_chain b s) (longest4 b s whole) auth (offset4 b s whole) whole.no_error;
+    })
+
+-- The packet with other headers, or with another payload, dissects as the old one with this change.
+module _ (c : List ExtHeader) (m : ℕ) (q : List ℕ) (room : ℕ) where
   abbrev Dissects : DissectedParts → Type 0
-  Dissects p = without_fault w a p room ≡ None → dissected (without w p) ≡ parts_without w p
+  Dissects p = packet_fault p ≡ None → CanFollow p.version c m → room_fault p c q room ≡ None → dissected (rewritten p c m q) ≡ rewritten_parts p c m q
 
-  pub dissects : (s : List ℕ) (o : Option BaseHeader) → IsBaseOf s o → Dissects (dissected s)
-  dissects s None is = λ e.
+  pub changed : (s : List ℕ) (o : Option BaseHeader) → IsBaseOf s o → Dissects (dissected s)
+  changed s None is = λ e f r.
       let v : BeginNone s = begins_none s is in
-      let packet : packet_fault (dissected s) ≡ None = (none_first (packet_fault (dissected s)) _ e).0 in
-      absurd (false≢true (sym (whole_packet (dissected s) packet).no_error ∙ (ap (λ (p : DissectedParts). has_error p.end) v.is ∙ base_error s v.reason v.ends)))
-  dissects s (Some (Ipv6 h)) is =
+      absurd (false≢true (sym (whole_packet (dissected s) e).no_error ∙ (ap (λ (p : DissectedParts). has_error p.end) v.is ∙ base_error s v.reason v.ends)))
+  changed s (Some (Ipv6 h)) is =
       let b : List ℕ = ipv6_header.bytes h in
       let v : BeginIpv6 s b = begins6 s (Some (Ipv6 h)) b is refl refl in
-      subst Dissects (sym v.is) (λ e.
+      subst Dissects (sym v.is) (λ e f r.
       let p : DissectedParts = ipv6_dissected b s in
-      let first = none_first (packet_fault p) _ e in
-      let second = none_first (selection_fault w a p) _ first.1 in
-      let whole : IsWhole p = whole_packet p first.0 in
-      let chain : IsChain (ipv6_next_header b) (ipv6_chain b s) = (chain_to_later-longest (ipv6_next_header b) (after_base b (ipv6_stated b) s)).has.0.chain in
-      let later : has_later (ipv6_chain b s) ≡ false = later_of (has_later (ipv6_chain b s)) _ whole.not_later in
-      let c : List ExtHeader = kept w (ipv6_chain b s) in
-      let t : ℕ = rewritten_field p c p.payload in
+      let whole : IsWhole p = whole_packet p e in
+      let t : ℕ = rewritten_field p c q in
       let end : p.end ≡ Payload = payload_end p.end whole.no_error whole.not_later in
-      sent6_dissected b v.header c p.number t p.payload (all_kept _ w 0 (ipv6_chain b s) chain.headers) (zero_kept w 0 (ipv6_chain b s) chain.zero_only_first) (later_kept w 0 (ipv6_chain b s) later)
-      (no_extension b s later whole.no_error) (field_fits p c p.payload room second.1) (field6 (is_unstated p) b (length (bytes_of c) + length p.payload))
-      ∙ same_parts _ (parts_without w p) refl refl refl refl refl refl refl (sym whole.all_here) refl (sym end))
-  dissects s (Some (Ipv4 h)) is =
+      sent6_dissected b v.header c m t q f.headers f.zero f.later (f.ipv6 refl) (field_fits p c q room r) (field6 (is_unstated p) b (length (bytes_of c) + length q))
+      ∙ same_parts _ (rewritten_parts p c m q) refl refl refl refl refl refl refl (sym whole.all_here) refl (sym end))
+  changed s (Some (Ipv4 h)) is =
       let b : List ℕ = ipv4_header.bytes h in
       let v : BeginIpv4 s b = begins4 s (Some (Ipv4 h)) b is refl refl in
-      subst Dissects (sym v.is) (λ e.
+      subst Dissects (sym v.is) (λ e f r.
       let p : DissectedParts = ipv4_dissected b s in
-      let first = none_first (packet_fault p) _ e in
-      let second = none_first (selection_fault w a p) _ first.1 in
-      let whole : IsWhole p = whole_packet p first.0 in
-      let here : IsSelected w p = selected w a p second.0 in
-      let one : length p.headers ≤ 1 = at_most_one (ipv4_fragment_offset b) _ (ipv4_longest (protocol b) (after_base b (ipv4_stated b) s)).has.1 in
-      let none : kept w p.headers ≡ [] = one_kept w p.headers one here.some in
+      let whole : IsWhole p = whole_packet p e in
+      let t : ℕ = rewritten_field p c q in
       let end : p.end ≡ Payload = payload_end p.end whole.no_error whole.not_later in
-      let t : ℕ = rewritten_field p [] p.payload in
-      let small : t < 65536 = subst (λ (c : List ExtHeader). rewritten_field p c p.payload < 65536) none (field_fits p (kept w p.headers) p.payload room second.1) in
-      subst (λ (c : List ExtHeader). dissected (rewritten p c p.number p.payload) ≡ rewritten_parts p c p.number p.payload) (sym none)
-      (sent4_dissected b v.header p.number t p.payload (not_fragmenting (is_ipv4_fragmenting b) _ here.no_fragment) (λ n. false≢true (sym here.no_header ∙ eq-eqb p.number 51 n)) small (field4 (is_unstated p) b (0 + length p.payload) (length p.payload) (omega arith))
-      ∙ same_parts _ (rewritten_parts p [] p.number p.payload) refl refl refl refl refl refl refl (sym whole.all_here) refl (sym end)))
+      sent4_dissected b v.header c m t q (offset4 b s whole) f.headers (f.ipv4 refl) (f.last refl) (field_fits p c q room r) (field4 (is_unstated p) b (length (bytes_of c) + length q))
+      ∙ same_parts _ (rewritten_parts p c m q) refl refl refl refl refl refl refl (sym whole.all_here) refl (sym end))
+
+-- without some headers
+pub dissects : (w : Which) (a : Authentication) (room : ℕ) (s : List ℕ) (o : Option BaseHeader) → IsBaseOf s o → without_fault w a (dissected s) room ≡ None → dissected (without w (dissected s)) ≡ parts_without w (dissected s)
+dissects w a room s o is e =
+    let p : DissectedParts = dissected s in
+    let first = none_first (packet_fault p) _ e in
+    let second = none_first (selection_fault w a p) _ first.1 in
+    let chain : IsWholeChain p = whole_chain s o is first.0 in
+    let here : IsSelected w p = selected w a p second.0 in
+    changed (kept w p.headers) p.number p.payload room s o is first.0 (record {
+      headers = all_kept _ w 0 p.headers chain.chain.headers;
+      zero = zero_kept w 0 p.headers chain.chain.zero_only_first;
+      later = later_kept w 0 p.headers chain.later;
+      ipv6 = chain.ipv6;
+      ipv4 = λ v. subst (λ (c : List ExtHeader). AtMostOneOf 51 c) (sym (one_kept w p.headers (chain.ipv4 v).one here.some)) (record { one = omega arith; number = tt });
+      last = λ v n. absurd (false≢true (sym here.no_header ∙ both (p.version == 4) (p.number == 51) (eq-eqb p.version 4 v) (eq-eqb p.number 51 n)));
+    }) second.1
+  where
+    both : (x y : Bool) → x ≡ true → y ≡ true → (x && y) ≡ true
+    both x y first second = rw (first, second) refl
 
 -- the bytes that are written
 stating_len : (v : ℕ) (b : List ℕ) (t : ℕ) → length (base_stating v b t) ≡ length b

@@ -1,9 +1,9 @@
 -- The headers at the front of a packet that is written, one after another.
-use Rattle.ip_spec.proofs.Common.{◌≡◌, ℕ, ◌+◌, ◌-◌, ◌≤◌, ◌<◌, List, [], ◌∷◌, ◌++◌, length, take, drop, slice_set, slice_index, refl, sym, ◌∙◌, ap, arith, append_assoc, append-nil, length-append, length-drop, length-set, take-append_seam, drop-append_seam, drop-drop, AllByRecursion, IsHeader, next_header, ExtHeader, bytes_of, leads_to}
+use Rattle.ip_spec.proofs.Common.{◌≡◌, ℕ, ◌+◌, ◌-◌, ◌≤◌, ◌<◌, List, [], ◌∷◌, ◌++◌, length, take, drop, slice_set, slice_index, refl, sym, ◌∙◌, ap, arith, append_assoc, append-nil, length-append, length-drop, length-set, take-append_seam, drop-append_seam, drop-drop, AllByRecursion, IsHeader, next_header, ExtHeader, AreLinked, IsChain, bytes_of, leads_to}
 use Rattle.std.proofs.lemmas.List.{set-append_left, set-append_right, set-set, set-get_or}
 use Rattle.ip_spec.proofs.HeaderLemmas.{header-least}
 use Rattle.ip_spec.proofs.StepLemmas.{bytes_of-more, leads_to-more, all_more}
-use Rattle.ip_rewrite.specs.Headers.{number_of_first, linked_headers}
+use Rattle.ip_rewrite.specs.Headers.{number_of_first, leading_to, linked_headers}
 use Rattle.ip_rewrite.specs.Base.{base_stating}
 use Rattle.ip_rewrite.specs.Writing.{front, link_of, IsWritten}
 
@@ -52,7 +52,7 @@ front_more l b [] h =
 front_more l b (g ∷ c) h =
     ap (λ x. slice_set b l g.number ++ x) (front_more 0 g.bytes c h) ∙ sym (append_assoc (slice_set b l g.number) (front 0 g.bytes c h.number) h.bytes)
 
-link_more : (l : ℕ) (b : List ℕ) (c : List ExtHeader) (h : ExtHeader) → link_of l b (c ++ h ∷ []) ≡ length b + length (bytes_of c)
+pub link_more : (l : ℕ) (b : List ℕ) (c : List ExtHeader) (h : ExtHeader) → link_of l b (c ++ h ∷ []) ≡ length b + length (bytes_of c)
 link_more l b [] h = omega arith
 link_more l b (g ∷ c) h = omega (arith, link_more 0 g.bytes c h, length-append g.bytes (bytes_of c))
 
@@ -120,6 +120,51 @@ written_none l b buffer out k less is size = record {
 
 pub written_as : (l : ℕ) (b buffer : List ℕ) (c : List ExtHeader) (out new : List ℕ) (k n link : ℕ) → new ≡ out → n ≡ k → IsWritten l b buffer c out k link → IsWritten l b buffer c new n link
 written_as l b buffer c out new k n link same size w = rw (same, size) w
+
+-- bytes e copied after bytes b
+pub copied_after : (b e buffer x y : List ℕ) → x ≡ b ++ drop (length b) buffer → y ≡ take (length b) x ++ e ++ drop (length b + length e) x → y ≡ b ++ e ++ drop (length b + length e) buffer
+copied_after b e buffer x y is put =
+    let taken : take (length b) x ≡ b = ap (take (length b)) is ∙ take-append_seam b (drop (length b) buffer) in
+    let dropped : drop (length b) x ≡ drop (length b) buffer = ap (drop (length b)) is ∙ drop-append_seam b (drop (length b) buffer) in
+    let after : drop (length b + length e) x ≡ drop (length b + length e) buffer = sym (drop-drop (length e) (length b) x) ∙ (ap (drop (length e)) dropped ∙ drop-drop (length e) (length b) buffer) in
+    put ∙ (ap (λ k. k ++ e ++ drop (length b + length e) x) taken ∙ ap (λ k. b ++ e ++ k) after)
+
+-- headers that are linked already
+first_is : (n : ℕ) (c : List ExtHeader) → AreLinked n c → number_of_first c (leads_to n c) ≡ n
+first_is n [] a = refl
+first_is n (h ∷ c) a = a.0
+
+pub linked_same : (n : ℕ) (c : List ExtHeader) → AreLinked n c → linked_headers (leads_to n c) c ≡ c
+linked_same n [] a = refl
+linked_same n (h ∷ c) a =
+    let k : ℕ = next_header h.bytes in
+    let first : leading_to (number_of_first c (leads_to k c)) h ≡ h = ap (λ j. leading_to j h) (first_is k c a.1) ∙ ap (λ (x : List ℕ). let g : ExtHeader = record { number = h.number; bytes = x } in g) (set-get_or h.bytes 0 0) in
+    ap (λ g. g ∷ linked_headers (leads_to k c) c) first ∙ ap (λ d. h ∷ d) (linked_same k c a.1)
+
+pub front_same : (l : ℕ) (b : List ℕ) (c : List ExtHeader) → AreLinked (slice_index b l) c → front l b c (leads_to (slice_index b l) c) ≡ b ++ bytes_of c
+front_same l b c a =
+    let n : ℕ = slice_index b l in
+    let d : List ExtHeader = linked_headers (leads_to n c) c in
+    ap (λ k. slice_set b l k ++ bytes_of d) (first_is n c a) ∙ (ap (λ x. x ++ bytes_of d) (set-get_or b l 0) ∙ ap (λ e. b ++ bytes_of e) (linked_same n c a))
+
+pub written_whole : (l : ℕ) (b buffer : List ℕ) (c : List ExtHeader) (out : List ℕ) (k link : ℕ) → l < length b → IsChain (slice_index b l) c → out ≡ b ++ bytes_of c ++ drop (length b + length (bytes_of c)) buffer
+    → k ≡ length b + length (bytes_of c) → link ≡ link_of l b c → IsWritten l b buffer c out k link
+written_whole l b buffer c out k link less chain is size at = record {
+  at = less;
+  headers = chain.headers;
+  bytes = is ∙ ap (λ x. x ++ drop (length b + length (bytes_of c)) buffer) (sym (front_same l b c chain.links));
+  len = size;
+  link = at;
+}
+
+-- The offset of the last header is that of the number of what follows, if there is one.
+pub link_none : (l : ℕ) (b : List ℕ) (c : List ExtHeader) → length c ≡ 0 → link_of l b c ≡ l
+link_none l b [] none = refl
+link_none l b (h ∷ c) none = absurd (omega (arith, none))
+
+pub link_some : (l k : ℕ) (b : List ℕ) (c : List ExtHeader) → 1 ≤ length c → link_of l b c ≡ link_of k b c
+link_some l k b [] some = absurd (omega (arith, some))
+link_some l k b (h ∷ c) some = refl
 
 -- Bytes are written after them, and the base header is changed.
 module _ (l : ℕ) (b buffer : List ℕ) (c : List ExtHeader) (out : List ℕ) (len link : ℕ) (w : IsWritten l b buffer c out len link) (m : ℕ) (q x y : List ℕ) (is : x ≡ slice_set out link m) (put : y ≡ take len x ++ q ++ drop (len + length q) x) where

@@ -6,3 +6,4 @@ pub mod FieldLemmas
 pub mod Ipv6Lemmas
 pub mod Ipv4Lemmas
 pub mod DissectLemmas
+pub mod PayloadLemmas

@@ -44,7 +44,7 @@ fragmented_more w i j after (g ∷ c) h at =
     ∙ (sym (or_assoc mine later (((after || fragments g) || list_any fragments c) && selects w j h))
     ∙ ap (λ b. (mine || later) || b && selects w j h) (or_assoc after (fragments g) (list_any fragments c)))
 
-any_last : (t : ExtHeader → Bool) (c : List ExtHeader) (h : ExtHeader) → list_any t (c ++ h ∷ []) ≡ (list_any t c || t h)
+pub any_last : (t : ExtHeader → Bool) (c : List ExtHeader) (h : ExtHeader) → list_any t (c ++ h ∷ []) ≡ (list_any t c || t h)
 any_last t c h = list_any-append t c (h ∷ []) ∙ ap (λ x. list_any t c || x) (or-false (t h))
 
 kept_any : (t : ExtHeader → Bool) (w : Which) (j : ℕ) (c : List ExtHeader) (h : ExtHeader) → j ≡ 0 + length c → list_any t (kept w (c ++ h ∷ [])) ≡ (list_any t (kept w c) || not (selects w j h) && t h)
@@ -62,7 +62,7 @@ kept_size w j k c h at =
       | inr s ↦ cond-false (selects w j h) n (n + length h.bytes) s ∙ omega (arith, ap (λ d. length (bytes_of d)) (left_in w 0 j c h at s), more_len (kept w c) h)
     ]
 
-joined_or : (a b x y : Bool) → y ≡ (b || x) → ((a || b) || x) ≡ (a || y)
+pub joined_or : (a b x y : Bool) → y ≡ (b || x) → ((a || b) || x) ≡ (a || y)
 joined_or a b x y e = or_assoc a b x ∙ ap (λ z. a || z) (sym e)
 
 same_survey : (v u : Survey) → v.which ≡ u.which → v.selects ≡ u.selects → v.selects_fragmenting ≡ u.selects_fragmenting → v.selects_fragmented ≡ u.selects_fragmented → v.selects_segments ≡ u.selects_segments

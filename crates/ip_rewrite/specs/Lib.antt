@@ -4,3 +4,4 @@ pub mod Rewritten
 pub mod Selection
 pub mod Writing
 pub mod Without
+pub mod Payload

@@ -1,6 +1,7 @@
 -- A packet with other extension headers or another payload, and nothing else changed.
-use Rattle.std.specs.Prelude.{ℕ, ◌+◌, ◌++◌, Bool, ◌==◌, ◌&&◌, not, List, [], length, nat_lt, Option, Some, None, is_some, if◌then◌else◌}
-use Rattle.ip_spec.specs.Chain.{ExtHeader, bytes_of}
+use Rattle.std.specs.Prelude.{ℕ, ◌+◌, ◌++◌, Bool, ◌==◌, ◌&&◌, ◌||◌, not, List, [], length, nat_lt, Option, Some, None, is_some, if◌then◌else◌}
+use Rattle.ip_spec.specs.Numbers.{HOP_BY_HOP, ROUTING, FRAGMENT, AUTHENTICATION, DESTINATION_OPTIONS}
+use Rattle.ip_spec.specs.Chain.{ExtHeader, bytes_of, is_empty}
 use Rattle.ip_dissect.specs.Extent.{ipv4_stated, ipv6_stated}
 use Rattle.ip_dissect.specs.Fragment.{ipv6_fragment}
 use Rattle.ip_dissect.specs.Dissection.{DissectedParts}
@@ -48,3 +49,12 @@ room_fault p c q room =
     if nat_lt 65535 (rewritten_field p c q) then Some TooLong
     else if nat_lt room (rewritten_len p c q) then Some NoRoom
     else None
+
+-- the number of an extension header
+abbrev pub is_extension : ℕ → Bool
+is_extension n = (n == HOP_BY_HOP) || (n == ROUTING) || (n == FRAGMENT) || (n == AUTHENTICATION) || (n == DESTINATION_OPTIONS)
+
+-- In a packet of version v, bytes that start with the number m would be read as one more header after the headers c: in
+-- IPv4 only an authentication header is one, and none follows it.
+abbrev pub is_read_on : ℕ → List ExtHeader → ℕ → Bool
+is_read_on v c m = if v == 4 then is_empty c && (m == AUTHENTICATION) else is_extension m

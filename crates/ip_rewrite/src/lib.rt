@@ -5,6 +5,7 @@ mod base;
 mod checksum;
 mod err;
 mod keeper;
+mod payload;
 mod removal;
 mod survey;
 #[cfg(test)]
@@ -13,5 +14,6 @@ mod which;
 mod write;
 
 pub use err::RewriteError;
+pub use payload::with_payload;
 pub use removal::{Rewritten, without};
 pub use which::{Authentication, Which};

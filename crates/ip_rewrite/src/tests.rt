@@ -1,5 +1,5 @@
-//! Tests: packets that scapy made, with and without some of their headers.
-use crate::{Authentication, RewriteError, Rewritten, Which, without};
+//! Tests: packets that scapy made, before and after a change.
+use crate::{Authentication, RewriteError, Rewritten, Which, with_payload, without};
 use ip_base::{IpNumber, ip_number};
 use std::process::Abort;
 use std::test::Fail;
@@ -140,24 +140,69 @@ const COVERED_NO_OPTIONS: [u8; 88] = [
     0x48, 0x49, 0x4a, 0x4b, 0x4c, 0x4d, 0x4e, 0x4f,
 ];
 
-/// A packet of which headers are left out, with the byte at an offset replaced and `padding` bytes after it; the room for
-/// what is written; and what is wanted, with whether transport checksums hold as before.
+/// An ICMPv6 echo request with 3 bytes.
+const ECHO: [u8; 11] = [
+    0x80, 0x00, 0x5f, 0xd1, 0x00, 0x07, 0x00, 0x09, 0x61, 0x62, 0x63,
+];
+
+/// The first packet with this payload, by scapy.
+const CHAIN_ECHO: [u8; 99] = [
+    0x61, 0x23, 0x45, 0x67, 0x00, 0x3b, 0x00, 0x3f, 0x20, 0x01, 0x0d, 0xb8, 0x00, 0x00, 0x00, 0x00,
+    0x00, 0x00, 0x00, 0x00, 0x00, 0x00, 0x00, 0x01, 0x20, 0x01, 0x0d, 0xb8, 0x00, 0x00, 0x00, 0x00,
+    0x00, 0x00, 0x00, 0x00, 0x00, 0x00, 0x00, 0x02, 0x2b, 0x00, 0x05, 0x02, 0x00, 0x00, 0x01, 0x00,
+    0x3c, 0x02, 0x00, 0x01, 0x00, 0x00, 0x00, 0x00, 0x20, 0x01, 0x0d, 0xb8, 0x00, 0x00, 0x00, 0x00,
+    0x00, 0x00, 0x00, 0x00, 0x00, 0x00, 0x00, 0x03, 0x3a, 0x01, 0x01, 0x0c, 0x11, 0x11, 0x11, 0x11,
+    0x11, 0x11, 0x11, 0x11, 0x11, 0x11, 0x11, 0x11, 0x80, 0x00, 0x5f, 0xd1, 0x00, 0x07, 0x00, 0x09,
+    0x61, 0x62, 0x63,
+];
+
+/// The packet with an authentication header and a payload of 4 bytes, whose protocol is 253, by scapy.
+const AUTHENTICATED_SHORT: [u8; 52] = [
+    0x46, 0x00, 0x00, 0x34, 0x12, 0x34, 0x40, 0x00, 0x3f, 0x33, 0x3a, 0x2a, 0xc0, 0x00, 0x02, 0x01,
+    0xc6, 0x33, 0x64, 0x02, 0x01, 0x01, 0x01, 0x01, 0xfd, 0x04, 0x00, 0x00, 0x11, 0x22, 0x33, 0x44,
+    0x00, 0x00, 0x00, 0x05, 0x99, 0x99, 0x99, 0x99, 0x99, 0x99, 0x99, 0x99, 0x99, 0x99, 0x99, 0x99,
+    0x77, 0x78, 0x79, 0x7a,
+];
+
+/// The packet without its authentication header and with a payload of 4 bytes, by scapy.
+const UNAUTHENTICATED_SHORT: [u8; 28] = [
+    0x46, 0x00, 0x00, 0x1c, 0x12, 0x34, 0x40, 0x00, 0x3f, 0xfd, 0x39, 0x78, 0xc0, 0x00, 0x02, 0x01,
+    0xc6, 0x33, 0x64, 0x02, 0x01, 0x01, 0x01, 0x01, 0x77, 0x78, 0x79, 0x7a,
+];
+
+/// The atomic fragment with this payload, by scapy.
+const ATOMIC_SHORT: [u8; 52] = [
+    0x61, 0x23, 0x45, 0x67, 0x00, 0x0c, 0x2c, 0x3f, 0x20, 0x01, 0x0d, 0xb8, 0x00, 0x00, 0x00, 0x00,
+    0x00, 0x00, 0x00, 0x00, 0x00, 0x00, 0x00, 0x01, 0x20, 0x01, 0x0d, 0xb8, 0x00, 0x00, 0x00, 0x00,
+    0x00, 0x00, 0x00, 0x00, 0x00, 0x00, 0x00, 0x02, 0xfd, 0x00, 0x00, 0x00, 0xa1, 0xb2, 0xc3, 0xd4,
+    0x77, 0x78, 0x79, 0x7a,
+];
+
+/// How a packet is changed.
+#[derive(Clone, Copy, Debug)]
+enum Change<'a> {
+    Without(Which),
+    Payload(IpNumber, &'a [u8]),
+}
+
+/// A packet that is changed, with the byte at an offset replaced and `padding` bytes after it; the room for what is
+/// written; and what is wanted, with whether transport checksums hold as before.
 #[derive(Clone, Copy, Debug)]
 struct Row<'a> {
     packet: &'a [u8],
     offset: usize,
     byte: u8,
     padding: usize,
-    which: Which,
+    change: Change<'a>,
     authentication: Authentication,
     room: usize,
     wanted: Result<(&'a [u8], bool), RewriteError>,
 }
 
 /// Returns a row with the packet as it is, ample room, and authentication headers that have to stay valid.
-fn unchanged<'a>(
+fn changed<'a>(
     packet: &'a [u8],
-    which: Which,
+    change: Change<'a>,
     wanted: Result<(&'a [u8], bool), RewriteError>,
 ) -> Row<'a> {
     Row {
@@ -165,10 +210,29 @@ fn unchanged<'a>(
         offset: 160,
         byte: 0,
         padding: 0,
-        which,
+        change,
         authentication: Authentication::Valid,
         room: 128,
         wanted,
+    }
+}
+
+/// Returns such a row of a packet of which headers are left out.
+fn unchanged<'a>(
+    packet: &'a [u8],
+    which: Which,
+    wanted: Result<(&'a [u8], bool), RewriteError>,
+) -> Row<'a> {
+    changed(packet, Change::Without(which), wanted)
+}
+
+/// Writes the changed packet.
+fn write(row: &Row<'_>, packet: &[u8], out: &mut [u8]) -> Result<Rewritten, RewriteError> {
+    match row.change {
+        Change::Without(which) => without(packet, which, row.authentication, out),
+        Change::Payload(number, bytes) => {
+            with_payload(packet, number, bytes, row.authentication, out)
+        }
     }
 }
 
@@ -185,7 +249,7 @@ fn assert_row(rt: &impl Abort, row: &Row<'_>) -> Result<(), Fail> {
     let packet = bytes.get(..len).ok_or("the packet")?;
     let mut buffer = [0x5au8; 128];
     let out = buffer.get_mut(..row.room).ok_or("the room")?;
-    let result = without(packet, row.which, row.authentication, out);
+    let result = write(row, packet, out);
     let wanted = row.wanted.map(|(bytes, keeps_checksums)| Rewritten {
         len: bytes.len(),
         keeps_checksums,
@@ -324,4 +388,36 @@ fn refused(rt: HostRuntime) -> Result<(), Fail> {
     let empty: [u8; 0] = [];
     let none = unchanged(&empty, Which::Index(0), Err(RewriteError::Headers));
     assert_rows(&rt, &[faulty, missing, small, enough, none])
+}
+
+#[test]
+fn payloads(rt: HostRuntime) -> Result<(), Fail> {
+    let short = Change::Payload(IpNumber(253), b"wxyz");
+    let options = Change::Payload(ip_number::IPV6_DEST_OPTIONS, &ECHO);
+    let header = Change::Payload(ip_number::AUTH, &ECHO);
+    let echo = Change::Payload(IpNumber(58), &ECHO);
+    let invalid = Row {
+        authentication: Authentication::Invalid,
+        ..changed(&AUTHENTICATED, short, Ok((&AUTHENTICATED_SHORT, false)))
+    };
+    let padded = Row {
+        padding: 9,
+        ..changed(&ATOMIC, short, Ok((&ATOMIC_SHORT, false)))
+    };
+    let small = Row {
+        room: 98,
+        ..changed(&CHAIN, echo, Err(RewriteError::NoRoom))
+    };
+    let rows = [
+        changed(&CHAIN, echo, Ok((&CHAIN_ECHO, false))),
+        changed(&UNAUTHENTICATED, short, Ok((&UNAUTHENTICATED_SHORT, false))),
+        changed(&AUTHENTICATED, short, Err(RewriteError::Authenticated)),
+        changed(&FIRST, short, Err(RewriteError::Fragmented)),
+        changed(&CHAIN, options, Err(RewriteError::HeaderFollows)),
+        changed(&UNAUTHENTICATED, header, Err(RewriteError::HeaderFollows)),
+        invalid,
+        padded,
+        small,
+    ];
+    assert_rows(&rt, &rows)
 }

@@ -5,14 +5,15 @@ ghost use Rattle.ip_spec.specs.Chain.{ExtHeader, bytes_of};
 ghost use Rattle.ip_dissect.specs.Outline.{outline_of};
 ghost use Rattle.ip_dissect.specs.Dissection.{DissectedParts, dissected};
 ghost use Rattle.ip_rewrite.specs.Base.{number_offset};
-ghost use Rattle.ip_rewrite.specs.Rewritten.{rewritten_len, rewritten_field, room_fault};
+ghost use Rattle.ip_rewrite.specs.Rewritten.{rewritten, rewritten_len, rewritten_field, room_fault};
 ghost use Rattle.ip_rewrite.specs.Selection.{kept};
 ghost use Rattle.ip_rewrite.specs.Without.{without, len_without};
-ghost use Rattle.ip_rewrite.specs.Writing.{IsWritten};
+ghost use Rattle.ip_rewrite.specs.Writing.{IsWritten, link_of};
 
 use crate::base::state;
 use crate::keeper::{Keeper, put_at, set};
 use crate::{RewriteError, Which};
+use ip_base::IpNumber;
 use ip_dissect::{Outline, Packet};
 
 /// Returns the number for the length field of a packet with `kept_len` bytes of extension headers and `payload_len` bytes
@@ -100,10 +101,64 @@ fn write_headers(packet: &Packet<'_>, which: Which, offset: usize, out: &mut [u8
 
 /// Returns the offset in the base header of the number of what follows it.
 #[inline(always)]
-fn number_offset(version: u8) -> usize
+pub(crate) fn number_offset(version: u8) -> usize
     ensures { result ≡ number_offset version }
 {
     if version == 4 { 9 } else { 6 }
+}
+
+/// Returns the offset of the number of what follows the headers, by the offset of the last header.
+#[tactic(auto, using(crate::proofs::FrontLemmas::link_none, crate::proofs::FrontLemmas::link_some))]
+#[inline(always)]
+pub(crate) fn link_after(outline: &Outline, last: usize) -> usize
+    ensures { (p : DissectedParts) → outline.now ≡ outline_of p → last ≡ link_of 0 p.base p.headers
+        → result ≡ link_of (number_offset p.version) p.base p.headers }
+{
+    if outline.header_count == 0 {
+        return number_offset(outline.version);
+    }
+    last
+}
+
+/// Writes what follows the headers, which have `exts_len` bytes, and its length into the base header. The number of
+/// what follows is at `link`.
+#[inline(always)]
+pub(crate) fn finish(
+    outline: &Outline,
+    exts_len: usize,
+    link: usize,
+    number: IpNumber,
+    payload: &[u8],
+    field: u16,
+    out: &mut [u8],
+)
+    requires small { length out.old < 2 ^ 64 }
+    requires base { (if outline.now.version == 4 then 20 else 40) ≤ outline.now.base_len }
+    requires fits { outline.now.base_len + exts_len + length payload.now ≤ length out.old }
+    ensures { (p : DissectedParts) (c : List ExtHeader) (buffer : List ℕ) → outline.now ≡ outline_of p
+        → exts_len ≡ length (bytes_of c) → field ≡ rewritten_field p c payload.now
+        → IsWritten (number_offset p.version) p.base buffer c out.old (outline.now.base_len + exts_len) link
+        → length buffer ≡ length out.old
+        → out.new ≡ rewritten p c number.0 payload.now ++ drop (rewritten_len p c payload.now) buffer }
+{
+    set(out, link, number.0);
+    put_at(out, outline.base_len + exts_len, payload);
+    let (base, _) = out.split_at_mut(outline.base_len);
+    state(base, outline.version, field);
+}
+
+/// Writes the base header and the extension headers of a packet as they are.
+#[inline(always)]
+pub(crate) fn copy_headers(packet: &Packet<'_>, out: &mut [u8])
+    requires { length (dissected packet.now.bytes.now).base
+        + length (bytes_of (dissected packet.now.bytes.now).headers) ≤ length out.old }
+    ensures { out.new ≡ (dissected packet.now.bytes.now).base ++ bytes_of (dissected packet.now.bytes.now).headers
+        ++ drop (length (dissected packet.now.bytes.now).base
+        + length (bytes_of (dissected packet.now.bytes.now).headers)) out.old }
+{
+    let base = base_of(packet);
+    put_at(out, 0, base);
+    put_at(out, base.len(), packet.extensions());
 }
 
 /// Writes the packet of which these headers are kept, whose length is `kept_len`; `field` is the number for the length field.
@@ -128,8 +183,14 @@ pub(crate) fn write_kept(
     let outline = &packet.outline;
     let offset = number_offset(outline.version);
     let link = write_headers(packet, which, offset, out);
-    set(out, link, outline.next_header.0);
-    put_at(out, outline.base_len + kept_len, packet.payload());
-    let (base, _) = out.split_at_mut(outline.base_len);
-    state(base, outline.version, field);
+    let payload = packet.payload();
+    finish(
+        outline,
+        kept_len,
+        link,
+        outline.next_header,
+        payload,
+        field,
+        out,
+    );
 }

@@ -17,6 +17,7 @@
  *  - For what is in an extension header: wolfaren_next_option, wolfaren_routing_fields and wolfaren_routing_address,
  *    wolfaren_fragment_fields, wolfaren_authentication_fields.
  *  - For fragments, which make packets whole: wolfaren_defragment and wolfaren_write_whole_packet.
+ *  - For packets without some of their extension headers: wolfaren_without_number and wolfaren_without_index.
  *  - For new chains, or headers in another order: wolfaren_link_headers and wolfaren_write_headers.
  *
  * The header needs C99 or C++11, or a later standard.
@@ -55,7 +56,7 @@
 #define WOLFAREN_VERSION (10000 * WOLFAREN_VERSION_MAJOR + 100 * WOLFAREN_VERSION_MINOR + WOLFAREN_VERSION_PATCH)
 
 /* A checksum of the structs, numbers and calls in this header, made by scripts/abi of the repository. */
-#define WOLFAREN_ABI 0xcd430216u
+#define WOLFAREN_ABI 0xe8cbb186u
 
 #if !(defined(__x86_64__) && !defined(__ILP32__)) && !defined(_M_X64) && !defined(__aarch64__) && !defined(_M_ARM64)
 #error "libwolfaren needs a 64-bit machine: x86-64 or ARM64"
@@ -711,6 +712,49 @@ WOLFAREN_USE_RESULT
 bool wolfaren_write_whole_packet(const struct wolfaren_packet_memory *memory, uint8_t *out, size_t room, size_t *written)
     WOLFAREN_NONNULL(1, 4);
 
+/* Why a packet wasn't rewritten: values of `refusal` in struct wolfaren_rewritten. The first that applies is stored. */
+enum wolfaren_refusal {
+    WOLFAREN_NOT_REFUSED = 0,
+    WOLFAREN_REFUSED_HEADERS = 1,         /* no IP header, or its headers are truncated or faulty: wolfaren_dissect says why */
+    WOLFAREN_REFUSED_MISSING = 2,         /* fewer bytes are here than it states */
+    WOLFAREN_REFUSED_LATER_FRAGMENT = 3,  /* it is a middle or last fragment */
+    WOLFAREN_REFUSED_NO_HEADER = 4,       /* it has no such header */
+    WOLFAREN_REFUSED_FRAGMENT_HEADER = 5, /* the header is the fragment header of a fragment that isn't atomic */
+    WOLFAREN_REFUSED_FRAGMENTED = 6,      /* the header is in the part of the packet that is fragmented */
+    WOLFAREN_REFUSED_AUTHENTICATED = 7,   /* an authentication header covers the change (RFC 4302, section 3.3.3) */
+    WOLFAREN_REFUSED_HEADER_FOLLOWS = 8,  /* an IPv4 packet's payload would be read as another authentication header */
+    WOLFAREN_REFUSED_TOO_LONG = 9,        /* its length field can't state the length */
+    WOLFAREN_REFUSED_NO_ROOM = 10         /* `room` is less than the length */
+};
+
+/* A packet that was rewritten, or why it wasn't. */
+struct wolfaren_rewritten {
+    size_t len;              /* length of the packet that was written, in bytes; 0 if none was */
+    uint8_t refusal;         /* WOLFAREN_NOT_REFUSED, or why none was written */
+    uint8_t keeps_checksums; /* 1 if one was written and checksums of its transport header hold as before, otherwise 0 */
+};
+
+/*
+ * Writes the packet at the start of the `len` bytes to the start of `out`, which has `room` bytes, without its extension
+ * headers of this number. All else stays as it is, except the numbers that lead from header to header, the length in the IP
+ * header, and IPv4's header checksum, which is computed anew. A length field of 0 stays 0. Bytes after the packet aren't
+ * written. If `room` is `len`, it is enough.
+ *
+ * On success, returns true and fills in `rewritten`. `keeps_checksums` is 0 after a routing header with segments left was
+ * removed: checksums of TCP or UDP then cover a destination that was in it (RFC 8200, section 8.1).
+ *
+ * Otherwise writes nothing to `out`, stores why in `rewritten`, and returns false. A packet that keeps an authentication
+ * header is refused unless `may_be_invalid` is true, since the header's check value doesn't hold for the changed packet.
+ */
+WOLFAREN_USE_RESULT
+bool wolfaren_without_number(const uint8_t *bytes, size_t len, uint8_t number, bool may_be_invalid, uint8_t *out, size_t room,
+                             struct wolfaren_rewritten *rewritten) WOLFAREN_NONNULL(7);
+
+/* Writes a packet as wolfaren_without_number does, without the extension header with this index in its chain, from 0. */
+WOLFAREN_USE_RESULT
+bool wolfaren_without_index(const uint8_t *bytes, size_t len, size_t index, bool may_be_invalid, uint8_t *out, size_t room,
+                            struct wolfaren_rewritten *rewritten) WOLFAREN_NONNULL(7);
+
 /* A buffer size, in bytes, that is large enough for any text of wolfaren_fault_text and its terminating null byte. */
 #define WOLFAREN_TEXT_ROOM 256
 
@@ -1000,6 +1044,7 @@ WOLFAREN_LAYOUT(wolfaren_reassembly, 8216, marks, 19);
 WOLFAREN_LAYOUT(wolfaren_packet_memory, 77872, payload, 12336);
 WOLFAREN_LAYOUT(wolfaren_defragmenter_counts, 128, losses, 104);
 WOLFAREN_LAYOUT(wolfaren_added, 16, loss, 9);
+WOLFAREN_LAYOUT(wolfaren_rewritten, 16, keeps_checksums, 9);
 WOLFAREN_LAYOUT(wolfaren_filter_test, 32, if_not, 29);
 WOLFAREN_LAYOUT(wolfaren_filter, 2056, tests, 8);
 WOLFAREN_LAYOUT(wolfaren_filter_error, 16, expected, 8);

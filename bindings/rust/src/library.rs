@@ -242,7 +242,7 @@ const _: () = {
 
 /// `WOLFAREN_ABI`: the checksum of the header that this file was written for (`scripts/abi` of the repository).
 #[cfg(all(test, not(miri)))]
-pub(crate) const ABI: u32 = 0xcd43_0216;
+pub(crate) const ABI: u32 = 0xe8cb_b186;
 
 unsafe extern "C" {
     fn wolfaren_parse_chain(

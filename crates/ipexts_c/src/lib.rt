@@ -12,6 +12,7 @@ mod headers;
 mod names;
 mod packets;
 mod results;
+mod rewrites;
 mod statistics;
 mod version;
 mod writes;

@@ -1,0 +1,44 @@
+-- What is stored of a packet that was rewritten, as numbers.
+use Rattle.std.specs.Prelude.{ℕ, Bool, if◌then◌else◌}
+use Rattle.ip_dissect.specs.Dissection.{DissectedParts}
+use Rattle.ip_rewrite.specs.Without.{len_without, keeps_checksums}
+use Rattle.ip_rewrite.specs.declared.which.Which.{Which}
+use Rattle.ip_rewrite.specs.declared.which.Which.TheVariants.{Number}
+use Rattle.ip_rewrite.specs.declared.which.Authentication.{Authentication}
+use Rattle.ip_rewrite.specs.declared.which.Authentication.TheVariants.{Valid, Invalid}
+use Rattle.ip_rewrite.specs.declared.err.RewriteError.{RewriteError}
+use Rattle.ip_rewrite.specs.declared.err.RewriteError.TheVariants as err
+use Rattle.ipexts_c.specs.declared.rewrites.RewrittenFields.{RewrittenFields}
+
+-- all headers with this number
+abbrev pub with_number : ℕ → Which
+with_number n = Number (record { 0 = n })
+
+-- what may become of an authentication header that is kept
+abbrev pub authentication : Bool → Authentication
+authentication may_be_invalid = if may_be_invalid then Invalid else Valid
+
+-- the code of why a packet isn't rewritten
+abbrev pub refusal_code : RewriteError → ℕ
+refusal_code err.Headers = 1
+refusal_code err.Missing = 2
+refusal_code err.LaterFragment = 3
+refusal_code err.NoHeader = 4
+refusal_code err.FragmentHeader = 5
+refusal_code err.Fragmented = 6
+refusal_code err.Authenticated = 7
+refusal_code err.HeaderFollows = 8
+refusal_code err.TooLong = 9
+refusal_code err.NoRoom = 10
+
+-- what is stored if this length was written, and whether transport checksums hold as before
+abbrev pub rewritten_fields : ℕ → Bool → RewrittenFields
+rewritten_fields n keeps = record { len = n; refusal = 0; keeps_checksums = if keeps then 1 else 0 }
+
+-- what is stored of a packet without these headers
+abbrev pub fields_without : Which → DissectedParts → RewrittenFields
+fields_without w p = rewritten_fields (len_without w p) (keeps_checksums w p)
+
+-- what is stored if nothing was written, for this reason
+abbrev pub refused_fields : RewriteError → RewrittenFields
+refused_fields e = record { len = 0; refusal = refusal_code e; keeps_checksums = 0 }

@@ -85,8 +85,8 @@
 //!
 //! Only here: `Dissection`, `BaseHeader`, `Fragment`, `FragmentKind`, `End`, `Filter`, `Statistics`, `FaultKind`,
 //! `HeaderOptions`, `HeaderOption`, `UnknownOption`, `RoutingAddresses`, `RoutingAddress`, `PacketSpan`, `Defragmenter`,
-//! `Added`, `Outcome`, `DropReason`, `Loss`, `Ipv6ExtensionsBuilder`, `err::BuildError`, `err::FilterError`,
-//! `err::Expected`, `err::SpanError`.
+//! `Added`, `Outcome`, `DropReason`, `Loss`, `without`, `Which`, `Authentication`, `Rewritten`, `Ipv6ExtensionsBuilder`,
+//! `err::BuildError`, `err::FilterError`, `err::Expected`, `err::SpanError`, `err::RewriteError`.
 //!
 //! The table has all names of etherparse's layer of extension headers. Of the layer below, that is IP headers, protocol
 //! numbers, `IpFragOffset`, `LenSource` and `Layer`, etherparse has more names than the table lists. The constants of
@@ -140,6 +140,7 @@ mod packet_span;
 mod parse_packet;
 #[cfg(test)]
 mod plain_tests;
+mod rewrite;
 mod routing_addresses;
 mod statistics;
 
@@ -171,5 +172,6 @@ pub use ipv6_raw_ext_header_slice::{Ipv6RawExtHeaderSlice, Ipv6RawExtensionHeade
 pub use ipv6_slice::Ipv6Slice;
 pub use len_source::LenSource;
 pub use packet_span::PacketSpan;
+pub use rewrite::{without, Authentication, Rewritten, Which};
 pub use routing_addresses::{RoutingAddress, RoutingAddresses};
 pub use statistics::{FaultKind, Statistics};

@@ -93,6 +93,15 @@ pub(crate) struct Added {
     pub loss: u8,
 }
 
+/// `struct wolfaren_rewritten`: a packet that was rewritten, or why it wasn't.
+#[repr(C)]
+#[derive(Default)]
+pub(crate) struct Rewritten {
+    pub len: usize,
+    pub refusal: u8,
+    pub keeps_checksums: u8,
+}
+
 /// `struct wolfaren_chain`: a chain of extension headers, and the error that ended it, if any.
 #[repr(C)]
 #[derive(Clone, Copy, Debug)]
@@ -338,6 +347,26 @@ unsafe extern "C" {
         out: *mut u8,
         room: usize,
         written: *mut usize,
+    ) -> bool;
+
+    fn wolfaren_without_number(
+        bytes: *const u8,
+        len: usize,
+        number: u8,
+        may_be_invalid: bool,
+        out: *mut u8,
+        room: usize,
+        rewritten: *mut Rewritten,
+    ) -> bool;
+
+    fn wolfaren_without_index(
+        bytes: *const u8,
+        len: usize,
+        index: usize,
+        may_be_invalid: bool,
+        out: *mut u8,
+        room: usize,
+        rewritten: *mut Rewritten,
     ) -> bool;
 
     fn wolfaren_init_statistics(statistics: *mut Statistics);
@@ -848,11 +877,59 @@ pub(crate) fn number_name(number: u8) -> &'static str {
     core::str::from_utf8(text).unwrap_or_default()
 }
 
+/// Writes the packet at the start of the bytes without its extension headers of a number, to the start of `out`.
+pub(crate) fn without_number(
+    bytes: &[u8],
+    number: u8,
+    may_be_invalid: bool,
+    out: &mut [u8],
+) -> Rewritten {
+    let mut rewritten = Rewritten::default();
+    // SAFETY: the bytes are a slice, which the call only reads. `out` is borrowed exclusively, so it doesn't overlap them.
+    let is_written = unsafe {
+        wolfaren_without_number(
+            bytes.as_ptr(),
+            bytes.len(),
+            number,
+            may_be_invalid,
+            out.as_mut_ptr(),
+            out.len(),
+            &raw mut rewritten,
+        )
+    };
+    debug_assert_eq!(is_written, rewritten.refusal == 0);
+    rewritten
+}
+
+/// Writes the packet at the start of the bytes without the extension header with this index, to the start of `out`.
+pub(crate) fn without_index(
+    bytes: &[u8],
+    index: usize,
+    may_be_invalid: bool,
+    out: &mut [u8],
+) -> Rewritten {
+    let mut rewritten = Rewritten::default();
+    // SAFETY: the bytes are a slice, which the call only reads. `out` is borrowed exclusively, so it doesn't overlap them.
+    let is_written = unsafe {
+        wolfaren_without_index(
+            bytes.as_ptr(),
+            bytes.len(),
+            index,
+            may_be_invalid,
+            out.as_mut_ptr(),
+            out.len(),
+            &raw mut rewritten,
+        )
+    };
+    debug_assert_eq!(is_written, rewritten.refusal == 0);
+    rewritten
+}
+
 #[cfg(all(test, not(miri)))]
 mod tests {
     use super::{
         Chain, Cursor, Dissection, Fault, Header, HeaderOption, OptionCursor, PacketSpan, Payload,
-        Routing, Statistics,
+        Rewritten, Routing, Statistics,
     };
     use core::mem::{offset_of, size_of};
     use std::vec::Vec;
@@ -968,6 +1045,13 @@ mod tests {
         );
         check!(Cursor, "wolfaren_cursor", offset, number);
         check!(OptionCursor, "wolfaren_option_cursor", offset, end);
+        check!(
+            Rewritten,
+            "wolfaren_rewritten",
+            len,
+            refusal,
+            keeps_checksums
+        );
         check!(
             HeaderOption,
             "wolfaren_option",

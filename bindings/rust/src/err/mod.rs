@@ -12,6 +12,7 @@ pub mod ipv6;
 pub mod ipv6_exts;
 mod layer;
 mod len_error;
+mod rewrite_error;
 mod span_error;
 mod value_too_big_error;
 
@@ -20,6 +21,7 @@ pub use build_error::BuildError;
 pub use filter_error::{Expected, FilterError};
 pub use layer::Layer;
 pub use len_error::LenError;
+pub use rewrite_error::RewriteError;
 pub use span_error::SpanError;
 pub use value_too_big_error::ValueTooBigError;
 

@@ -1,0 +1,64 @@
+use core::fmt;
+
+/// A packet isn't rewritten. The first of these reasons that applies is returned.
+#[derive(Clone, Copy, Debug, PartialEq, Eq, Hash)]
+#[non_exhaustive]
+pub enum RewriteError {
+    /// There is no base header, or the extension headers are truncated or faulty: [`Dissection`](crate::Dissection) says why.
+    Headers = 1,
+    /// Fewer bytes are here than the base header states.
+    Missing,
+    /// The packet is a middle or last fragment.
+    LaterFragment,
+    /// No header is selected.
+    NoHeader,
+    /// The header is the fragment header of a fragment.
+    FragmentHeader,
+    /// The header is in the part of the packet that is fragmented.
+    Fragmented,
+    /// An authentication header covers what is changed (RFC 4302, section 3.3.3).
+    Authenticated,
+    /// The payload would be read as an extension header.
+    HeaderFollows,
+    /// The length field can't state the length of the packet.
+    TooLong,
+    /// The buffer is too short.
+    NoRoom,
+}
+
+impl RewriteError {
+    /// Returns the error for a code of the library.
+    pub(crate) fn of_code(code: u8) -> RewriteError {
+        match code {
+            2 => RewriteError::Missing,
+            3 => RewriteError::LaterFragment,
+            4 => RewriteError::NoHeader,
+            5 => RewriteError::FragmentHeader,
+            6 => RewriteError::Fragmented,
+            7 => RewriteError::Authenticated,
+            8 => RewriteError::HeaderFollows,
+            9 => RewriteError::TooLong,
+            10 => RewriteError::NoRoom,
+            _ => RewriteError::Headers,
+        }
+    }
+}
+
+impl fmt::Display for RewriteError {
+    fn fmt(&self, f: &mut fmt::Formatter<'_>) -> fmt::Result {
+        f.write_str(match self {
+            RewriteError::Headers => "the headers of the packet are truncated or faulty",
+            RewriteError::Missing => "bytes of the packet are missing",
+            RewriteError::LaterFragment => "the packet is a later fragment",
+            RewriteError::NoHeader => "the packet has no such header",
+            RewriteError::FragmentHeader => "the header is that of a fragment",
+            RewriteError::Fragmented => "the change is in the part that is fragmented",
+            RewriteError::Authenticated => "an authentication header covers the change",
+            RewriteError::HeaderFollows => "the payload would be read as an extension header",
+            RewriteError::TooLong => "the packet is too long for its length field",
+            RewriteError::NoRoom => "the buffer is too short for the packet",
+        })
+    }
+}
+
+impl core::error::Error for RewriteError {}

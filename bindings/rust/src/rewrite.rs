@@ -1,0 +1,72 @@
+use crate::err::RewriteError;
+use crate::{library, IpNumber};
+
+/// Which extension headers of a packet are selected.
+#[derive(Clone, Copy, Debug, PartialEq, Eq, Hash)]
+pub enum Which {
+    /// The header with this index in the chain, from 0.
+    Index(usize),
+    /// All headers with this number.
+    Number(IpNumber),
+}
+
+/// What may become of an authentication header, which covers the whole packet (RFC 4302, section 3.3.3).
+#[derive(Clone, Copy, Debug, PartialEq, Eq, Hash)]
+pub enum Authentication {
+    /// A packet that keeps one isn't changed.
+    Valid,
+    /// It is kept, and its check value doesn't hold for the changed packet.
+    Invalid,
+}
+
+/// A packet that was written.
+#[derive(Clone, Copy, Debug, PartialEq, Eq, Hash)]
+pub struct Rewritten {
+    /// Its length in bytes.
+    pub len: usize,
+    /// Whether transport checksums hold as before. They don't after a routing header with segments left was removed: the
+    /// final destination was in it (RFC 8200, section 8.1).
+    pub keeps_checksums: bool,
+}
+
+/// Writes a packet without some of its extension headers to the start of `out`. If `out` is as long as `packet`, the room is
+/// enough.
+///
+/// All else stays as it is, except the numbers that lead from header to header, the length in the IP header, and IPv4's
+/// header checksum, which is computed anew. Bytes after the packet aren't written.
+///
+/// ```
+/// use wolfaren::{ip_number, without, Authentication, Which};
+///
+/// // Hop-by-hop options, which lead to UDP, and 8 bytes of payload.
+/// let mut packet = [0; 56];
+/// (packet[0], packet[5], packet[40]) = (0x60, 16, 17);
+/// let mut out = [0; 56];
+/// let which = Which::Number(ip_number::IPV6_HOP_BY_HOP);
+/// let written = without(&packet, which, Authentication::Valid, &mut out)?;
+/// assert_eq!((written.len, out[5], out[6]), (48, 8, 17));
+/// # Ok::<(), wolfaren::err::RewriteError>(())
+/// ```
+///
+/// # Errors
+///
+/// Why the packet can't be written. `out` is then unchanged.
+pub fn without(
+    packet: &[u8],
+    which: Which,
+    authentication: Authentication,
+    out: &mut [u8],
+) -> Result<Rewritten, RewriteError> {
+    let may_be_invalid = authentication == Authentication::Invalid;
+    let written = match which {
+        Which::Index(index) => library::without_index(packet, index, may_be_invalid, out),
+        Which::Number(number) => library::without_number(packet, number.0, may_be_invalid, out),
+    };
+    match written.refusal {
+        0 => Ok(Rewritten {
+            len: written.len,
+            keeps_checksums: written.keeps_checksums != 0,
+        }),
+        code => Err(RewriteError::of_code(code)),
+    }
+}

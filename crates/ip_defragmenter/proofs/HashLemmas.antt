@@ -2,7 +2,7 @@
 use Rattle.std.proofs.Common.{◌≡◌, ℕ, ◌+◌, ◌*◌, ◌/◌, ◌%◌, sym, ap, ◌∙◌, arith}
 use Rattle.std.proofs.Math.Nat.{div-add-mod, add-mod-mod, add-mul-mod_self_left, mul_assoc, mul_left_comm}
 
--- Whole moduli don't change a remainder.
+-- A multiple of the modulus changes no remainder.
 apart : (p x y k : ℕ) → y ≡ x + p * k → x % p ≡ y % p
 apart p x y k e = sym (ap (λ (n : ℕ). n % p) e ∙ add-mul-mod_self_left x p k)
 

@@ -1,5 +1,5 @@
 -- The extension headers of a packet, and their numbers.
-use Rattle.ip_spec.proofs.Common.{◌≡◌, ℕ, List, [], ◌∷◌, ◌++◌, refl, rules, arith, common_steps, bytes_of, ExtHeader, IsChain, IsHeader, Option, None, Some, Bool, true, false, ◌==◌, ◌||◌, ◌&&◌}
+use Rattle.ip_spec.proofs.Common.{◌≡◌, ℕ, List, [], ◌∷◌, ◌++◌, refl, rules, arith, common_steps, bytes_of, ExtHeader, IsChain, IsHeader, Option, None, Some, Bool, true, false, ◌==◌, ◌||◌}
 use Rattle.std.proofs.Common.{◌<◌, ◌*◌, ◌%◌, ◌^◌, bit_or}
 use Rattle.std.specs.Int.{bit_at}
 use Rattle.std.proofs.lemmas.Nat.{pow_below}
@@ -18,6 +18,9 @@ use Rattle.ip_dissect.proofs.Ipv4Lemmas.{ipv4_prefix}
 use Rattle.ip_dissect.proofs.DissectedLemmas.{begins4, begins6, begins_none}
 use Rattle.ip_dissect.proofs.LaterLemmas.{chain_to_later-longest}
 use Rattle.ip_filter.specs.Facts.{first_number}
+use Rattle.ip_filter.specs.HeaderConditions.{is_asked, meets_condition}
+use Rattle.ip_filter.specs.declared.header_condition.HeaderCondition.{HeaderCondition}
+use Rattle.ip_filter.specs.declared.header_condition.HeaderCondition.TheVariants as asks
 
 -- They are a chain from the number after the base header.
 pub packet_chain : (s : List ℕ) (o : Option BaseHeader) → IsBaseOf s o → IsChain (first_number o) (dissected s).headers
@@ -49,7 +52,15 @@ bit_same m k = rw (bit_at_or m (2 ^ k) k, bit_at-pow_same k) (grind (arith, comm
 pub bit_other : (m k n : ℕ) → (n ≡ k → ⊥) → (bit_at (bit_or m (2 ^ k)) n == 1) ≡ (bit_at m n == 1)
 bit_other m k n other = rw (bit_at_or m (2 ^ k) n, bit_at-pow_other k n other) (grind (arith, common_steps))
 
--- Without a header of such a number, none has one and passes another test.
-pub none_passes : (asked : ℕ → Bool) (q : ExtHeader → Bool) (c : List ExtHeader) → false ≡ list_any (λ h. asked h.number) c → false ≡ list_any (λ h. asked h.number && q h) c
-none_passes asked q [] none = refl
-none_passes asked q (h ∷ c) none = grind (arith, common_steps, none_passes asked q c)
+-- A header that meets a condition has a number that can meet it.
+not_asked : (x : HeaderCondition) (h : ExtHeader) → is_asked x h.number ≡ false → meets_condition x h ≡ false
+not_asked (asks.SecurityParameters i) h other = rw other refl
+not_asked (asks.RoutingType t) h other = rw other refl
+not_asked (asks.SegmentsLeft c k) h other = rw other refl
+not_asked (asks.Identification i) h other = rw other refl
+not_asked (asks.Option t) h other = rw other refl
+
+-- Without a header of such a number, none meets it.
+pub none_meets : (x : HeaderCondition) (c : List ExtHeader) → false ≡ list_any (λ h. is_asked x h.number) c → false ≡ list_any (meets_condition x) c
+none_meets x [] none = refl
+none_meets x (h ∷ c) none = grind (arith, common_steps, not_asked x h, none_meets x c)

@@ -20,7 +20,6 @@ mod ReadFormulaLemmas
 mod ParseLemmas
 mod FactsLemmas
 mod FragmentLemmas
-mod OptionLemmas
 mod FlagLemmas
 mod MaskLemmas
 mod TestLemmas

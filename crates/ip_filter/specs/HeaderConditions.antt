@@ -1,14 +1,13 @@
--- What tests ask of one extension header, by its number and by its bytes.
-use Rattle.std.specs.Prelude.{ℕ, List, drop, Bool, ◌==◌, ◌&&◌}
+-- What tests ask of extension headers.
+use Rattle.std.specs.Prelude.{ℕ, Bool, ◌==◌}
 use Rattle.ip_spec.specs.Numbers.{ROUTING, FRAGMENT, AUTHENTICATION}
-use Rattle.ip_spec.specs.Fields.{fragment_fields, auth_fields}
 use Rattle.ip_spec.specs.Chain.{ExtHeader}
-use Rattle.ip_filter.specs.HeaderFields.{has_options, option_after, routing_type, segments_left}
-use Rattle.ip_filter.specs.Truth.{compares}
+use Rattle.ip_filter.specs.HeaderFields.{has_options, has_option, has_spi, has_routing_type, has_segments_left}
+use Rattle.ip_filter.specs.Truth.{compares, says_fragment}
 use Rattle.ip_filter.specs.declared.header_condition.HeaderCondition.{HeaderCondition}
 use Rattle.ip_filter.specs.declared.header_condition.HeaderCondition.TheVariants as asks
 
--- it asks headers of this number
+-- headers of this number can meet it
 abbrev pub is_asked : HeaderCondition → ℕ → Bool
 is_asked (asks.SecurityParameters i) n = n == AUTHENTICATION
 is_asked (asks.RoutingType t) n = n == ROUTING
@@ -16,13 +15,10 @@ is_asked (asks.SegmentsLeft c k) n = n == ROUTING
 is_asked (asks.Identification i) n = n == FRAGMENT
 is_asked (asks.Option t) n = has_options n
 
--- such a header with these bytes meets it
-abbrev pub is_met : HeaderCondition → List ℕ → Bool
-is_met (asks.SecurityParameters i) b = (auth_fields b).spi == i
-is_met (asks.RoutingType t) b = routing_type b == t
-is_met (asks.SegmentsLeft c k) b = compares c (segments_left b) k
-is_met (asks.Identification i) b = (fragment_fields b).identification == i
-is_met (asks.Option t) b = option_after t 0 (drop 2 b)
-
+-- the header meets it
 abbrev pub meets_condition : HeaderCondition → ExtHeader → Bool
-meets_condition x h = is_asked x h.number && is_met x h.bytes
+meets_condition (asks.SecurityParameters i) h = has_spi i h
+meets_condition (asks.RoutingType t) h = has_routing_type t h
+meets_condition (asks.SegmentsLeft c k) h = has_segments_left (λ n. compares c n k) h
+meets_condition (asks.Identification i) h = says_fragment (λ x. x.identification == i) h
+meets_condition (asks.Option t) h = has_option t h

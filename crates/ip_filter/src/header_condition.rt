@@ -1,19 +1,21 @@
 //! What tests ask of single extension headers.
 ghost use Rattle.std.specs.Prelude.{◌≡◌, ◌==◌, ◌&&◌, ℕ, List};
 ghost use Rattle.std.specs.List.{list_any};
+ghost use Rattle.ip_ext_headers.specs.Ipv6RawExtHeaderSlice.{bytes};
 ghost use Rattle.ip_ext_slices.specs.Longest.{longest_chain};
 ghost use Rattle.ip_ext_slices.specs.Ipv6ExtensionSlice.{header_of};
 ghost use Rattle.ip_dissect.specs.Dissection.{dissected};
 ghost use Rattle.ip_filter.specs.Flags.{any_flag};
 ghost use Rattle.ip_filter.specs.Truth.{compares, says_fragment};
-ghost use Rattle.ip_filter.specs.HeaderFields.{has_option, has_spi, has_routing_type, has_segments_left};
+ghost use Rattle.ip_filter.specs.HeaderFields.{has_option, has_option_type, has_spi, has_routing_type, has_segments_left};
 ghost use Rattle.ip_filter.specs.HeaderConditions.{is_asked, meets_condition};
 
 use crate::Comparison;
 use crate::flags::mask;
-use crate::options::has_option_among;
 use ip_base::IpNumber;
+use ip_ext_headers::Ipv6RawExtHeaderSlice;
 use ip_ext_slices::{Ipv6ExtensionSlice, Ipv6ExtensionsCursor};
+use ip_header_contents::{HeaderOptions, routing_type, segments_left};
 
 /// A condition on one extension header.
 #[derive(Clone, Copy)]
@@ -99,12 +101,22 @@ fn has_option(header: &Ipv6ExtensionSlice<'_>, number: u64) -> bool
     ensures { result ≡ has_option number (header_of header.now) }
 {
     match header {
-        Ipv6ExtensionSlice::HopByHop(header) => has_option_among(number, header.payload()),
-        Ipv6ExtensionSlice::DestinationOptions(header) => {
-            has_option_among(number, header.payload())
-        }
+        Ipv6ExtensionSlice::HopByHop(header) => has_option_type(header, number),
+        Ipv6ExtensionSlice::DestinationOptions(header) => has_option_type(header, number),
         _ => false,
     }
+}
+
+/// Returns whether one of the header's options has this type.
+fn has_option_type(header: &Ipv6RawExtHeaderSlice<'_>, number: u64) -> bool
+    ensures { result ≡ has_option_type number (bytes header.now) }
+{
+    'options: for option in HeaderOptions::of(header) {
+        if u64::from(option.option_type) == number {
+            return true;
+        }
+    }
+    false
 }
 
 /// Returns whether the header is a routing header of this type.
@@ -112,7 +124,7 @@ fn has_routing_type(header: &Ipv6ExtensionSlice<'_>, number: u64) -> bool
     ensures { result ≡ has_routing_type number (header_of header.now) }
 {
     match header {
-        Ipv6ExtensionSlice::Routing(header) => u64::from(header.slice()[2]) == number,
+        Ipv6ExtensionSlice::Routing(header) => u64::from(routing_type(header)) == number,
         _ => false,
     }
 }
@@ -123,7 +135,7 @@ fn has_segments_left(header: &Ipv6ExtensionSlice<'_>, comparison: Comparison, nu
 {
     match header {
         Ipv6ExtensionSlice::Routing(header) => {
-            comparison.holds(u64::from(header.slice()[3]), number)
+            comparison.holds(u64::from(segments_left(header)), number)
         }
         _ => false,
     }

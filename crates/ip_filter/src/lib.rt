@@ -17,7 +17,6 @@ mod meets;
 mod network;
 mod networks;
 mod numbers;
-mod options;
 mod parse;
 mod parse_error;
 mod parse_term;

@@ -2,8 +2,8 @@ use Rattle.ip_spec.proofs.Common.{◌∙◌, ap, sym}
 use Rattle.std.specs.List.{list_any}
 use Rattle.ip_ext_slices.specs.Longest.{longest_chain}
 use Rattle.ip_dissect.specs.Dissection.{dissected}
-use Rattle.ip_filter.specs.HeaderConditions.{is_asked, is_met, meets_condition}
-use Rattle.ip_filter.proofs.FactsLemmas.{headers_again, none_passes}
+use Rattle.ip_filter.specs.HeaderConditions.{meets_condition}
+use Rattle.ip_filter.proofs.FactsLemmas.{headers_again, none_meets}
 use Rattle.ip_filter.proofs.facts.Facts.has_header.Goals as goal
 
 pub returns-then-has_one_of : goal.returns-then-has_one_of
@@ -14,5 +14,4 @@ returns-then-has_one_of c =
 pub returns-else-has_one_of : goal.returns-else-has_one_of
 returns-else-has_one_of c =
     let bytes = c.args.self.now.packet.bytes.now in
-    c.if-has_one_of.false ∙ none_passes (is_asked c.args.condition) (λ h. is_met c.args.condition h.bytes) (dissected bytes).headers
-    (sym c.if-has_one_of.false ∙ c.has_one_of.ensures ∙ c.mask.ensures bytes)
+    c.if-has_one_of.false ∙ none_meets c.args.condition (dissected bytes).headers (sym c.if-has_one_of.false ∙ c.has_one_of.ensures ∙ c.mask.ensures bytes)

@@ -2,18 +2,17 @@
 use Rattle.std.specs.Prelude.{ℕ, List, length, Bool, true, false, not, ◌==◌, ◌&&◌, ◌||◌, ◌/◌, ◌%◌, nat_lt, if◌then◌else◌, Option, Some, None, is_some}
 use Rattle.std.specs.Int.{from_be_bytes, w32, w128}
 use Rattle.std.specs.List.{list_any}
-use Rattle.std.specs.Option.{option_map_or, unwrap_or}
+use Rattle.std.specs.Option.{option_map_or}
 use Rattle.ip_spec.specs.Chain.{ExtHeader, bytes_of}
 use Rattle.ip_base.specs.Ipv4Header.{ipv4_source_octets, ipv4_destination_octets}
 use Rattle.ip_base.specs.Ipv6Header.{ipv6_source_octets, ipv6_destination_octets}
-use Rattle.ip_base.specs.declared.err.layer.Layer.{Layer}
-use Rattle.ip_base.specs.declared.err.layer.Layer.TheVariants as layer
 use Rattle.ip_base.specs.declared.err.ipv6_exts.header_error.HeaderError.TheVariants.{HopByHopNotAtStart, IpAuth}
 use Rattle.ip_base.specs.declared.err.ip.header_error.HeaderError.TheVariants.{UnsupportedIpVersion, Ipv4HeaderLengthSmallerThanHeader}
 use Rattle.ip_base.specs.declared.err.ip.headers_error.HeadersError.TheVariants.{Ip, Ipv4Ext, Ipv6Ext}
 use Rattle.ip_base.specs.declared.err.ip.slice_error.SliceError.{SliceError}
 use Rattle.ip_base.specs.declared.err.ip.slice_error.SliceError.TheVariants.{Len, IpHeaders}
 use Rattle.ip_codes.specs.Codes.{layer_code}
+use Rattle.ip_codes.specs.EndLayer.{end_layer}
 use Rattle.ip_dissect.specs.Dissection.{DissectedParts}
 use Rattle.ip_dissect.specs.Fragment.{is_fragment_header, fragment_of, ipv4_fragment}
 use Rattle.ip_dissect.specs.declared.fragment.Fragment.{Fragment}
@@ -95,22 +94,7 @@ abbrev pub fault_in : End → Option FaultKind
 fault_in (end.Fault e header) = Some (fault_kind e)
 fault_in e = None
 
--- the layer that an error in a packet names
-abbrev pub error_layer : SliceError → Layer
-error_layer (Len e) = e.layer
-error_layer (IpHeaders (Ip (UnsupportedIpVersion v))) = layer.IpHeader
-error_layer (IpHeaders (Ip (Ipv4HeaderLengthSmallerThanHeader l))) = layer.Ipv4Header
-error_layer (IpHeaders (Ipv4Ext e)) = layer.IpAuthHeader
-error_layer (IpHeaders (Ipv6Ext HopByHopNotAtStart)) = layer.Ipv6HopByHopHeader
-error_layer (IpHeaders (Ipv6Ext (IpAuth e))) = layer.IpAuthHeader
-
--- the layer of the header at an end that is truncated or faulty, or else the one that the error names
-abbrev pub end_layer : End → Option Layer
-end_layer (end.Truncated e header) = Some (unwrap_or header e.layer)
-end_layer (end.Fault e header) = Some (unwrap_or header (error_layer e))
-end_layer e = None
-
--- it has this code
+-- the layer of the header that is truncated or faulty has this code
 abbrev pub is_in_layer : ℕ → End → Bool
 is_in_layer l e = option_map_or (λ x. layer_code x == l) (end_layer e) false
 

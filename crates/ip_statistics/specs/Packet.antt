@@ -1,13 +1,6 @@
 -- What one packet counts.
 use Rattle.std.specs.Prelude.{ℕ, ◌+◌, ◌*◌, ◌==◌, ◌&&◌, not, min, length, Bool, Option, if◌then◌else◌}
-use Rattle.std.specs.Option.{option_map_or}
 use Rattle.ip_spec.specs.Chain.{bytes_of}
-use Rattle.ip_base.specs.declared.err.layer.Layer.TheVariants.{IpHeader, Ipv4Header, IpAuthHeader, Ipv6HopByHopHeader}
-use Rattle.ip_base.specs.declared.err.ipv6_exts.header_error.HeaderError.TheVariants.{HopByHopNotAtStart, IpAuth}
-use Rattle.ip_base.specs.declared.err.ip.header_error.HeaderError.TheVariants.{UnsupportedIpVersion, Ipv4HeaderLengthSmallerThanHeader}
-use Rattle.ip_base.specs.declared.err.ip.headers_error.HeadersError.TheVariants.{Ip, Ipv4Ext, Ipv6Ext}
-use Rattle.ip_base.specs.declared.err.ip.slice_error.SliceError.{SliceError}
-use Rattle.ip_base.specs.declared.err.ip.slice_error.SliceError.TheVariants.{Len, IpHeaders}
 use Rattle.ip_dissect.specs.Dissection.{DissectedParts}
 use Rattle.ip_dissect.specs.End.{has_error}
 use Rattle.ip_dissect.specs.declared.fragment.Fragment.{Fragment}
@@ -15,7 +8,8 @@ use Rattle.ip_dissect.specs.declared.fragment.FragmentKind.{FragmentKind}
 use Rattle.ip_dissect.specs.declared.fragment.FragmentKind.TheVariants.{Atomic, First, Middle, Last}
 use Rattle.ip_dissect.specs.declared.end.End.{End}
 use Rattle.ip_dissect.specs.declared.end.End.TheVariants.{Payload, LaterFragment, Truncated, Fault}
-use Rattle.ip_codes.specs.Codes.{error_kind, layer_code, kind_code, fragment_code, end_code}
+use Rattle.ip_codes.specs.Codes.{error_kind, header_code, kind_code, fragment_code, end_code}
+use Rattle.ip_codes.specs.EndLayer.{end_layer}
 use Rattle.ip_statistics.specs.Counts.{each_below, one_if}
 use Rattle.ip_statistics.specs.HeaderCounts.{number_counts}
 use Rattle.ip_statistics.specs.Lengths.{is_for_length}
@@ -34,21 +28,9 @@ AT_TRUNCATED_HEADER = 2
 abbrev pub AT_FAULT : ℕ
 AT_FAULT = 3
 
--- the code of the layer that an error in a packet names
-abbrev pub error_layer : SliceError → ℕ
-error_layer (Len e) = layer_code e.layer
-error_layer (IpHeaders (Ip (UnsupportedIpVersion v))) = layer_code IpHeader
-error_layer (IpHeaders (Ip (Ipv4HeaderLengthSmallerThanHeader l))) = layer_code Ipv4Header
-error_layer (IpHeaders (Ipv4Ext e)) = layer_code IpAuthHeader
-error_layer (IpHeaders (Ipv6Ext HopByHopNotAtStart)) = layer_code Ipv6HopByHopHeader
-error_layer (IpHeaders (Ipv6Ext (IpAuth e))) = layer_code IpAuthHeader
-
--- the code of the header or packet that is truncated or faulty: the IPv6 extension header, or what the error names
+-- the code of the layer of a header that is truncated or faulty, and 0 if none is
 abbrev pub faulty_layer : End → ℕ
-faulty_layer Payload = 0
-faulty_layer LaterFragment = 0
-faulty_layer (Truncated e header) = option_map_or layer_code header (layer_code e.layer)
-faulty_layer (Fault e header) = option_map_or layer_code header (error_layer e)
+faulty_layer e = header_code (end_layer e)
 
 -- the place of a fault's count, by its kind and its layer
 abbrev pub fault_index : End → ℕ

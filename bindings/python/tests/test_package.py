@@ -71,7 +71,8 @@ class Types(unittest.TestCase):
                   "parts.headers[0].more_fragments": "Union[builtins.bool, None]",
                   "packet.time_ns": "Union[builtins.int, None]", "packet.bytes": "builtins.bytes",
                   "packet.time": "Union[datetime.datetime, None]",
-                  "wolfaren.Filter('fault').write('one', 'other').written": "builtins.int"}
+                  "wolfaren.Filter('fault').write('one', 'other').written": "builtins.int",
+                  "wolfaren.without(b'', index=0).packet": "builtins.bytes"}
         lines = ["import wolfaren", "counts, parts = wolfaren.Statistics(), wolfaren.dissect(b'')", "counts.packet",
                  "packet = next(wolfaren.packets(''))"]
         with tempfile.TemporaryDirectory() as folder:

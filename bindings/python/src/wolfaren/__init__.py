@@ -1,4 +1,4 @@
-"""Dissects, filters and counts IP packets by their extension headers.
+"""Dissects, filters, counts and changes IP packets by their extension headers.
 
 The work is done by `libwolfaren.so.0`, whose calls are formally verified. This package calls it through cffi.
 """
@@ -9,6 +9,7 @@ from ._dissection import (Dissection, End, ExtensionHeader, Fault, FaultKind, Fr
                           LenSource, UnknownOption, dissect, protocol_name)
 from ._filter import Filter, FilterError
 from ._many import SpanError, dissect_many
+from ._rewrite import Refusal, RewriteError, Rewritten, without
 from ._statistics import MOST, CaptureError, CaptureOSError, Statistics, statistics_of
 from ._table import table
 
@@ -16,5 +17,5 @@ __version__ = "0.1.0"
 
 __all__ = ["MOST", "CaptureError", "CaptureOSError", "Defragmenter", "Dissection", "End", "ExtensionHeader", "Fault",
            "FaultKind", "Filter", "FilterError", "Fragment", "FragmentKind", "HeaderOption", "Layer", "LenSource", "Packet",
-           "SpanError", "Statistics", "UnknownOption", "Written", "dissect", "dissect_many", "packets", "protocol_name",
-           "statistics_of", "table"]
+           "Refusal", "RewriteError", "Rewritten", "SpanError", "Statistics", "UnknownOption", "Written", "dissect",
+           "dissect_many", "packets", "protocol_name", "statistics_of", "table", "without"]

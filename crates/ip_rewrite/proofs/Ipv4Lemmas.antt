@@ -1,5 +1,5 @@
 -- How an IPv4 packet that was written dissects.
-use Rattle.ip_spec.proofs.Common.{◌≡◌, ◌≢◌, ℕ, ◌+◌, ◌*◌, ◌/◌, ◌%◌, ◌≤◌, ◌<◌, ◌⊎◌, inl, inr, List, [], ◌∷◌, ◌++◌, length, take, drop, subst, refl, sym, ◌∙◌, ap, arith, common_steps, Bool, true, false, cases_Bool, cond-true, eqb-true, eq-eqb, if◌then◌else◌, Option, None, Some, option_map, option_map_or, ◌==◌, ◌&&◌, not, nat_lt, slice_set, slice_index, bit_and, length-append, length-set, get_or-set_other, get_or-set_same, take-append_seam, drop-append_seam, drop-length, append_assoc, AllByRecursion, IsPrefix, AtMostOneOf, IsLongestUnder, IsNext, ExtHeader, bytes_of, is_empty, leads_to, rest_after, fault_after}
+use Rattle.ip_spec.proofs.Common.{◌≡◌, ◌≢◌, ℕ, ◌+◌, ◌*◌, ◌/◌, ◌%◌, ◌≤◌, ◌<◌, ◌⊎◌, inl, inr, List, [], ◌∷◌, ◌++◌, length, take, drop, subst, refl, sym, ◌∙◌, ap, arith, common_steps, Bool, false, cases_Bool, cond-true, eqb-true, eq-eqb, if◌then◌else◌, Option, None, Some, option_map, option_map_or, ◌==◌, ◌&&◌, not, nat_lt, slice_set, slice_index, bit_and, length-append, length-set, get_or-set_other, get_or-set_same, take-append_seam, drop-append_seam, drop-length, append_assoc, AllByRecursion, IsPrefix, AtMostOneOf, IsLongestUnder, IsNext, ExtHeader, bytes_of, is_empty, leads_to, rest_after, fault_after}
 use Rattle.ip_spec.proofs.StepLemmas.{all_next}
 use Rattle.ip_spec.proofs.DemandKinds.{at_most_one_of}
 use Rattle.ip_spec.proofs.ParsedLemmas.{has_parsed_before, parsed_longest_under}
@@ -22,7 +22,6 @@ use Rattle.ip_dissect.specs.declared.fragment.Fragment.{Fragment}
 use Rattle.ip_dissect.specs.Extent.{packet_bytes, after_base, ipv4_stated, ipv4_chain}
 use Rattle.ip_dissect.specs.End.{auth_end, ipv4_end, is_too_short}
 use Rattle.ip_dissect.specs.Dissection.{ipv4_dissected, dissected}
-use Rattle.ip_dissect.specs.declared.end.End.{End}
 use Rattle.ip_dissect.specs.declared.end.End.TheVariants.{Payload, LaterFragment, Fault}
 use Rattle.ip_dissect.proofs.DissectedLemmas.{begun4}
 use Rattle.ip_rewrite.specs.Headers.{number_of_first, linked_headers}

@@ -7,3 +7,4 @@ pub mod Ipv6Lemmas
 pub mod Ipv4Lemmas
 pub mod DissectLemmas
 pub mod PayloadLemmas
+pub mod ClearingLemmas

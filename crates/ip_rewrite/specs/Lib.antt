@@ -5,3 +5,4 @@ pub mod Selection
 pub mod Writing
 pub mod Without
 pub mod Payload
+pub mod Clearing

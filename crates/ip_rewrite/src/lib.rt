@@ -3,6 +3,7 @@
 
 mod base;
 mod checksum;
+mod clearing;
 mod err;
 mod keeper;
 mod payload;
@@ -13,6 +14,7 @@ mod tests;
 mod which;
 mod write;
 
+pub use clearing::cleared;
 pub use err::RewriteError;
 pub use payload::with_payload;
 pub use removal::{Rewritten, without};

@@ -78,7 +78,7 @@ fn facts_of(which: Which, number: IpNumber, header: &[u8], index: usize) -> Head
 
 /// Returns whether a header fragments the payload.
 #[inline(always)]
-fn fragments(number: IpNumber, header: &[u8]) -> bool
+pub(crate) fn fragments(number: IpNumber, header: &[u8]) -> bool
     requires { IsHeader number.0 header.now }
     ensures { (h : ExtHeader) → h ≡ record { number = number.0; bytes = header.now }
         → result ≡ fragments h }

@@ -1,5 +1,5 @@
 //! Tests: packets that scapy made, before and after a change.
-use crate::{Authentication, RewriteError, Rewritten, Which, with_payload, without};
+use crate::{Authentication, RewriteError, Rewritten, Which, cleared, with_payload, without};
 use ip_base::{IpNumber, ip_number};
 use std::process::Abort;
 use std::test::Fail;
@@ -178,11 +178,21 @@ const ATOMIC_SHORT: [u8; 52] = [
     0x77, 0x78, 0x79, 0x7a,
 ];
 
+/// The first fragment of an IPv6 packet, with a reserved bit set in the authentication header after its fragment header.
+const FIRST_COVERED: [u8; 80] = [
+    0x60, 0x00, 0x00, 0x00, 0x00, 0x28, 0x2c, 0x3f, 0x20, 0x01, 0x0d, 0xb8, 0x00, 0x00, 0x00, 0x00,
+    0x00, 0x00, 0x00, 0x00, 0x00, 0x00, 0x00, 0x01, 0x20, 0x01, 0x0d, 0xb8, 0x00, 0x00, 0x00, 0x00,
+    0x00, 0x00, 0x00, 0x00, 0x00, 0x00, 0x00, 0x02, 0x33, 0x00, 0x00, 0x01, 0xa1, 0xb2, 0xc3, 0xd4,
+    0x11, 0x04, 0x01, 0x00, 0x11, 0x22, 0x33, 0x44, 0x00, 0x00, 0x00, 0x05, 0x99, 0x99, 0x99, 0x99,
+    0x99, 0x99, 0x99, 0x99, 0x99, 0x99, 0x99, 0x99, 0x77, 0x78, 0x79, 0x7a, 0x77, 0x78, 0x79, 0x7a,
+];
+
 /// How a packet is changed.
 #[derive(Clone, Copy, Debug)]
 enum Change<'a> {
     Without(Which),
     Payload(IpNumber, &'a [u8]),
+    Cleared,
 }
 
 /// A packet that is changed, with the byte at an offset replaced and `padding` bytes after it; the room for what is
@@ -233,6 +243,7 @@ fn write(row: &Row<'_>, packet: &[u8], out: &mut [u8]) -> Result<Rewritten, Rewr
         Change::Payload(number, bytes) => {
             with_payload(packet, number, bytes, row.authentication, out)
         }
+        Change::Cleared => cleared(packet, row.authentication, out),
     }
 }
 
@@ -418,6 +429,50 @@ fn payloads(rt: HostRuntime) -> Result<(), Fail> {
         invalid,
         padded,
         small,
+    ];
+    assert_rows(&rt, &rows)
+}
+
+/// Returns a row of a packet whose reserved bits are cleared, with the byte at an offset replaced.
+fn reserved<'a>(
+    packet: &'a [u8],
+    offset: usize,
+    byte: u8,
+    wanted: Result<(&'a [u8], bool), RewriteError>,
+) -> Row<'a> {
+    Row {
+        offset,
+        byte,
+        ..changed(packet, Change::Cleared, wanted)
+    }
+}
+
+#[test]
+fn reserved_bits(rt: HostRuntime) -> Result<(), Fail> {
+    // Bytes 48 to 55 of the first packet are its fragment header. Bytes 50 and 51 of the second one, and 26 and 27 of the
+    // third one, are reserved in an authentication header.
+    let ipv6 = Row {
+        authentication: Authentication::Invalid,
+        ..reserved(&COVERED, 50, 0x80, Ok((&COVERED, true)))
+    };
+    let ipv4 = Row {
+        authentication: Authentication::Invalid,
+        ..reserved(&AUTHENTICATED, 27, 0x01, Ok((&AUTHENTICATED, true)))
+    };
+    let fragmented = Row {
+        authentication: Authentication::Invalid,
+        ..reserved(&FIRST_COVERED, 160, 0, Err(RewriteError::Fragmented))
+    };
+    let rows = [
+        reserved(&FIRST, 49, 0xff, Ok((&FIRST, true))),
+        reserved(&FIRST, 51, 0x07, Ok((&FIRST, true))),
+        reserved(&CHAIN, 160, 0, Ok((&CHAIN, true))),
+        reserved(&COVERED, 160, 0, Ok((&COVERED, true))),
+        reserved(&COVERED, 50, 0x80, Err(RewriteError::Authenticated)),
+        reserved(&FIRST, 51, 0x0f, Err(RewriteError::LaterFragment)),
+        ipv6,
+        ipv4,
+        fragmented,
     ];
     assert_rows(&rt, &rows)
 }

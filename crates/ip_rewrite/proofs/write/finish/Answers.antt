@@ -1,5 +1,4 @@
 use Rattle.ip_spec.proofs.Common.{◌≡◌, ◌+◌, ◌≤◌, ℕ, [], ◌++◌, take, drop, length, subst, ◌∙◌, ap, arith, List, ExtHeader, bytes_of}
-use Rattle.ip_dissect.specs.Dissection.{DissectedParts}
 use Rattle.ip_dissect.specs.declared.outline.Outline.{Outline}
 use Rattle.ip_rewrite.specs.Base.{number_offset, base_stating}
 use Rattle.ip_rewrite.specs.Rewritten.{rewritten_field}

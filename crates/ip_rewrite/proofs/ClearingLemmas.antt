@@ -1,0 +1,121 @@
+-- A packet with cleared reserved bits.
+use Rattle.ip_spec.proofs.Common.{◌≡◌, ℕ, ◌≤◌, List, [], ◌∷◌, ◌++◌, length, inl, inr, refl, sym, ◌∙◌, ap, arith, and_assoc, Bool, cases_Bool, or-false, or_assoc, ◌&&◌, ◌||◌, ◌==◌, list_any, slice_set, slice_index, length-append, length-set, get_or-set_other, get_or-set_same, get_or_append_left, append_assoc, append-nil, AllByRecursion, bit_and, Option, None, IsHeader, cleared_header, cleared_chain, unreserved_bits, ExtHeader, bytes_of}
+use Rattle.std.proofs.lemmas.List.{set-append_left}
+use Rattle.ip_spec.proofs.ClearedLemmas.{cleared_is_chain}
+use Rattle.ip_spec.proofs.HeaderLemmas.{header-least}
+use Rattle.ip_spec.proofs.StepLemmas.{bytes_of-more}
+use Rattle.ip_dissect.specs.LaterDemand.{is_later, has_later}
+use Rattle.ip_dissect.specs.Fragment.{fragments}
+use Rattle.ip_dissect.specs.Dissection.{DissectedParts, dissected}
+use Rattle.ip_dissect.specs.Outline.{IsBaseOf}
+use Rattle.ip_dissect.specs.declared.dissection.BaseHeader.{BaseHeader}
+use Rattle.ip_rewrite.specs.Base.{number_offset}
+use Rattle.ip_rewrite.specs.Rewritten.{rewritten, rewritten_parts}
+use Rattle.ip_rewrite.specs.Without.{packet_fault}
+use Rattle.ip_rewrite.specs.Clearing.{has_reserved, reserved_fragmented, reserved_fault, clearing_fault}
+use Rattle.ip_rewrite.specs.Writing.{link_of}
+use Rattle.ip_rewrite.specs.declared.which.Authentication.{Authentication}
+use Rattle.ip_rewrite.proofs.ChainLemmas.{AreHeaders}
+use Rattle.ip_rewrite.proofs.DissectLemmas.{none_first, IsWholeChain, whole_chain, changed}
+
+-- one more header
+pub reserved_more : (after : Bool) (c : List ExtHeader) (h : ExtHeader) → reserved_fragmented after (c ++ h ∷ []) ≡ (reserved_fragmented after c || (after || list_any fragments c) && has_reserved h)
+reserved_more after [] h = or-false (after && has_reserved h) ∙ ap (λ b. b && has_reserved h) (sym (or-false after))
+reserved_more after (g ∷ c) h =
+    let mine : Bool = after && has_reserved g in
+    let later : Bool = reserved_fragmented (after || fragments g) c in
+    ap (λ x. mine || x) (reserved_more (after || fragments g) c h)
+    ∙ (sym (or_assoc mine later (((after || fragments g) || list_any fragments c) && has_reserved h))
+    ∙ ap (λ b. (mine || later) || b && has_reserved h) (or_assoc after (fragments g) (list_any fragments c)))
+
+pub cleared_more : (c : List ExtHeader) (h : ExtHeader) → bytes_of (cleared_chain (c ++ h ∷ [])) ≡ bytes_of (cleared_chain c) ++ cleared_header h.number h.bytes
+cleared_more [] h = append-nil (cleared_header h.number h.bytes)
+cleared_more (g ∷ c) h = ap (λ x. cleared_header g.number g.bytes ++ x) (cleared_more c h) ∙ sym (append_assoc (cleared_header g.number g.bytes) (bytes_of (cleared_chain c)) (cleared_header h.number h.bytes))
+
+-- the header at the start of bytes
+pub cleared_start : (n : ℕ) (b r : List ℕ) → 4 ≤ length b → cleared_header n (b ++ r) ≡ cleared_header n b ++ r
+cleared_start n b r least = elim (cases_Bool (n == 44)) [
+  | inl s ↦ rw s (
+      ap (λ x. slice_set x 3 (unreserved_bits (slice_index (b ++ r) 3))) (set-append_left b r 1 0 (omega (arith, least)))
+      ∙ (ap (λ x. slice_set (slice_set b 1 0 ++ r) 3 (unreserved_bits x)) (get_or_append_left b r 0 3 (omega (arith, least)))
+      ∙ set-append_left (slice_set b 1 0) r 3 (unreserved_bits (slice_index b 3)) (omega (arith, least, length-set b 1 0))))
+  | inr s ↦ elim (cases_Bool (n == 51)) [
+    | inl t ↦ rw (s, t) (
+        ap (λ x. slice_set x 3 0) (set-append_left b r 2 0 (omega (arith, least)))
+        ∙ set-append_left (slice_set b 2 0) r 3 0 (omega (arith, least, length-set b 2 0)))
+    | inr t ↦ rw (s, t) refl
+  ]
+]
+
+-- what clearing leaves unchanged
+header_len : (n : ℕ) (b : List ℕ) → length (cleared_header n b) ≡ length b
+header_len n b = elim (cases_Bool (n == 44)) [
+  | inl s ↦ rw s (length-set (slice_set b 1 0) 3 (unreserved_bits (slice_index b 3)) ∙ length-set b 1 0)
+  | inr s ↦ elim (cases_Bool (n == 51)) [
+    | inl t ↦ rw (s, t) (length-set (slice_set b 2 0) 3 0 ∙ length-set b 2 0)
+    | inr t ↦ rw (s, t) refl
+  ]
+]
+
+pub cleared_len : (c : List ExtHeader) → length (bytes_of (cleared_chain c)) ≡ length (bytes_of c)
+cleared_len [] = refl
+cleared_len (h ∷ c) = omega (arith, cleared_len c, header_len h.number h.bytes, length-append (cleared_header h.number h.bytes) (bytes_of (cleared_chain c)), length-append h.bytes (bytes_of c))
+
+link_cleared : (l k : ℕ) (b d : List ℕ) (c : List ExtHeader) → length d ≡ length b → l ≡ k → link_of l d (cleared_chain c) ≡ link_of k b c
+link_cleared l k b d [] size same = same
+link_cleared l k b d (h ∷ c) size same = omega (arith, size, link_cleared 0 0 h.bytes (cleared_header h.number h.bytes) c (header_len h.number h.bytes) refl)
+
+pub cleared_link : (l : ℕ) (b : List ℕ) (c : List ExtHeader) → link_of l b (cleared_chain c) ≡ link_of l b c
+cleared_link l b c = link_cleared l l b b c refl refl
+
+-- one more header of a copy is cleared
+pub copy_more : (f r : List ℕ) (c : List ExtHeader) (h : ExtHeader) → f ++ bytes_of (c ++ h ∷ []) ++ r ≡ f ++ bytes_of c ++ (h.bytes ++ r)
+copy_more f r c h = ap (λ x. f ++ x ++ r) (bytes_of-more c h) ∙ (append_assoc f (bytes_of c ++ h.bytes) r ∙ (ap (λ x. f ++ x) (append_assoc (bytes_of c) h.bytes r) ∙ sym (append_assoc f (bytes_of c) (h.bytes ++ r))))
+
+pub copy_cleared : (f r : List ℕ) (c : List ExtHeader) (h : ExtHeader) → f ++ bytes_of (cleared_chain c) ++ cleared_header h.number h.bytes ++ r ≡ f ++ bytes_of (cleared_chain (c ++ h ∷ [])) ++ r
+copy_cleared f r c h = ap (λ x. x ++ r) (append_assoc f (bytes_of (cleared_chain c)) (cleared_header h.number h.bytes) ∙ ap (λ x. f ++ x) (sym (cleared_more c h)))
+
+high_bits : (x : ℕ) → bit_and (unreserved_bits x) 0xf8 ≡ bit_and x 0xf8
+high_bits x = and_assoc 0xf8 x 0xf9
+
+later_same : (h : ExtHeader) → IsHeader h.number h.bytes → is_later (record { number = h.number; bytes = cleared_header h.number h.bytes }) ≡ is_later h
+later_same h x = elim (cases_Bool (h.number == 44)) [
+  | inl s ↦ rw s (fields h.bytes (header-least h.number h.bytes x))
+  | inr s ↦ rw s refl
+]
+  where
+    fields : (b : List ℕ) → 8 ≤ length b → is_later (record { number = 44; bytes = slice_set (slice_set b 1 0) 3 (unreserved_bits (slice_index b 3)) }) ≡ is_later (record { number = 44; bytes = b })
+    fields b least =
+        let d : List ℕ = slice_set (slice_set b 1 0) 3 (unreserved_bits (slice_index b 3)) in
+        let high : slice_index d 2 ≡ slice_index b 2 = get_or-set_other (slice_set b 1 0) 3 2 (unreserved_bits (slice_index b 3)) 0 (λ e. cc) ∙ get_or-set_other b 1 2 0 0 (λ e. cc) in
+        let low : slice_index d 3 ≡ unreserved_bits (slice_index b 3) = get_or-set_same (slice_set b 1 0) 3 (unreserved_bits (slice_index b 3)) 0 (omega (arith, least, length-set b 1 0)) in
+        rw (high, low, high_bits (slice_index b 3)) refl
+
+later_cleared : (c : List ExtHeader) → AreHeaders c → has_later (cleared_chain c) ≡ has_later c
+later_cleared [] a = refl
+later_cleared (h ∷ c) a = ap (λ b. b || has_later (cleared_chain c)) (later_same h a.0) ∙ ap (λ b. is_later h || b) (later_cleared c a.1)
+
+cleared_count : (c : List ExtHeader) → length (cleared_chain c) ≡ length c
+cleared_count [] = refl
+cleared_count (h ∷ c) = omega (arith, cleared_count c)
+
+cleared_numbers : (k : ℕ) (c : List ExtHeader) → AllByRecursion (λ h. h.number ≡ k) c → AllByRecursion (λ h. h.number ≡ k) (cleared_chain c)
+cleared_numbers k [] a = tt
+cleared_numbers k (h ∷ c) a = (a.0, cleared_numbers k c a.1)
+
+pub clearing_dissects : (a : Authentication) (room : ℕ) (s : List ℕ) (o : Option BaseHeader) → IsBaseOf s o → clearing_fault a (dissected s) room ≡ None
+    → dissected (rewritten (dissected s) (cleared_chain (dissected s).headers) (dissected s).number (dissected s).payload) ≡ rewritten_parts (dissected s) (cleared_chain (dissected s).headers) (dissected s).number (dissected s).payload
+clearing_dissects a room s o is e =
+    let p : DissectedParts = dissected s in
+    let first = none_first (packet_fault p) _ e in
+    let second = none_first (reserved_fault a p) _ first.1 in
+    let chain : IsWholeChain p = whole_chain s o is first.0 in
+    let d = cleared_is_chain (slice_index p.base (number_offset p.version)) p.headers chain.chain in
+    changed (cleared_chain p.headers) p.number p.payload room s o is first.0 (record {
+      headers = d.headers;
+      zero = d.zero_only_first;
+      later = later_cleared p.headers chain.chain.headers ∙ chain.later;
+      ipv6 = chain.ipv6;
+      ipv4 = λ v. record { one = omega (arith, (chain.ipv4 v).one, cleared_count p.headers); number = cleared_numbers 51 p.headers (chain.ipv4 v).number };
+      last = λ v n. omega (arith, chain.last v n, cleared_count p.headers);
+    }) second.1

@@ -4,3 +4,4 @@ pub mod HashLemmas
 pub mod MemoryLemmas
 pub mod OldestLemmas
 pub mod ReadLemmas
+pub mod SentLemmas

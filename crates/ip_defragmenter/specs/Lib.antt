@@ -6,6 +6,7 @@ pub mod Slot
 pub mod Slots
 pub mod Checksum
 pub mod Whole
+pub mod Sent
 pub mod Memory
 pub mod Memories
 pub mod Added

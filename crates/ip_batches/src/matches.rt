@@ -18,7 +18,7 @@ impl Batch<'_> {
     {
         let count = self.spans.len().min(matches.len());
         'packets: for index in 0..count {
-            matches[index] = byte_of(filter.matches_in_loop(self.packet(index)));
+            matches[index] = byte_of(filter.matches(self.packet(index)));
         }
     }
 }

@@ -33,17 +33,25 @@ impl<'a> Facts<'a> {
         ensures { result ≡ any_flag 64 mask (dissected self.now.packet.bytes.now) }
     {
         if self.packet.outline.has_error && mask & mask::ERRORS != 0 {
-            return has_one_of_errors(self.packet, self.flags, mask);
+            return self.has_one_of_errors(mask);
         }
         self.flags.has_one_of(mask)
     }
 
+    /// Returns whether the packet has one of the flags that the mask selects, from its error.
+    #[inline(never)]
+    fn has_one_of_errors(&self, mask: u64) -> bool
+        ensures { result ≡ any_flag 64 mask (dissected self.now.packet.bytes.now) }
+    {
+        self.flags.with_end(&self.packet.end()).has_one_of(mask)
+    }
+
     /// Returns whether headers end with an error in the layer with this code.
-    #[inline(always)]
+    #[inline(never)]
     pub(crate) fn is_in_layer(&self, code: u64) -> bool
         ensures { result ≡ is_in_layer code (dissected self.now.packet.bytes.now).end }
     {
-        ends_in_layer(self.packet, code)
+        is_in_layer(&self.packet.end(), code)
     }
 
     /// Returns whether an extension header meets the condition. Walks them again if there is one that can meet it.
@@ -105,23 +113,6 @@ impl<'a> Facts<'a> {
             None => false,
         }
     }
-}
-
-/// Returns whether a packet with these flags, but for errors, has one that the mask selects, from its error.
-#[inline(never)]
-fn has_one_of_errors(packet: Packet<'_>, flags: Flags, mask: u64) -> bool
-    requires { AreKnown (dissected packet.bytes.now) flags }
-    ensures { result ≡ any_flag 64 mask (dissected packet.entry.bytes.now) }
-{
-    flags.with_end(&packet.end()).has_one_of(mask)
-}
-
-/// Returns whether headers end with an error in the layer with this code.
-#[inline(never)]
-fn ends_in_layer(packet: Packet<'_>, code: u64) -> bool
-    ensures { result ≡ is_in_layer code (dissected packet.entry.bytes.now).end }
-{
-    is_in_layer(&packet.end(), code)
 }
 
 /// Returns the number after the base header, and 59 without one.

@@ -27,15 +27,6 @@ impl Filter {
         run_on(self.used_tests(), bytes)
     }
 
-    /// Returns whether the packet at the start of `bytes` passes, as `matches` does, with all tests of a plain packet in line.
-    /// A loop over packets needn't store the parts of each one then; a single call takes longer for tests of flags alone.
-    #[inline(always)]
-    pub fn matches_in_loop(&self, bytes: &[u8]) -> bool
-        ensures { result ≡ passes (tests_of self.now) (λ x. meets x (dissected bytes.now)) }
-    {
-        run_in_loop(self.used_tests(), bytes)
-    }
-
     /// Returns whether a frame passes that is not IP: it meets no test.
     pub fn matches_other(&self) -> bool
         ensures { result ≡ passes (tests_of self.now) (λ x. false) }
@@ -83,29 +74,6 @@ fn run_on_plain(tests: &[Test], packet: Packet<'_>) -> bool
     ensures { result ≡ passes tests.now (λ x. meets x (dissected packet.entry.bytes.now)) }
 {
     run_on_packet(tests, packet, Flags::none().of(&packet))
-}
-
-/// Returns whether the packet at the start of `bytes` passes the tests, which are in line for plain packets.
-#[inline(always)]
-fn run_in_loop(tests: &[Test], bytes: &[u8]) -> bool
-    requires { length tests.now ≤ 64 }
-    ensures { result ≡ passes tests.now (λ x. meets x (dissected bytes.now)) }
-{
-    match Packet::visit(bytes, &mut Tester { tests }) {
-        Visited::Plain(packet) => run_in_line(tests, packet),
-        Visited::Slow(passed) => passed,
-    }
-}
-
-/// Returns whether a plain packet passes, with all tests in line.
-#[inline(always)]
-fn run_in_line(tests: &[Test], packet: Packet<'_>) -> bool
-    requires few { length tests.now ≤ 64 }
-    requires plain { is_plain (dissected packet.bytes.now) ≡ true }
-    ensures { result ≡ passes tests.now (λ x. meets x (dissected packet.entry.bytes.now)) }
-{
-    let flags = Flags::none().of(&packet);
-    run(tests, Some(&Facts { packet, flags }))
 }
 
 /// Returns whether a packet passes that has these flags. Tests of flags come first, if there is no error: they need no other

@@ -15,9 +15,32 @@ void init_counts(struct counts *counts, bool has_inner)
 }
 
 /* A signature has, from the high bits to the low ones, the codes of the headers, the number after them, end and version. */
-enum { HEADER_BITS = 3, NUMBER_BITS = 8, END_BITS = 2, VERSION_BITS = 3, SIGNED_HEADERS = 16 };
+enum { HEADER_BITS = 3, NUMBER_BITS = 8, END_BITS = 2, VERSION_BITS = 3, SIGNED_HEADERS = 16, FEW_HEADERS = 4 };
 
 _Static_assert(SIGNED_HEADERS * HEADER_BITS + NUMBER_BITS + END_BITS + VERSION_BITS <= 64, "a signature must fit");
+
+/* Returns the code of a header, in its place in a signature. None is 0, so that the codes also say how many headers there are. */
+static uint64_t header_code(const struct wolfaren_header *headers, size_t index)
+{
+    static const uint8_t codes[64] = {[WOLFAREN_HOP_BY_HOP] = 1,
+                                      [WOLFAREN_ROUTING] = 2,
+                                      [WOLFAREN_FRAGMENT] = 3,
+                                      [WOLFAREN_AUTHENTICATION] = 4,
+                                      [WOLFAREN_DESTINATION_OPTIONS] = 5};
+    return (uint64_t)codes[headers[index].number % sizeof codes] << HEADER_BITS * index;
+}
+
+/*
+ * Returns the codes of the headers. Those of up to four are made without a branch for each, whose number is hard to predict,
+ * from elements that may be left from an earlier packet.
+ */
+static uint64_t header_codes(const struct wolfaren_header *headers, size_t count)
+{
+    uint64_t few = header_code(headers, 0) | header_code(headers, 1) | header_code(headers, 2) | header_code(headers, 3);
+    if (count <= FEW_HEADERS) return few & (((uint64_t)1 << HEADER_BITS * count) - 1);
+    for (size_t i = FEW_HEADERS; i < count; i++) few |= header_code(headers, i);
+    return few;
+}
 
 /*
  * Returns a number that determines the key of a packet's chain without a path, or 0 if the chain has too many headers for
@@ -25,17 +48,9 @@ _Static_assert(SIGNED_HEADERS * HEADER_BITS + NUMBER_BITS + END_BITS + VERSION_B
  */
 static uint64_t chain_signature(const struct parts *parts)
 {
-    /* none is 0, so that the codes also say how many headers there are */
-    static const uint8_t codes[64] = {[WOLFAREN_HOP_BY_HOP] = 1,
-                                      [WOLFAREN_ROUTING] = 2,
-                                      [WOLFAREN_FRAGMENT] = 3,
-                                      [WOLFAREN_AUTHENTICATION] = 4,
-                                      [WOLFAREN_DESTINATION_OPTIONS] = 5};
     const struct wolfaren_dissection *packet = &parts->packet;
-    uint64_t signature = 0;
     if (packet->headers > SIGNED_HEADERS) return 0;
-    for (size_t i = 0; i < packet->headers; i++)
-        signature = signature << HEADER_BITS | codes[parts->headers[i].number % sizeof codes];
+    uint64_t signature = header_codes(parts->headers, packet->headers);
     signature = signature << NUMBER_BITS | packet->payload_number;
     signature = signature << END_BITS | packet->end;
     return signature << VERSION_BITS | packet->version;

@@ -1,6 +1,7 @@
 #include "parts.h"
 
 #include <stdlib.h>
+#include <string.h>
 
 /* Packets with more extension headers are dissected once more, in a longer array. */
 enum { FIRST_ROOM = 16 };
@@ -10,6 +11,7 @@ static bool make_room(struct parts *parts, size_t room)
     if (room > SIZE_MAX / sizeof *parts->headers) return false;
     struct wolfaren_header *headers = realloc(parts->headers, room * sizeof *headers);
     if (!headers) return false;
+    memset(headers + parts->room, 0, (room - parts->room) * sizeof *headers);
     parts->headers = headers;
     parts->room = room;
     return true;

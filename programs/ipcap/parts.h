@@ -20,7 +20,7 @@ struct parts {
     const uint8_t *bytes; /* the captured bytes of the packet, and what follows it in the frame */
     size_t len;
     struct wolfaren_dissection packet;
-    struct wolfaren_header *headers; /* the extension headers: `packet.headers` elements */
+    struct wolfaren_header *headers; /* the extension headers: `packet.headers` elements; others have any values */
     size_t room;                     /* number of elements allocated */
 };
 

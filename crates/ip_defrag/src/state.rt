@@ -301,10 +301,14 @@ impl ReassemblyState {
             (record s { fragments = with_fragment s.fragments (fragment_at first more bytes.now) }) }
     {
         let end = 8 * first + bytes.len();
+        // read before the marks beside them are written: a load would wait for all stores before it
+        let reach = self.reach.max(end);
+        let count = self.count.saturating_add(bytes.len());
+        let ended = ended_after(self.ended, more);
         store(buffer, 8 * first, bytes);
         mark(&mut self.marks, first, end.div_ceil(8), first_mark_of(more));
-        self.reach = self.reach.max(end);
-        self.count = self.count.saturating_add(bytes.len());
-        self.ended = ended_after(self.ended, more);
+        self.reach = reach;
+        self.count = count;
+        self.ended = ended;
     }
 }

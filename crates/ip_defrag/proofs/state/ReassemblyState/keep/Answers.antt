@@ -10,9 +10,9 @@ returns c = λ s h new. kept (fields_of c.args.self.now c.args.buffer.now) _ s c
       buffer = c.store.ensures;
       room = c.store.auto.buffer;
       marks = λ i. c.mark.ensures i ∙ ap (λ (m : ℕ). cond (leb c.args.first i && ltb i c.div_ceil.result) (cond (eqb i c.args.first) m 3) (get_or c.args.self.now.marks i 0)) c.first_mark_of.ensures;
-      reach = c.max-self.ensures;
-      count = λ fits. omega (arith, fits, c.saturating_add-self.ensures);
-      ended = c.ended_after-self.ensures;
+      reach = c.max-reach.ensures;
+      count = λ fits. omega (arith, fits, c.saturating_add-count.ensures);
+      ended = c.ended_after-ended.ensures;
       abandoned = refl;
       abandons = refl;
     }

@@ -1,10 +1,16 @@
 """Tests of `Defragmenter`. Fragments are made here, and by scapy, which also makes them whole."""
 
 import itertools
+import json
+import os
 import random
+import shutil
+import struct
+import subprocess
+import sys
 import unittest
 
-from support import UDP, fragment, ipv6, ipv6_chain
+from support import UDP, checksum, fragment, ipv4, ipv6, ipv6_chain
 
 import wolfaren
 from wolfaren import Defragmenter
@@ -14,6 +20,59 @@ def pieces(identification, data, size):
     """Returns the fragments of an IPv6 packet with this payload."""
     starts = range(0, len(data), size)
     return [ipv6(44, fragment(17, start // 8, start + size < len(data), identification) + data[start:start + size]) for start in starts]
+
+
+# Sends fragments to the kernel, in a network namespace, and says what arrives.
+KERNEL = ["unshare", "--net", sys.executable, os.path.join(os.path.dirname(__file__), "kernel.py")]
+
+
+def local(packet):
+    """Returns the packet with the addresses of this machine."""
+    if packet[0] >> 4 == 6:
+        return packet[:8] + 2 * (bytes(15) + b"\1") + packet[40:]
+    header = packet[:10] + bytes(2) + 2 * bytes([127, 0, 0, 1])
+    return header[:10] + struct.pack(">H", checksum(header)) + header[12:] + packet[20:]
+
+
+def datagram(version, data):
+    """Returns a UDP datagram to port 9, without a checksum in IPv4 and with one in IPv6."""
+    words = struct.pack(">HHH", 1000, 9, 8 + len(data))
+    if version == 4:
+        return words + bytes(2) + data
+    pseudo = 2 * (bytes(15) + b"\1") + struct.pack(">II", 8 + len(data), 17)
+    return words + struct.pack(">H", checksum(pseudo + words + bytes(2) + data + bytes(len(data) % 2)) or 0xFFFF) + data
+
+
+def piece(version, identification, payload, start, end):
+    """Returns the fragment with these bytes of a payload."""
+    more = end < len(payload)
+    if version == 6:
+        return local(ipv6(44, fragment(17, start // 8, more, identification) + payload[start:end]))
+    packet = ipv4(17, payload[start:end], start // 8 | more << 13)
+    return local(packet[:4] + struct.pack(">H", identification) + packet[6:])
+
+
+def trial(rng, number):
+    """Returns fragments of one packet, some repeated, of which one may be missing or overlapped by another one."""
+    version = rng.choice((4, 6))
+    payload = datagram(version, struct.pack(">I", number) + rng.randbytes(rng.randint(200, 2000)))
+    cuts = [0, *sorted(rng.sample(range(8, len(payload), 8), rng.randint(1, 6))), len(payload)]
+    spans = list(zip(cuts, cuts[1:]))
+    rng.shuffle(spans)
+    kind = rng.choice(("all", "repeated", "missing", "overlap"))
+    if kind == "repeated":
+        spans.insert(rng.randrange(len(spans)), rng.choice(spans))
+    if kind == "missing":
+        spans.pop()
+    if kind == "overlap":
+        start, end = spans[0]
+        spans.insert(1, (max(0, start - 8), start + 8) if start else (0, min(end, len(payload) - 8) // 8 * 8 + 8))
+    return [piece(version, number, payload, *it) for it in spans]
+
+
+def has_namespaces():
+    """Returns whether a network namespace can be made, with both versions of IP."""
+    return shutil.which("unshare") and subprocess.run(KERNEL, input="[]", capture_output=True, text=True, check=False).stdout == "[]"
 
 
 class Defragmenters(unittest.TestCase):
@@ -54,3 +113,17 @@ class Defragmenters(unittest.TestCase):
             found = [it for it in map(defragmenter.add, parts) if it]
             self.assertEqual(found, [bytes(whole)])
             self.assertEqual(found, [bytes(it) for it in defragment([IP(it) for it in parts])])
+
+    @unittest.skipUnless(has_namespaces(), "no network namespace can be made")
+    def test_kernel(self):
+        rng = random.Random(1)
+        trials = [trial(rng, number) for number in range(1, 400)]
+        asked = json.dumps([[it.hex() for it in packets] for packets in trials])
+        arrived = json.loads(subprocess.run(KERNEL, input=asked, capture_output=True, text=True, check=True).stdout)
+        self.assertGreater(sum(it is not None for it in arrived), 100)
+        defragmenter = Defragmenter()
+        for number, (packets, data) in enumerate(zip(trials, arrived), 1):
+            with self.subTest(number):
+                found = [it for it in map(defragmenter.add, packets) if it]
+                headers = 28 if packets[0][0] >> 4 == 4 else 48
+                self.assertEqual([it[headers:].hex() for it in found], [data] if data else [])

@@ -1,10 +1,19 @@
 //! Packets from their fragments.
-ghost use Rattle.std.specs.Prelude.{◌≡◌, length, Ok, Err, None, IsNone};
+ghost use Rattle.std.specs.Prelude.{◌≡◌, ◌≤◌, ◌++◌, ℕ, List, length, drop, slice_index, true, Ok, Err, Some, None, IsNone, OnOk};
 ghost use Rattle.ip_dissect.specs.Dissection.{dissected};
+ghost use Rattle.ip_defrag.specs.Fragment.{Fragment};
+ghost use Rattle.ip_defrag.specs.Split.{IsSplit, are_among};
 ghost use Rattle.ip_defragmenter.specs.FragmentOf.{fragment_in};
+ghost use Rattle.ip_defragmenter.specs.Added.{added_nothing};
+ghost use Rattle.ip_defragmenter.specs.Counts.{counted};
+ghost use Rattle.ip_defragmenter.specs.Memory.{WasStored, first_in};
+ghost use Rattle.ip_defragmenter.specs.Sent.{IsSentIpv6, ipv6_first};
 ghost use Rattle.ip_defragmenter.specs.declared.err.FragmentError.{FragmentError};
 
-use ip_defragmenter::{Outcome, PacketMemory, Slot, defragment};
+use ip_defragmenter::{
+    Defragmenter, DropReason, Outcome, PacketMemory, Slot, WholeError, defragment,
+    whole_packet_is_the_one_sent,
+};
 
 /// Adds a packet that arrived at this time. If it makes its packet whole, writes that to `out` and returns its length in
 /// bytes. Returns `None` if it doesn't, or if the whole packet doesn't fit.
@@ -31,4 +40,46 @@ pub fn whole_packet(
         },
         _ => None,
     }
+}
+
+/// Adds a packet that arrived at this time, and counts it. If it makes its packet whole, writes that to `out` and returns its
+/// length in bytes. Returns `None` if it doesn't, or if the whole packet doesn't fit.
+pub fn counted_packet(
+    defragmenter: &mut Defragmenter<'_>,
+    time: u64,
+    packet: &[u8],
+    out: &mut [u8],
+) -> Option<usize>
+    requires { length defragmenter.old.slots.now ≡ length defragmenter.old.memories.now }
+    ensures other { fragment_in (dissected packet.now) ≡ Ok None → IsNone result
+        × (defragmenter.new.counts.now ≡ counted defragmenter.old.counts.now (added_nothing Outcome.NotFragment)) }
+    ensures unusable { (e : FragmentError) → fragment_in (dissected packet.now) ≡ Err e → IsNone result
+        × (defragmenter.new.counts.now ≡ counted defragmenter.old.counts.now (added_nothing (Outcome.Dropped (DropReason.Unusable e)))) }
+{
+    match defragmenter.add(time, packet).outcome {
+        Outcome::Whole(index) => match defragmenter.memories.get(index) {
+            Some(memory) => match memory.write(out) {
+                Ok(len) => len,
+                Err(_) => None,
+            },
+            None => None,
+        },
+        _ => None,
+    }
+}
+
+/// Writes the whole packet of a memory that was given the fragments of an IPv6 packet, in any order and repeated: it is the
+/// packet that was sent.
+pub fn packet_that_was_sent(
+    memory: &PacketMemory,
+    out: &mut [u8],
+) -> Result<Option<usize>, WholeError>
+    ensures { (s : List ℕ) (n link t limit : ℕ) (pieces given : List Fragment) → IsSentIpv6 s n link
+        → WasStored memory.now limit given → IsSplit (drop n s) pieces → length (drop n s) ≤ limit
+        → are_among given pieces ≡ true → are_among pieces given ≡ true
+        → first_in memory.now ≡ Some (record { headers = ipv6_first s n link t; link = link; number = slice_index s link })
+        → OnOk result ((result ≡ Ok (Some (length s))) × (out.new ≡ s ++ drop (length s) out.old)) }
+{
+    whole_packet_is_the_one_sent();
+    memory.write(out)
 }

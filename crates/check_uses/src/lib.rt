@@ -6,6 +6,7 @@ pub mod base;
 pub mod batches;
 pub mod chain_outcomes;
 pub mod chains;
+pub mod contents;
 pub mod dissections;
 pub mod filters;
 pub mod fragments;

@@ -6,37 +6,40 @@ list the payload that arrived, or null. Run by `unshare --net`.
 
 import fcntl
 import json
+import os
 import socket
 import struct
 import sys
 
-INTERFACE_UP, SET_FLAGS, RAW = 1, 0x8914, 255
+INTERFACE_UP, SET_FLAGS, RAW, PORT = 1, 0x8914, 255, 9
 
 
-def received(sockets):
-    """Returns the payload that arrived, if any."""
-    for it in sockets:
-        try:
-            return it.recv(65536, socket.MSG_DONTWAIT).hex()
-        except BlockingIOError:
-            pass
-    return None
+def received(receiver, address):
+    """Returns the last payload that arrived before a datagram without data, which is sent now, or `None`."""
+    receiver.sendto(b"", (address, PORT))
+    payload = None
+    while data := receiver.recv(65536):
+        payload = data.hex()
+    return payload
 
 
 def main():
-    sockets, raw = [], {}
+    # on one processor, packets arrive in the order in which they are sent
+    os.sched_setaffinity(0, {min(os.sched_getaffinity(0))})
+    sides = {}
     for family, version, address in ((socket.AF_INET, 4, "127.0.0.1"), (socket.AF_INET6, 6, "::1")):
-        raw[version] = (socket.socket(family, socket.SOCK_RAW, RAW), address)
+        sender, receiver = socket.socket(family, socket.SOCK_RAW, RAW), socket.socket(family, socket.SOCK_DGRAM)
         if version == 4:
-            fcntl.ioctl(raw[4][0], SET_FLAGS, struct.pack("16sh22x", b"lo", INTERFACE_UP))
-        sockets.append(socket.socket(family, socket.SOCK_DGRAM))
-        sockets[-1].bind((address, 9))
+            fcntl.ioctl(sender, SET_FLAGS, struct.pack("16sh22x", b"lo", INTERFACE_UP))
+        receiver.bind((address, PORT))
+        receiver.settimeout(10)
+        sides[version] = sender, receiver, address
     answers = []
     for packets in json.load(sys.stdin):
-        for it in map(bytes.fromhex, packets):
-            sender, address = raw[it[0] >> 4]
-            sender.sendto(it, (address, 0))
-        answers.append(received(sockets))
+        sender, receiver, address = sides[bytes.fromhex(packets[0])[0] >> 4]
+        for it in packets:
+            sender.sendto(bytes.fromhex(it), (address, 0))
+        answers.append(received(receiver, address))
     json.dump(answers, sys.stdout)
 
 

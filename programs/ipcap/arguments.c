@@ -1,7 +1,10 @@
 #include "arguments.h"
 
+#include <stdio.h>
 #include <string.h>
 #include <time.h>
+
+#include "wolfaren.h"
 
 bool set_flag(const char *argument, void *place)
 {
@@ -45,6 +48,25 @@ bool read_range_argument(const char *argument, void *place)
         if (!take_number(&argument, &range->last)) return false;
     }
     return *argument == '\0' && range->first > 0 && range->first <= range->last;
+}
+
+/* How long the name of a header can be, with a word before it. */
+enum { MOST_TERM = 64 };
+
+bool read_header_argument(const char *argument, void *place)
+{
+    static const char letters[] = "-0123456789ABCDEFXabcdefghijklmnopqrstuvwxyz";
+    char term[MOST_TERM];
+    struct wolfaren_filter filter;
+    struct wolfaren_filter_error error;
+    uint64_t *headers = place;
+    int len = snprintf(term, sizeof term, "header %s", argument);
+    bool is_word = len < MOST_TERM && argument[strspn(argument, letters)] == '\0';
+    if (!is_word || !wolfaren_parse_filter(term, (size_t)len, &filter, &error)) return false;
+    const struct wolfaren_filter_test *test = &filter.tests[0];
+    if (test->kind != WOLFAREN_TEST_FLAGS || test->number == 0) return false;
+    *headers |= test->number;
+    return true;
 }
 
 /* A number of two or four digits, and the characters of which one follows it, or none. */

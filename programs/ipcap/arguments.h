@@ -27,6 +27,12 @@ bool read_count_argument(const char *argument, void *place);
 bool read_range_argument(const char *argument, void *place);
 
 /*
+ * Reads the name or the number of an extension header, as terms of filters have them: sets the bit with that number of a
+ * `uint64_t`. The bits that are set stay.
+ */
+bool read_header_argument(const char *argument, void *place);
+
+/*
  * Reads a time: a `struct timespec`. It is a date and a time of day as in RFC 3339, in UTC if no offset is given, or a
  * number of seconds since the epoch. Both may have a fraction of up to 9 digits.
  */

@@ -7,5 +7,6 @@ int run_sum(int count, char **arguments);
 int run_filter(int count, char **arguments);
 int run_show(int count, char **arguments);
 int run_defrag(int count, char **arguments);
+int run_rewrite(int count, char **arguments);
 
 #endif

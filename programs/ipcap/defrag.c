@@ -1,14 +1,11 @@
 /* The subcommand `defrag`. */
-#include <errno.h>
 #include <getopt.h>
 #include <stddef.h>
-#include <stdio.h>
-#include <string.h>
-#include <sys/stat.h>
 #include <unistd.h>
 
 #include "arguments.h"
 #include "commands.h"
+#include "copy.h"
 #include "defragment.h"
 #include "input.h"
 #include "long_output.h"
@@ -37,27 +34,6 @@ static const struct option_row options[] = {
     {"keep", set_flag, offsetof(struct request, keeps), NULL},
 };
 
-/* Whether the output is the file to read, which opening it for writing would truncate. */
-static bool is_input(const char *output, const char *path)
-{
-    struct stat to, from;
-    if (stat(output, &to) != 0 || !S_ISREG(to.st_mode)) return false;
-    if ((is_standard_stream(path) ? fstat(STDIN_FILENO, &from) : stat(path, &from)) != 0) return false;
-    return to.st_dev == from.st_dev && to.st_ino == from.st_ino;
-}
-
-/* Opens the output. On failure, reports why and returns false. */
-static bool open_output(struct output *output, const struct request *request, const char *path, struct capture *capture)
-{
-    bool is_standard = is_standard_stream(request->output);
-    const char *name = is_standard ? "standard output" : request->output;
-    bool is_same = !is_standard && is_input(request->output, path);
-    FILE *file = is_same ? NULL : is_standard ? stdout : fopen(request->output, "wb");
-    if (file && begin_long_output(output, capture, file)) return true;
-    complain("%s: %s", name, is_same ? "input and output are the same file" : file ? output->error : strerror(errno));
-    return false;
-}
-
 /* Writes all packets. */
 static bool write_packets(struct output *output, const struct request *request, struct defragmenter *defragmenter,
                           struct capture *capture)
@@ -69,10 +45,7 @@ static bool write_packets(struct output *output, const struct request *request, 
     while (request->keeps && !has_output_failed(output) && next_kept(defragmenter, &packet))
         write_packet(output, capture, &packet);
     report_fragments(defragmenter, capture->name);
-    errno = 0;
-    if (flush_output(output)) return true;
-    complain("%s: %s", is_standard_stream(request->output) ? "standard output" : request->output, output->error);
-    return false;
+    return finish_copy(output, request->output);
 }
 
 static bool defragment_file(const struct request *request, const char *path)
@@ -83,7 +56,7 @@ static bool defragment_file(const struct request *request, const char *path)
     if (!is_standard_stream(request->output)) allow_progress(&input);
     struct defragmenter *defragmenter = begin_defragmenter(request->slots, request->keeps);
     if (!defragmenter) complain_of_memory();
-    bool is_done = defragmenter && open_output(&output, request, path, &input.capture)
+    bool is_done = defragmenter && open_copy(&output, request->output, &input.capture, path, begin_long_output)
         && write_packets(&output, request, defragmenter, &input.capture);
     end_output(&output);
     end_defragmenter(defragmenter);

@@ -8,7 +8,7 @@
 #include <sys/mman.h>
 #include <sys/random.h>
 
-#include "long_output.h"
+#include "blocks.h"
 #include "report.h"
 #include "wolfaren.h"
 
@@ -181,15 +181,10 @@ static void note(struct defragmenter *defragmenter, struct pending *pending, siz
     memcpy(pending->link, packet->frame, packet->ip_offset);
 }
 
-/* Whether numbers of a block are in the byte order in which the least significant byte is the first. */
+/* Whether numbers of the block with a packet are in the byte order in which the least significant byte is the first. */
 static bool is_little(const struct packet *packet)
 {
-    return block_number(packet->block + 4, true) == packet->block_len;
-}
-
-static void put_number(uint8_t *place, uint32_t number, bool is_little)
-{
-    for (int i = 0; i < 4; i++) place[i] = (uint8_t)(number >> (is_little ? 8 * i : 24 - 8 * i));
+    return is_little_endian(packet->block, packet->block_len);
 }
 
 /* Returns the type of the block with a packet. */
@@ -205,21 +200,21 @@ static unsigned block_type(const struct packet *packet)
 static void make_block(struct defragmenter *defragmenter, struct packet *packet)
 {
     bool little = is_little(packet), is_simple = block_type(packet) == SIMPLE_PACKET;
-    uint32_t len = packet->header.caplen, padded = (len + 3) / 4 * 4;
+    uint32_t len = packet->header.caplen, padded = padded_len(len);
     uint8_t *block = is_simple ? defragmenter->block + BLOCK_HEAD - 12 : defragmenter->block;
     uint32_t block_len = (is_simple ? 16 : 32) + padded;
     uint32_t interface = block_number(packet->block + 8, little);
-    put_number(block, is_simple ? SIMPLE_PACKET : ENHANCED_PACKET, little);
-    put_number(block + 4, block_len, little);
+    put_block_number(block, is_simple ? SIMPLE_PACKET : ENHANCED_PACKET, little);
+    put_block_number(block + 4, block_len, little);
     if (!is_simple) {
         bool is_enhanced = block_type(packet) == ENHANCED_PACKET;
         memcpy(block + 8, packet->block + 8, 12);
-        if (!is_enhanced) put_number(block + 8, little ? interface & 0xffff : interface >> 16, little);
-        put_number(block + 20, len, little);
+        if (!is_enhanced) put_block_number(block + 8, little ? interface & 0xffff : interface >> 16, little);
+        put_block_number(block + 20, len, little);
     }
-    put_number(defragmenter->block + BLOCK_HEAD - 4, len, little);
+    put_block_number(defragmenter->block + BLOCK_HEAD - 4, len, little);
     memset(defragmenter->block + BLOCK_HEAD + len, 0, padded - len);
-    put_number(defragmenter->block + BLOCK_HEAD + padded, block_len, little);
+    put_block_number(defragmenter->block + BLOCK_HEAD + padded, block_len, little);
     packet->block = block;
     packet->block_len = block_len;
 }

@@ -4,6 +4,8 @@
 #include <stdlib.h>
 #include <string.h>
 
+#include "blocks.h"
+
 /* The types of blocks of a pcapng file that matter here, and where an interface's snap length is. */
 enum { SECTION_TYPE = 0x0a, INTERFACE_TYPE = 1, SNAP_LEN_OFFSET = 12, LEAST_INTERFACE = 20 };
 
@@ -12,13 +14,6 @@ static void lift_snap_len(uint8_t *block, size_t len, bool is_little)
 {
     bool is_interface = is_little ? block[0] == INTERFACE_TYPE && block[3] == 0 : block[3] == INTERFACE_TYPE && block[0] == 0;
     if (is_interface && block[1] == 0 && block[2] == 0 && len >= LEAST_INTERFACE) memset(block + SNAP_LEN_OFFSET, 0, 4);
-}
-
-uint32_t block_number(const uint8_t *place, bool is_little)
-{
-    uint32_t number = 0;
-    for (int i = 0; i < 4; i++) number |= (uint32_t)place[i] << (is_little ? 8 * i : 24 - 8 * i);
-    return number;
 }
 
 /* Lifts the snap lengths of all interfaces in blocks that begin with that of a section. */
@@ -43,7 +38,7 @@ static bool copy_long_block(struct capture *capture, const uint8_t *block, size_
     uint8_t *copy = malloc(len);
     if (!copy) return copy_block(capture, block, len);
     memcpy(copy, block, len);
-    lift_snap_len(copy, len, block_number(copy + 4, true) == len);
+    lift_snap_len(copy, len, is_little_endian(copy, len));
     bool is_copied = copy_block(capture, copy, len);
     free(copy);
     return is_copied;

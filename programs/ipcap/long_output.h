@@ -10,7 +10,4 @@
  */
 bool begin_long_output(struct output *output, struct capture *capture, FILE *file);
 
-/* Returns the number of 4 bytes in a block of a pcapng file, whose least significant byte is the first one if `is_little`. */
-uint32_t block_number(const uint8_t *place, bool is_little);
-
 #endif

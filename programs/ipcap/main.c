@@ -1,4 +1,4 @@
-/* ipcap: counts, filters and draws chains of IP extension headers in captures. */
+/* ipcap: counts, filters, draws and changes chains of IP extension headers in captures. */
 #include <pcap/pcap.h>
 #include <stdio.h>
 #include <string.h>
@@ -16,8 +16,9 @@ static const char usage[] =
     "       ipcap filter --help-terms\n"
     "       ipcap show [-c N] [--defrag] [--color=WHEN | --one-line | --json | --csv] [FILE]\n"
     "       ipcap defrag [--keep] [--slots N] [-w OUTPUT] [FILE]\n"
+    "       ipcap rewrite --without HEADER [-w OUTPUT] [FILE]\n"
     "       ipcap --help | --version\n"
-    "Counts, filters and draws chains of IP extension headers in captures.\n"
+    "Counts, filters, draws and changes chains of IP extension headers in captures.\n"
     "See `ipcap COMMAND --help` for each command, and the manual page ipcap(1).\n";
 
 struct command {
@@ -27,7 +28,7 @@ struct command {
 };
 
 static char stat_name[] = "ipcap stat", sum_name[] = "ipcap sum", filter_name[] = "ipcap filter",
-            show_name[] = "ipcap show", defrag_name[] = "ipcap defrag";
+            show_name[] = "ipcap show", defrag_name[] = "ipcap defrag", rewrite_name[] = "ipcap rewrite";
 
 static const struct command commands[] = {
     {"stat", stat_name, run_stat},
@@ -35,6 +36,7 @@ static const struct command commands[] = {
     {"filter", filter_name, run_filter},
     {"show", show_name, run_show},
     {"defrag", defrag_name, run_defrag},
+    {"rewrite", rewrite_name, run_rewrite},
 };
 
 int main(int count, char **arguments)

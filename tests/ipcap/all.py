@@ -11,6 +11,7 @@ import test_filter
 import test_library
 import test_link_layers
 import test_pcapng
+import test_rewrite
 import test_show
 import test_stat
 import test_sum
@@ -65,6 +66,12 @@ GROUPS = [("link layers", test_link_layers.link_layers), ("mismatched packets", 
           ("long whole packets", test_defrag.long_packets), ("whole packets in forms of files", test_defrag.forms_of_files),
           ("random fragments", test_defrag.plain_agrees), ("whole packets as tshark has them", test_defrag.tshark_agrees),
           ("whole packets as scapy makes them", test_defrag.scapy_agrees), ("whole packets in other commands", test_defrag.other_commands), ("wrong usage of defrag", test_defrag.wrong_usage),
+          ("packets without headers", test_rewrite.headers), ("bytes besides the headers", test_rewrite.other_bytes),
+          ("outputs of rewrite", test_rewrite.outputs), ("packets that aren't rewritten", test_rewrite.refused),
+          ("rewritten packets in forms of files", test_rewrite.forms_of_files),
+          ("random chains that are rewritten", test_rewrite.random_packets),
+          ("rewritten packets as scapy builds them", test_rewrite.scapy_agrees),
+          ("rewritten packets as tshark reads them", test_rewrite.tshark_agrees), ("wrong usage of rewrite", test_rewrite.wrong_usage),
           ("colours", test_show.colors), ("help and version", test_use.helps), ("completions", test_completion.completions), ("wrong usage", test_use.wrong_usage),
           ("names of files", test_use.names_of_files),
           ("full outputs", test_use.full_outputs), ("terminals", test_use.terminals),

@@ -6,7 +6,7 @@ import shutil
 import subprocess
 
 FOLDER = os.path.join(os.path.dirname(os.path.abspath(__file__)), "..", "..", "programs", "ipcap", "completion")
-COMMANDS = ["stat", "sum", "filter", "show", "defrag"]
+COMMANDS = ["stat", "sum", "filter", "show", "defrag", "rewrite"]
 SCRIPT = 'source "$0"; COMP_WORDS=("$@"); COMP_CWORD=$(($# - 1)); _ipcap; printf "%s\\n" "${COMPREPLY[@]}"'
 
 
@@ -37,11 +37,11 @@ def completions(harness):
         harness.equal(set(completed(harness, command, "-")), wanted, command)
         harness.equal(completed(harness, command, "--v"), ["--version"], command, "--v")
         line = re.search(r"^        %s\) (.*?);;" % command, in_zsh, re.M | re.S)[1]
-        harness.equal(set(re.findall(r"'(--?[a-z-]+=?)\[", line)), wanted - {"--help", "--version"}, command, "in zsh")
+        harness.equal(set(re.findall(r"'\*?(--?[a-z-]+=?)\[", line)), wanted - {"--help", "--version"}, command, "in zsh")
     for words, wanted in [(["stat", "--p"], ["--per-file"]), (["stat", ""], []), (["stat", "-j", ""], []),
                           (["show", "--color", "=", "a"], ["always", "auto"]),
                           (["show", "--color", "="], ["always", "never", "auto"]),
-                          (["show", "--c"], ["--color=", "--csv"]), (["filter", "-w", "a"], []), (["filter", "--since", "1"], []),
+                          (["show", "--c"], ["--color=", "--csv"]), (["rewrite", "--without", "h"], ["hop-by-hop"]), (["filter", "-w", "a"], []), (["filter", "--since", "1"], []),
                           (["filter", "fragment", "an"], ["and"]), (["filter", "trunc"], ["truncated"]),
                           (["filter", "header", "44", "and", "first"], ["first-fragment"])]:
         harness.equal(completed(harness, *words), wanted, words)

@@ -10,7 +10,7 @@ import subprocess
 
 from captures import *
 
-COMMANDS = ["stat", "sum", "filter", "show", "defrag"]
+COMMANDS = ["stat", "sum", "filter", "show", "defrag", "rewrite"]
 
 
 def helps(harness):
@@ -58,6 +58,7 @@ def full_outputs(harness):
                                  (["filter", "header 0"], content),
                                  (["filter", "fault", path], b""), (["filter", "--show", "fault"], b""),
                                  (["filter", "--help-terms"], b""),
+                                 (["rewrite", "--without", "0", path], b""), (["rewrite", "--without", "0"], content),
                                  (["--help"], b""), (["--version"], b"")]:
             answer = harness.run(*arguments, content=given, output=full)
             harness.equal((answer[0], answer[2]), (1, "ipcap: standard output: No space left on device\n"), arguments)
@@ -165,7 +166,7 @@ def bounded_memory(harness):
     """A capture with a thousand times as many packets takes no more memory."""
     frames = [record(ethernet(ipv6_chain(numbers))) for numbers in [[0], [0, 43], [60, 44], [51]]]
     short, long = [harness.file(file_header() + b"".join(frames) * count) for count in [50, 50000]]
-    for command in [["stat"], ["filter", "header 44", "-w", "/dev/null"], ["show"]]:
+    for command in [["stat"], ["filter", "header 44", "-w", "/dev/null"], ["show"], ["rewrite", "--without", "0", "-w", "/dev/null"]]:
         few, many = memory_used(harness.plain + command, short), memory_used(harness.plain + command, long)
         harness.check(few[0] == many[0] == 0 and many[1] < few[1] + 500, command, few, many)
 
@@ -193,7 +194,8 @@ def refused_memory(harness):
     counts = harness.run("stat", "--json", "--tunnels", path)[1]
     harness.settle()
     for arguments, given in [(["stat", path], b""), (["stat", "--tunnels", path], b""),
-                             (["filter", "header 60", path], b""), (["show", path], b""), (["sum"], counts)]:
+                             (["filter", "header 60", path], b""), (["show", path], b""), (["sum"], counts),
+                             (["rewrite", "--without", "60", path], b"")]:
         refuse_each(harness, arguments, given)
 
 
@@ -208,6 +210,7 @@ def damaged_captures(harness):
         for _ in range(draw.choice([1, 2, 5, 20])):
             place = draw.randrange(0 if number % 4 == 0 else 24, len(changed))
             changed[place] = draw.choice([0, 1, 255, draw.randrange(256)])
-        command = [["stat"], ["show"], ["filter", "header 44 or fault"]][number % 3]
+        command = [["stat"], ["show"], ["filter", "header 44 or fault"], ["rewrite", "--without", "0", "--without", "51"]][number % 4]
         status, _, errors, _ = harness.run(*command, content=bytes(changed))
+        errors = re.sub(r"ipcap: .*: \d+ packets? (unchanged:|with a transport) .*\n", "", errors)
         harness.equal(status == 0, errors == "", command, bytes(changed).hex(), errors)

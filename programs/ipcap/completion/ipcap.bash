@@ -20,6 +20,7 @@ _ipcap_argument() {
     case $1 in
         -r | -w) ;;
         -c | -j | --packets | --since | --slots | --top | --until) compopt +o default 2>/dev/null ;;
+        --without) _ipcap_words 'hop-by-hop routing fragment authentication destination-options' "$2" ;;
         --color | =) _ipcap_words 'always never auto' "${2#=}" ;;
         *) return 1 ;;
     esac
@@ -29,7 +30,7 @@ _ipcap() {
     local word=${COMP_WORDS[COMP_CWORD]} options
     COMPREPLY=()
     if [ "$COMP_CWORD" -eq 1 ]; then
-        _ipcap_words 'stat sum filter show defrag --help --version' "$word"
+        _ipcap_words 'stat sum filter show defrag rewrite --help --version' "$word"
         return
     fi
     case ${COMP_WORDS[1]} in
@@ -38,6 +39,7 @@ _ipcap() {
         filter) options='-c -n -r -w --since --until --packets --defrag --show --help-terms' ;;
         show) options='-c --defrag --color= --one-line --json --csv' ;;
         defrag) options='-w --keep --slots' ;;
+        rewrite) options='-w --without' ;;
         *) return ;;
     esac
     _ipcap_argument "${COMP_WORDS[COMP_CWORD-1]}" "$word" && return

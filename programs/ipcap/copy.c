@@ -1,0 +1,41 @@
+#include "copy.h"
+
+#include <errno.h>
+#include <string.h>
+#include <sys/stat.h>
+#include <unistd.h>
+
+#include "report.h"
+#include "source.h"
+
+/* Whether the output is the file to read, which opening it for writing would truncate. */
+static bool is_input(const char *output, const char *path)
+{
+    struct stat to, from;
+    if (stat(output, &to) != 0 || !S_ISREG(to.st_mode)) return false;
+    if ((is_standard_stream(path) ? fstat(STDIN_FILENO, &from) : stat(path, &from)) != 0) return false;
+    return to.st_dev == from.st_dev && to.st_ino == from.st_ino;
+}
+
+static const char *name_of(const char *path)
+{
+    return is_standard_stream(path) ? "standard output" : path;
+}
+
+bool open_copy(struct output *output, const char *path, struct capture *capture, const char *input, begin_call *begin)
+{
+    bool is_standard = is_standard_stream(path);
+    bool is_same = !is_standard && is_input(path, input);
+    FILE *file = is_same ? NULL : is_standard ? stdout : fopen(path, "wb");
+    if (file && begin(output, capture, file)) return true;
+    complain("%s: %s", name_of(path), is_same ? "input and output are the same file" : file ? output->error : strerror(errno));
+    return false;
+}
+
+bool finish_copy(struct output *output, const char *path)
+{
+    errno = 0;
+    if (flush_output(output)) return true;
+    complain("%s: %s", name_of(path), output->error);
+    return false;
+}

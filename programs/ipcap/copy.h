@@ -1,0 +1,19 @@
+/* The output of commands that read one capture and write one. Errors are reported. */
+#ifndef IPCAP_COPY_H
+#define IPCAP_COPY_H
+
+#include "output.h"
+
+/* Begins an output in the format of a capture: `begin_output` or `begin_long_output`. */
+typedef bool begin_call(struct output *output, struct capture *capture, FILE *file);
+
+/*
+ * Opens the file `path`, or standard output if that is null or `-`, and begins the output of the capture that was read from
+ * `input`. The file must be another one than the input. On failure, reports why and returns false.
+ */
+bool open_copy(struct output *output, const char *path, struct capture *capture, const char *input, begin_call *begin);
+
+/* Flushes the output. Returns false if that or an earlier write failed, which is reported. */
+bool finish_copy(struct output *output, const char *path);
+
+#endif

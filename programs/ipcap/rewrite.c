@@ -1,0 +1,71 @@
+/* The subcommand `rewrite`. */
+#include <getopt.h>
+#include <stddef.h>
+#include <unistd.h>
+
+#include "arguments.h"
+#include "commands.h"
+#include "copy.h"
+#include "input.h"
+#include "options.h"
+#include "report.h"
+#include "rewriter.h"
+
+static const char usage[] =
+    "usage: ipcap rewrite --without HEADER [-w OUTPUT] [FILE]\n"
+    "Writes the packets of FILE, or standard input, without some of their extension headers.\n"
+    "  --without HEADER  leave out this header, such as `hop-by-hop` or 0; can be given several times\n"
+    "  -w OUTPUT         write to this file instead of standard output\n"
+    "  --help            print this help\n"
+    "  --version         print the version\n";
+
+/* The values of the options. */
+struct request {
+    const char *output;
+    uint64_t without;
+};
+
+static const struct option_row options[] = {
+    {"w", read_text_argument, offsetof(struct request, output), "a path"},
+    {"without", read_header_argument, offsetof(struct request, without), "an extension header, such as hop-by-hop or 0"},
+};
+
+/* Writes all packets. */
+static bool write_packets(struct output *output, const struct request *request, struct rewriter *rewriter,
+                          struct capture *capture)
+{
+    struct packet packet;
+    bool is_done = true;
+    while (is_done && !has_output_failed(output) && read_packet(capture, &packet)) {
+        is_done = rewrite_packet(rewriter, &packet);
+        if (is_done) write_packet(output, capture, &packet);
+    }
+    report_rewrites(rewriter, capture->name);
+    return finish_copy(output, request->output) && is_done;
+}
+
+static bool rewrite_file(const struct request *request, const char *path)
+{
+    struct input input;
+    struct output output = {0};
+    struct rewriter rewriter = {.without = request->without};
+    if (!open_input(&input, path)) return false;
+    if (!is_standard_stream(request->output)) allow_progress(&input);
+    bool is_done = open_copy(&output, request->output, &input.capture, path, begin_output)
+        && write_packets(&output, request, &rewriter, &input.capture);
+    end_output(&output);
+    end_rewriter(&rewriter);
+    return close_input(&input) && is_done;
+}
+
+int run_rewrite(int count, char **arguments)
+{
+    struct request request = {0};
+    int status = read_options(count, arguments, usage, options, sizeof options / sizeof *options, &request);
+    if (status >= 0) return status;
+    if (request.without == 0) return refuse_usage(usage, "--without is missing: there is nothing to rewrite");
+    if (count - optind > 1) return refuse_usage(usage, "rewrite reads a single file");
+    if (is_standard_stream(request.output) && isatty(STDOUT_FILENO))
+        return refuse_usage(usage, "refusing to write a capture to a terminal: use -w or a pipe");
+    return rewrite_file(&request, arguments[optind]) ? STATUS_DONE : STATUS_FAILED;
+}

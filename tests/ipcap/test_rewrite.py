@@ -1,0 +1,279 @@
+"""Tests of `ipcap rewrite`. Packets without headers are built here, and read by tshark and scapy."""
+
+import itertools
+import random
+import struct
+import xml.etree.ElementTree
+
+from blocks import interface, obsolete, option, packet, section, simple
+from captures import *
+
+NAMES = {0: ["hop-by-hop", "hopopt", "0", "0x0"], 43: ["routing", "route", "43", "0x2b"], 44: ["fragment", "frag", "44", "0x2C"],
+         51: ["authentication", "ah", "51"], 60: ["destination-options", "dstopts", "60"]}
+COVERED = "an authentication header that covers the change"
+
+
+def frames_of(content, order="<"):
+    """The frames of a classic capture, each with its time and its length before truncation."""
+    found, at = [], 24
+    while at < len(content):
+        seconds, fraction, kept, length = struct.unpack(order + "IIII", content[at:at + 16])
+        found.append((seconds, fraction, length, content[at + 16:at + 16 + kept]))
+        at += 16 + kept
+    return found
+
+
+def arguments_for(numbers):
+    return [word for number in numbers for word in ("--without", str(number))]
+
+
+def rewrite(harness, frames, *numbers, status=0):
+    """Runs `rewrite` on frames, each one second after the one before. Returns the frames that it writes, and its messages."""
+    path = harness.file(capture(frames))
+    found = harness.run("rewrite", *arguments_for(numbers), path)
+    harness.equal(found[0], status, "status of rewrite", found[2])
+    times = [(seconds, fraction) for seconds, fraction, _, _ in frames_of(found[1])]
+    harness.equal(times, [(1000 + i, 5 + i) for i in range(len(frames))], "times")
+    return [it for _, _, _, it in frames_of(found[1])], found[2].replace("ipcap: %s: " % path, "")
+
+
+def chains(most):
+    """All chains of so many headers at most, of which only the first may be hop-by-hop options."""
+    later = [43, 44, 51, 60]
+    for count in range(most + 1):
+        for numbers in itertools.product([0] + later, *[later] * (count - 1)) if count else [()]:
+            yield list(numbers)
+
+
+def headers(harness):
+    """Any headers are left out of any chain: alone, together, by name or by number."""
+    for left_out in [[0], [43], [44], [51], [60], [0, 60], [60, 51, 0], [51, 43], [0, 43, 44, 51, 60]]:
+        frames, wanted, covered = [], [], 0
+        for numbers, units in itertools.product(chains(3), [0, 2]):
+            kept = [it for it in numbers if it not in left_out]
+            frames.append(ethernet(ipv6_chain(numbers, units=units)))
+            is_covered = 51 in kept and kept != numbers
+            covered += is_covered
+            wanted.append(frames[-1] if is_covered else ethernet(ipv6_chain(kept, units=units)))
+        found = rewrite(harness, frames, *left_out)
+        harness.equal(found[0], wanted, "chains without", left_out)
+        harness.equal(found[1], "%d packets unchanged: %s\n" % (covered, COVERED) if covered else "", "messages")
+    frame = ethernet(ipv6_chain([0, 43, 44, 60]))
+    for number, names in NAMES.items():
+        for name in names:
+            wanted = frame if number == 51 else ethernet(ipv6_chain([it for it in [0, 43, 44, 60] if it != number]))
+            harness.equal(rewrite(harness, [frame], name)[0], [wanted], name)
+
+
+def other_bytes(harness):
+    """All bytes but those of the header stay: of other packets, link layers, and after the packet."""
+    plain, arp = ethernet(ipv6_chain([])), ethernet(bytes(28), (), 0x0806)
+    wanted, packets = [plain, arp, b"\1\2", ethernet(b"\x60")], [plain, arp, b"\1\2", ethernet(b"\x60")]
+    for after in range(0, 20, 3):
+        padding = bytes(range(0xe0, 0xe0 + after))
+        for tags in [(), (0x8100,), (0x88a8, 0x8100)]:
+            packets.append(ethernet(ipv6_chain([0, 60]), tags, 0x86DD) + padding)
+            wanted.append(ethernet(ipv6_chain([60]), tags, 0x86DD) + padding)
+        packets.append(ethernet(ipv4(17, UDP)) + padding)
+        wanted.append(packets[-1])
+    harness.equal(rewrite(harness, packets, 0), (wanted, ""), "frames")
+    ipv4_packets = [ethernet(ipv4(51, authentication(6) + TCP, words=words, option_bytes=bytes([1]) * 4 * (words - 5))) for words in (5, 7)]
+    wanted = [ethernet(ipv4(6, TCP, words=words, option_bytes=bytes([1]) * 4 * (words - 5))) for words in (5, 7)]
+    harness.equal(rewrite(harness, ipv4_packets, 51), (wanted, ""), "IPv4")
+    jumbo, without = [bytearray(ethernet(ipv6_chain(numbers))) for numbers in ([0, 60], [0])]
+    jumbo[18:20] = without[18:20] = b"\0\0"
+    harness.equal(rewrite(harness, [bytes(jumbo)], 60), ([bytes(without)], ""), "a packet that states no length")
+    for link_layer, head in [(RAW, b""), (NULL, struct.pack("<I", 10)), (IPV6, b""), (SLL, cooked(b"", 0x86DD)), (SLL2, cooked2(b"", 0x86DD))]:
+        found = harness.run("rewrite", "--without", "0", content=capture([head + ipv6_chain([0])], link_layer))
+        harness.equal(found, (0, capture([head + ipv6_chain([])], link_layer), "", None), "link layer", link_layer)
+
+
+def outputs(harness):
+    """The same is written to a file, to standard output, and from standard input."""
+    content, wanted = [capture([ethernet(ipv6_chain(numbers)), ethernet(ipv6_chain([]))]) for numbers in ([60], [])]
+    path = harness.file(content)
+    harness.equal(harness.run("rewrite", "--without=60", path), (0, wanted, "", None), "standard output")
+    harness.equal(harness.run("rewrite", "-w", "{}", "--without", "60", path), (0, b"", "", wanted), "a file")
+    harness.equal(harness.run("rewrite", "--without", "60", content=content), (0, wanted, "", None), "standard input")
+    harness.equal(harness.run("rewrite", "--without", "60", "-", content=content[:-3])[0], 1, "a truncated capture")
+
+
+def refused(harness):
+    """Packets that can't be changed stay as they are, and are counted by reason."""
+    first = ipv6(0, options(44) + fragment(60, 0, 1) + options(17) + bytes(8))
+    rows = [([60], first, "a header in the part that is fragmented"), ([44], first, "the fragment header of a fragment"),
+            ([0], ipv6(0, options(44) + LATER_FRAGMENT[40:]), "a later fragment"),
+            ([0], ipv6(0, options(60) + b"\x11\x09" + bytes(6)), "headers that are truncated or faulty"),
+            ([0], ipv6(0, options(17) + UDP, 30), "bytes that are missing"), ([0, 60], ipv6_chain([0, 51, 60]), COVERED),
+            ([60, 44], first, "the fragment header of a fragment"), ([0, 60], first, "a header in the part that is fragmented"),
+            ([51], ipv4(51, authentication(6) + TCP, 0x2000), "a header in the part that is fragmented"),
+            ([51], ipv4(51, authentication(51) + bytes(24)), "a payload that would be read as a header")]
+    for left_out, refused_packet, reason in rows:
+        frame = ethernet(refused_packet)
+        harness.equal(rewrite(harness, [frame], *left_out), ([frame], "1 packet unchanged: %s\n" % reason), left_out)
+        harness.equal(rewrite(harness, [frame, frame], *left_out)[1], "2 packets unchanged: %s\n" % reason, left_out)
+    frames = [ethernet(it) for left_out, it, _ in rows if 0 in left_out]
+    found = rewrite(harness, frames, 0, 60)[1]
+    harness.equal([line.split(" ", 1)[0] for line in found.splitlines()], ["1", "1", "1", "1", "1"], "reasons in order", found)
+    harness.equal(rewrite(harness, [ethernet(first)], 0)[0], [ethernet(ipv6(44, fragment(60, 0, 1) + options(17) + bytes(8)))], "a first fragment")
+    # packets without such a header aren't counted, whatever else is wrong with them
+    frames = [ethernet(ipv6_chain([43]))[:50], ethernet(LATER_FRAGMENT), ethernet(b"\x50" * 40)]
+    harness.equal(rewrite(harness, frames, 0), (frames, ""), "other packets")
+    left = ipv6(43, b"\x11\x02\x04\x01\0\0\0\0" + bytes(15) + b"\x09" + UDP)
+    found = rewrite(harness, [ethernet(left)], 43)
+    harness.equal(found, ([ethernet(ipv6_chain([]))], "1 packet with a transport checksum that no longer holds\n"), "segments left")
+
+
+def forms_of_files(harness):
+    """Blocks of pcapng files keep their times, interfaces and comments."""
+    comment = option(1, b"note") + struct.pack("<HH", 0, 0)
+    for order, extra in itertools.product("<>", range(4)):
+        old, new = [ethernet(ipv6_chain(numbers, payload=UDP + bytes(extra))) for numbers in ([0, 60], [60])]
+        note = struct.pack(order + "HH4sHH", 1, 4, b"note", 0, 0)
+        def blocks(frame, padding=b""):
+            return (section(order) + interface(order=order) + interface(snap_len=96, order=order)
+                    + packet(frame + padding, 1, 77, options=note, order=order) + packet(frame, 0, 78, order=order)
+                    + obsolete(frame, 1, 79, order=order) + interface(RAW, order=order))
+        for padding in (b"", b"\xee\xef"):
+            found = harness.run("rewrite", "--without", "0", content=blocks(old, padding))
+            harness.equal(found, (0, blocks(new, padding), "", None), "blocks", order, extra)
+        whole = section(order) + interface(order=order)
+        found = harness.run("rewrite", "--without", "0", content=whole + simple(old, order=order))
+        harness.equal(found, (0, whole + simple(new, order=order), "", None), "simple packet block", order, extra)
+    old, new = [ethernet(ipv6_chain(numbers)) for numbers in ([0, 60], [60])]
+    head = section() + interface(snap_len=len(old) + 2)
+    content = head + simple(old + bytes(9), len(old) + 2)
+    found = harness.run("rewrite", "--without", "0", content=content)
+    harness.equal(found[:2], (0, content), "a simple packet block that is truncated")
+    harness.check("1 packet unchanged: bytes that are missing" in found[2], found[2])
+    content, wanted = [head + packet(it + bytes(9), kept=len(it) + 2, options=comment) for it in (old, new)]
+    harness.equal(harness.run("rewrite", "--without", "0", content=content), (0, wanted, "", None), "a truncated block")
+    for magic, order in itertools.product((MICROSECONDS, NANOSECONDS), "<>"):
+        content, wanted = [file_header(snap_len=90, magic=magic, order=order) + record(it + bytes(40), len(it) + 4, order=order) for it in (old, new)]
+        found = harness.run("rewrite", "--without", "0", content=content)
+        native = file_header(snap_len=90, magic=magic) + record(new + bytes(40), len(new) + 4)
+        harness.equal(found, (0, native, "", None), "classic form", magic, order)
+
+
+def random_packet(rng, left_out):
+    """A frame, the one that is wanted, and whether it is refused: chains of any length, some with a fragment."""
+    numbers = [rng.choice([43, 60, 51, 60, 44]) for _ in range(rng.randint(0, 12))]
+    numbers = [0] * rng.randint(0, 1) + numbers
+    units, data = rng.randint(0, 3), UDP + rng.randbytes(rng.randint(0, 30))
+    kept = [it for it in numbers if it not in left_out]
+    padding = bytes(rng.randint(0, 9))
+    old = ethernet(ipv6_chain(numbers, payload=data, units=units)) + padding
+    is_refused = kept != numbers and 51 in kept
+    return old, old if is_refused else ethernet(ipv6_chain(kept, payload=data, units=units)) + padding, is_refused
+
+
+def random_packets(harness):
+    """Random chains without random headers."""
+    for seed in range(40):
+        rng = random.Random(seed)
+        left_out = rng.sample([0, 43, 44, 51, 60], rng.randint(1, 5))
+        rows = [random_packet(rng, left_out) for _ in range(200)]
+        content = capture([old for old, _, _ in rows])
+        command = harness.run if seed < 4 else lambda *words, content: harness.answer(harness.plain, words, content, None)
+        found = command("rewrite", *arguments_for(left_out), content=content)
+        harness.equal(found[1], capture([new for _, new, _ in rows]), "random chains", seed, left_out)
+        count = sum(is_refused for _, _, is_refused in rows)
+        harness.equal(found[2].split(" ")[3:4], [str(count)] if count else [], "refused", found[2])
+
+
+def packets_for_readers():
+    """Packets with good checksums, and headers that tshark reads field by field."""
+    from scapy.layers.inet import IP, TCP as ScapyTcp, UDP as ScapyUdp
+    from scapy.layers.inet6 import (ICMPv6EchoRequest, IPv6, IPv6ExtHdrDestOpt, IPv6ExtHdrFragment, IPv6ExtHdrHopByHop,
+                                    IPv6ExtHdrRouting, PadN, RouterAlert)
+    from scapy.layers.ipsec import AH
+    upper = [ScapyUdp(sport=5000, dport=9999) / b"payload", ScapyTcp(sport=5000, dport=80, flags="S"), ICMPv6EchoRequest(data=b"echo"),
+             ScapyUdp(sport=5000, dport=9999) / bytes(97)]
+    options_of = {0: lambda: IPv6ExtHdrHopByHop(options=[RouterAlert(), PadN(optdata=b"\0" * 4)]),
+                  60: lambda: IPv6ExtHdrDestOpt(options=[PadN(optdata=b"\0" * 4)]), 43: lambda: IPv6ExtHdrRouting(addresses=[], segleft=0),
+                  44: lambda: IPv6ExtHdrFragment(id=77)}
+
+    def built(numbers, payload):
+        found = IPv6(src="2001:db8::1", dst="2001:db8::2", fl=0x12345, tc=3)
+        for number in numbers:
+            found = found / options_of[number]()
+        return bytes(found / payload)
+
+    def built_ipv4(payload):
+        """Returns a packet with an authentication header, and without it."""
+        plain = IP(bytes(IP(src="192.0.2.1", dst="192.0.2.2", id=5) / payload))
+        header = AH(nh=plain.proto, payloadlen=4, spi=9, seq=1, icv=bytes(12))
+        return bytes(IP(src="192.0.2.1", dst="192.0.2.2", id=5) / header / bytes(plain.payload)), bytes(plain)
+    return built, built_ipv4, upper
+
+
+def scapy_agrees(harness):
+    """What is written is what scapy builds without the header, checksums included."""
+    built, built_ipv4, upper = packets_for_readers()
+    for left_out in (0, 60, 43, 44):
+        frames, wanted = [], []
+        for payload in upper:
+            for numbers in [[0], [0, 60], [60, 43], [0, 43, 44, 60], [44], [60, 0][::-1], [0, 60, 43, 44, 60]]:
+                frames.append(ethernet(built(numbers, payload)))
+                wanted.append(ethernet(built([it for it in numbers if it != left_out], payload)))
+        harness.equal(rewrite(harness, frames, left_out), (wanted, ""), "as scapy builds them without", left_out)
+    frames, wanted = zip(*[[ethernet(packet_bytes) for packet_bytes in built_ipv4(it)] for it in upper[:2]])
+    harness.equal(rewrite(harness, list(frames), "ah"), (list(wanted), ""), "IPv4")
+
+
+# what differs in a packet without a header, besides the fields of the header and the next header fields of others
+OTHERWISE = {"frame.len", "frame.cap_len", "frame.protocols", "ipv6.plen", "ip.len", "ip.proto", "ip.checksum", "ip.checksum_calculated", "len", "caplen", ""}
+
+
+def fields_of(harness, content, *header):
+    """Returns the fields of each packet, as pairs of name and value, without those of some protocols and headers."""
+    path = harness.file(content)
+    found = harness.tshark(path, "-T", "pdml", "-o", "ip.check_checksum:TRUE", "-o", "udp.check_checksum:TRUE", "-o", "tcp.check_checksum:TRUE",
+                           "-o", "ipv6.defragment:FALSE")
+
+    def walk(node):
+        name = node.get("name")
+        if name in header:
+            return []
+        is_own = node.tag == "field" and name not in OTHERWISE and not name.endswith(".nxt")
+        return [(name, node.get("show"))] * is_own + [it for child in node for it in walk(child)]
+    packets = xml.etree.ElementTree.fromstring(found).findall("packet")
+    return [[it for proto in one if proto.get("name") != "geninfo" for it in walk(proto)] for one in packets]
+
+
+def tshark_agrees(harness):
+    """tshark reads a packet as before, field by field, but for the header that was left out."""
+    built, built_ipv4, upper = packets_for_readers()
+    for left_out, name in [(0, "ipv6.hopopts"), (60, "ipv6.dstopts"), (43, "ipv6.routing"), (44, "ipv6.fraghdr")]:
+        chains_of = [[0, 60], [0], [left_out], [0, 43, 60], [44, 60], [60]]
+        content = capture([ethernet(built(numbers, payload)) for payload in upper for numbers in chains_of])
+        written = harness.run("rewrite", *arguments_for([left_out]), content=content)[1]
+        before, after = fields_of(harness, content, name), fields_of(harness, written, name)
+        harness.equal(len(after), len(before), "number of packets")
+        for one, other in zip(before, after):
+            harness.equal(other, one, "fields without", name)
+        harness.check(name.encode() not in harness.tshark(harness.file(written), "-T", "pdml"), name, "is still there")
+        harness.check(all(("udp.checksum.status", "1") in it or ("tcp.checksum.status", "1") in it or ("icmpv6.checksum.status", "1") in it
+                          for it in after), "checksums")
+    content = capture([ethernet(built_ipv4(it)[0]) for it in upper[:2]])
+    written = harness.run("rewrite", "--without", "ah", content=content)[1]
+    before, after = fields_of(harness, content, "ah"), fields_of(harness, written)
+    harness.equal(after, before, "fields of IPv4 packets")
+    harness.check(all(("ip.checksum.status", "1") in it for it in after), "checksums of IPv4 headers")
+
+
+def wrong_usage(harness):
+    """What `rewrite` refuses."""
+    path = harness.file(capture([]))
+    for arguments in [[], [path], ["--without"], ["--without", "0", "a", "b"], ["--without", "0", "-c", "1"]]:
+        harness.equal(harness.run("rewrite", *arguments)[0], 2, "status of", arguments)
+    for name in ["", "17", "tcp", "256", "-1", "0 or ip", "0)", "esp", "h", "hop-by-hop ", " 0", "0,60", "x" * 100, "044"]:
+        found = harness.run("rewrite", "--without", name, path)
+        harness.equal(found[0], 2, "status of --without", name)
+        harness.check("--without must be an extension header" in found[2], found[2])
+    found = harness.run("rewrite", "--without", "0", "-w", path, path)
+    harness.equal(found[0], 1, "the input as output")
+    harness.check("input and output are the same file" in found[2], found[2])
+    harness.equal(harness.run("rewrite", "--without", "0", "-w", "/nonexistent/x", path)[0], 1, "an output that can't be opened")
+    harness.equal(harness.run("rewrite", "--without", "0", "/nonexistent/x")[0], 1, "an input that can't be opened")
+    harness.equal(harness.run("rewrite", "--without", "0", path), (0, capture([]), "", None), "an empty capture")

@@ -8,3 +8,4 @@ pub mod Ipv4Lemmas
 pub mod DissectLemmas
 pub mod PayloadLemmas
 pub mod ClearingLemmas
+pub mod InsertionLemmas

@@ -1,13 +1,13 @@
 -- Another payload after the headers of a packet.
-use Rattle.ip_spec.proofs.Common.{◌≡◌, ℕ, ◌≤◌, List, [], ◌∷◌, length, inl, inr, subst, refl, sym, ◌∙◌, ap, arith, common_steps, Bool, true, false, false≢true, cases_Bool, cond-true, cond-false, eq-eqb, eqb-true, ◌&&◌, ◌||◌, ◌==◌, ◌↔◌, IsTrue, Option, None, option_or, IsExtensionNumber, ExtHeader, is_empty}
+use Rattle.ip_spec.proofs.Common.{◌≡◌, ℕ, ◌≤◌, List, [], ◌∷◌, length, inl, inr, subst, refl, sym, ◌∙◌, arith, common_steps, Bool, true, false, false≢true, cases_Bool, eq-eqb, ◌==◌, ◌↔◌, IsTrue, Option, None, IsExtensionNumber, ExtHeader, is_empty}
 use Rattle.ip_dissect.specs.Dissection.{DissectedParts, dissected}
 use Rattle.ip_dissect.specs.Outline.{IsBaseOf}
 use Rattle.ip_dissect.specs.declared.dissection.BaseHeader.{BaseHeader}
-use Rattle.ip_rewrite.specs.Rewritten.{is_extension, is_read_on, rewritten, rewritten_parts, room_fault}
+use Rattle.ip_rewrite.specs.Rewritten.{is_extension, is_read_on, rewritten, rewritten_parts}
 use Rattle.ip_rewrite.specs.Without.{packet_fault}
 use Rattle.ip_rewrite.specs.Payload.{replacement_fault, payload_fault}
 use Rattle.ip_rewrite.specs.declared.which.Authentication.{Authentication}
-use Rattle.ip_rewrite.proofs.DissectLemmas.{none_first, IsWholeChain, whole_chain, CanFollow, changed}
+use Rattle.ip_rewrite.proofs.DissectLemmas.{none_first, IsWholeChain, whole_chain, changed}
 
 pub empty_count : (c : List ExtHeader) → (length c == 0) ≡ is_empty c
 empty_count [] = refl

@@ -6,3 +6,4 @@ pub mod Writing
 pub mod Without
 pub mod Payload
 pub mod Clearing
+pub mod Insertion

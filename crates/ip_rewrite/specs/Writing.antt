@@ -1,5 +1,5 @@
 -- What is known while a packet is written.
-use Rattle.std.specs.Prelude.{◌≡◌, ◌<◌, ℕ, ◌+◌, true, false, ◌||◌, ◌&&◌, not, ◌++◌, List, [], ◌∷◌, length, drop, slice_set, slice_index, if◌then◌else◌}
+use Rattle.std.specs.Prelude.{◌≡◌, ◌<◌, nat_lt, ℕ, ◌+◌, true, false, ◌||◌, ◌&&◌, not, ◌++◌, List, [], ◌∷◌, length, drop, slice_set, slice_index, if◌then◌else◌}
 use Rattle.std.specs.List.{list_any, AllByRecursion}
 use Rattle.ip_spec.specs.Header.{IsHeader}
 use Rattle.ip_spec.specs.Chain.{ExtHeader, bytes_of, leads_to}
@@ -7,6 +7,7 @@ use Rattle.ip_dissect.specs.Fragment.{fragments}
 use Rattle.ip_rewrite.specs.Headers.{number_of_first, linked_headers}
 use Rattle.ip_rewrite.specs.Selection.{selects, kept, any_selected, selects_fragmented}
 use Rattle.ip_rewrite.specs.Without.{is_authentication, has_segments}
+use Rattle.ip_rewrite.specs.Insertion.{inserted}
 use Rattle.ip_rewrite.specs.declared.which.Which.{Which}
 use Rattle.ip_rewrite.specs.declared.survey.Survey.{Survey}
 use Rattle.ip_rewrite.specs.declared.survey.HeaderFacts.{HeaderFacts}
@@ -57,6 +58,10 @@ surveyed v c = record v {
   keeps_authentication = v.keeps_authentication || list_any is_authentication (kept v.which c);
   kept_len = v.kept_len + length (bytes_of (kept v.which c));
 }
+
+-- the headers c, with h at its place if that is before the last of them
+abbrev pub inserted_so_far : ℕ → ExtHeader → List ExtHeader → List ExtHeader
+inserted_so_far i h c = if nat_lt i (length c) then inserted i h c else c
 
 -- The base header b, in which the number of what follows is at the offset l, and the headers c after it, each of which leads
 -- to the next one, and the last to m.

@@ -14,6 +14,12 @@ pub enum RewriteError {
     /// The packet is a fragment with an offset other than 0: it has no chain of its own (RFC 8200, section 4.5).
     #[error("the packet is a later fragment")]
     LaterFragment,
+    /// The bytes aren't one extension header of the number, or it can't be in a packet of the version.
+    #[error("the bytes are no extension header for the packet")]
+    NotAHeader,
+    /// The header can't be at the place (RFC 8200, section 4.1).
+    #[error("the header can't be at this place")]
+    Misplaced,
     /// No header is selected.
     #[error("the packet has no such header")]
     NoHeader,

@@ -45,6 +45,19 @@ pub(crate) fn put_at(out: &mut [u8], offset: usize, bytes: &[u8])
     }
 }
 
+/// Writes one more header after `len` bytes, of which the one at `link` is the number of what follows them.
+#[inline(always)]
+pub(crate) fn append(out: &mut [u8], len: usize, link: usize, number: IpNumber, header: &[u8])
+    requires { IsHeader number.0 header.now }
+    ensures { (l : ℕ) (b buffer : List ℕ) (c : List ExtHeader) (h : ExtHeader) → h ≡ record { number = number.0; bytes = header.now }
+        → IsWritten l b buffer c out.old len link
+        → length b + length (bytes_of (c ++ h ∷ [])) ≤ length buffer → length buffer < 2 ^ 64
+        → IsWritten l b buffer (c ++ h ∷ []) out.new (len + length header.now) len }
+{
+    set(out, link, number.0);
+    put_at(out, len, header);
+}
+
 impl Keeper<'_> {
     /// Writes one more header, whose length is added to that of the bytes before it.
     #[inline(always)]
@@ -57,8 +70,7 @@ impl Keeper<'_> {
             → length b + length (bytes_of (c ++ h ∷ [])) ≤ length buffer → length buffer < 2 ^ 64
             → IsWritten l b buffer (c ++ h ∷ []) self.new.out.now self.new.len self.new.link }
     {
-        set(self.out, self.link, number.0);
-        put_at(self.out, self.len, header);
+        append(self.out, self.len, self.link, number, header);
         self.link = self.len;
         self.len = self.len.saturating_add(header.len());
     }

@@ -5,6 +5,7 @@ mod base;
 mod checksum;
 mod clearing;
 mod err;
+mod insertion;
 mod keeper;
 mod payload;
 mod removal;
@@ -16,6 +17,7 @@ mod write;
 
 pub use clearing::cleared;
 pub use err::RewriteError;
+pub use insertion::with_header;
 pub use payload::with_payload;
 pub use removal::{Rewritten, without};
 pub use which::{Authentication, Which};

@@ -54,7 +54,7 @@ fn is_fragmented(outline: &Outline) -> bool
 
 /// Returns whether the number is an extension header's.
 #[inline(always)]
-fn is_extension_number(number: IpNumber) -> bool
+pub(crate) fn is_extension_number(number: IpNumber) -> bool
     ensures { result ≡ is_extension number.0 }
 {
     is_extension(number)

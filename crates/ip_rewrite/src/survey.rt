@@ -94,7 +94,7 @@ pub(crate) fn fragments(number: IpNumber, header: &[u8]) -> bool
 
 /// Returns whether a header is a routing header with segments left (RFC 8200, section 4.4).
 #[inline(always)]
-fn has_segments(number: IpNumber, header: &[u8]) -> bool
+pub(crate) fn has_segments(number: IpNumber, header: &[u8]) -> bool
     requires { IsHeader number.0 header.now }
     ensures { (h : ExtHeader) → h ≡ record { number = number.0; bytes = header.now }
         → result ≡ has_segments h }

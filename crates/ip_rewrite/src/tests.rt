@@ -1,5 +1,7 @@
 //! Tests: packets that scapy made, before and after a change.
-use crate::{Authentication, RewriteError, Rewritten, Which, cleared, with_payload, without};
+use crate::{
+    Authentication, RewriteError, Rewritten, Which, cleared, with_header, with_payload, without,
+};
 use ip_base::{IpNumber, ip_number};
 use std::process::Abort;
 use std::test::Fail;
@@ -187,12 +189,33 @@ const FIRST_COVERED: [u8; 80] = [
     0x99, 0x99, 0x99, 0x99, 0x99, 0x99, 0x99, 0x99, 0x77, 0x78, 0x79, 0x7a, 0x77, 0x78, 0x79, 0x7a,
 ];
 
+/// The headers of the first packet, each leading to another number.
+const OPTIONS: [u8; 8] = [0xff, 0x00, 0x05, 0x02, 0x00, 0x00, 0x01, 0x00];
+
+const ROUTING: [u8; 24] = [
+    0xff, 0x02, 0x00, 0x01, 0x00, 0x00, 0x00, 0x00, 0x20, 0x01, 0x0d, 0xb8, 0x00, 0x00, 0x00, 0x00,
+    0x00, 0x00, 0x00, 0x00, 0x00, 0x00, 0x00, 0x03,
+];
+
+const DESTINATION: [u8; 16] = [
+    0xff, 0x01, 0x01, 0x0c, 0x11, 0x11, 0x11, 0x11, 0x11, 0x11, 0x11, 0x11, 0x11, 0x11, 0x11, 0x11,
+];
+
+/// An authentication header, and a fragment header of a first fragment.
+const AUTHENTICATION: [u8; 24] = [
+    0xff, 0x04, 0x00, 0x00, 0x11, 0x22, 0x33, 0x44, 0x00, 0x00, 0x00, 0x05, 0x99, 0x99, 0x99, 0x99,
+    0x99, 0x99, 0x99, 0x99, 0x99, 0x99, 0x99, 0x99,
+];
+
+const FRAGMENT: [u8; 8] = [0xff, 0x00, 0x00, 0x01, 0xa1, 0xb2, 0xc3, 0xd4];
+
 /// How a packet is changed.
 #[derive(Clone, Copy, Debug)]
 enum Change<'a> {
     Without(Which),
     Payload(IpNumber, &'a [u8]),
     Cleared,
+    Header(IpNumber, &'a [u8], usize),
 }
 
 /// A packet that is changed, with the byte at an offset replaced and `padding` bytes after it; the room for what is
@@ -244,6 +267,9 @@ fn write(row: &Row<'_>, packet: &[u8], out: &mut [u8]) -> Result<Rewritten, Rewr
             with_payload(packet, number, bytes, row.authentication, out)
         }
         Change::Cleared => cleared(packet, row.authentication, out),
+        Change::Header(number, header, index) => {
+            with_header(packet, number, header, index, row.authentication, out)
+        }
     }
 }
 
@@ -473,6 +499,52 @@ fn reserved_bits(rt: HostRuntime) -> Result<(), Fail> {
         ipv6,
         ipv4,
         fragmented,
+    ];
+    assert_rows(&rt, &rows)
+}
+
+/// Returns the change that inserts hop-by-hop options.
+fn options(index: usize) -> Change<'static> {
+    Change::Header(ip_number::IPV6_HOP_BY_HOP, &OPTIONS, index)
+}
+
+/// Returns the change that inserts destination options.
+fn destination(index: usize) -> Change<'static> {
+    Change::Header(ip_number::IPV6_DEST_OPTIONS, &DESTINATION, index)
+}
+
+#[test]
+fn headers(rt: HostRuntime) -> Result<(), Fail> {
+    let routing = Change::Header(ip_number::IPV6_ROUTE, &ROUTING, 1);
+    let authentication = Change::Header(ip_number::AUTH, &AUTHENTICATION, 0);
+    let fragment = Change::Header(ip_number::IPV6_FRAG, &FRAGMENT, 0);
+    let payload = Change::Header(IpNumber(17), &OPTIONS, 0);
+    let two = Change::Header(ip_number::IPV6_FRAG, &DESTINATION, 0);
+    let covered = changed(
+        &COVERED_NO_OPTIONS,
+        options(0),
+        Err(RewriteError::Authenticated),
+    );
+    let invalid = Row {
+        authentication: Authentication::Invalid,
+        ..changed(&COVERED_NO_OPTIONS, options(0), Ok((&COVERED, true)))
+    };
+    let rows = [
+        changed(&CHAIN_NO_OPTIONS, options(0), Ok((&CHAIN, true))),
+        changed(&CHAIN_NO_ROUTING, routing, Ok((&CHAIN, false))),
+        changed(&CHAIN_NO_DESTINATION, destination(2), Ok((&CHAIN, true))),
+        changed(&UNAUTHENTICATED, authentication, Ok((&AUTHENTICATED, true))),
+        changed(&FIRST_NO_OPTIONS, options(0), Ok((&FIRST, true))),
+        changed(&UNAUTHENTICATED, options(0), Err(RewriteError::NotAHeader)),
+        changed(&CHAIN, payload, Err(RewriteError::NotAHeader)),
+        changed(&CHAIN, two, Err(RewriteError::NotAHeader)),
+        changed(&CHAIN, fragment, Err(RewriteError::FragmentHeader)),
+        changed(&CHAIN, options(1), Err(RewriteError::Misplaced)),
+        changed(&CHAIN, destination(0), Err(RewriteError::Misplaced)),
+        changed(&CHAIN, destination(4), Err(RewriteError::Misplaced)),
+        changed(&FIRST, destination(2), Err(RewriteError::Fragmented)),
+        covered,
+        invalid,
     ];
     assert_rows(&rt, &rows)
 }

@@ -66,7 +66,7 @@ pub(crate) fn test_room(
 
 /// Returns the bytes of the base header, and none if there is none.
 #[inline(always)]
-fn base_of<'a>(packet: &Packet<'a>) -> &'a [u8]
+pub(crate) fn base_of<'a>(packet: &Packet<'a>) -> &'a [u8]
     ensures { result.now ≡ (dissected packet.now.bytes.now).base }
 {
     match packet.base {

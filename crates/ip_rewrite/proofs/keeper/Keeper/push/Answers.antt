@@ -1,19 +1,10 @@
-use Rattle.ip_spec.proofs.Common.{◌≡◌, ◌+◌, ◌≤◌, length, slice_set, subst, ap, sym, ◌∙◌, arith, IsHeader, ExtHeader, bytes_of}
-use Rattle.ip_rewrite.proofs.FrontLemmas.{written_more, link_within, out_len, more_len}
+use Rattle.ip_spec.proofs.Common.{◌≡◌, ◌+◌, ℕ, [], ◌∷◌, ◌++◌, length, subst, ap, arith, ExtHeader}
+use Rattle.ip_rewrite.specs.Writing.{IsWritten}
+use Rattle.ip_rewrite.proofs.FrontLemmas.{more_len}
 use Rattle.ip_rewrite.proofs.keeper.Keeper.push.Goals as goal
 
 pub returns-clause-written : goal.returns-clause-written
 returns-clause-written c = λ l b buffer d h is w fits small.
-    let header : IsHeader h.number h.bytes = subst (λ (g : ExtHeader). IsHeader g.number g.bytes) (sym is) c.requires in
-    let bytes : h.bytes ≡ c.args.header.now = ap (λ (g : ExtHeader). g.bytes) is in
-    let more = more_len d h in
-    let before : length b + length (bytes_of d) ≤ length buffer = omega (arith, more, fits) in
-    let size = out_len l b buffer d h c.args.self.now.out.now c.args.self.now.len c.args.self.now.link w before in
-    let less = link_within l b buffer d h c.args.self.now.out.now c.args.self.now.len c.args.self.now.link w before in
-    let stored = c.set.ensures.stored less in
-    let room : c.args.self.now.len + length c.args.header.now ≤ length c.set.new.out = omega (arith, w.len, size, c.set.ensures.len, more, fits, ap length bytes) in
-    let put = rw (← bytes) at (c.put_at.ensures room) in
-    let number : h.number ≡ c.args.number.0 = ap (λ (g : ExtHeader). g.number) is in
-    written_more l b buffer d h c.args.self.now.out.now c.args.self.now.len c.args.self.now.link w header fits c.set.new.out c.put_at.new.out c.saturating_add-self.result
-    (stored ∙ ap (slice_set c.args.self.now.out.now c.args.self.now.link) (sym number)) put
-    (omega (arith, c.saturating_add-self.ensures, ap length bytes, w.len, more, fits, small))
+    let sum : c.args.self.now.len + length c.args.header.now ≡ c.saturating_add-self.result =
+    omega (arith, c.saturating_add-self.ensures, ap (λ (g : ExtHeader). length g.bytes) is, w.len, more_len d h, fits, small) in
+    subst (λ (k : ℕ). IsWritten l b buffer (d ++ h ∷ []) c.append.new.out k c.args.self.now.len) sum (c.append.ensures l b buffer d h is w fits small)

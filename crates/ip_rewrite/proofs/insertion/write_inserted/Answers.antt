@@ -1,0 +1,38 @@
+use Rattle.ip_spec.proofs.Common.{◌≡◌, ◌+◌, ◌≤◌, ℕ, [], ◌++◌, drop, length, subst, sym, ◌∙◌, ap, arith, List, ExtHeader, bytes_of}
+use Rattle.ip_dissect.specs.Dissection.{DissectedParts, dissected}
+use Rattle.ip_dissect.specs.declared.outline.Outline.{Outline}
+use Rattle.ip_rewrite.specs.Base.{number_offset}
+use Rattle.ip_rewrite.specs.Rewritten.{rewritten, rewritten_len, rewritten_field}
+use Rattle.ip_rewrite.specs.Insertion.{inserted}
+use Rattle.ip_rewrite.specs.Writing.{IsWritten}
+use Rattle.ip_rewrite.proofs.FrontLemmas.{out_len}
+use Rattle.ip_rewrite.proofs.InsertionLemmas.{inserted_len}
+use Rattle.ip_rewrite.proofs.insertion.write_inserted.Goals as goal
+
+pub returns : goal.returns
+returns c = λ h is.
+    let p : DissectedParts = dissected c.args.packet.now.bytes.now in
+    let d : List ExtHeader = inserted c.args.index h p.headers in
+    let o : Outline = c.args.packet.now.outline in
+    let b : List ℕ = p.base in
+    let l : ℕ = number_offset p.version in
+    let n : ℕ = length b + length (bytes_of d) in
+    let m : ℕ = o.base_len + (o.extensions_len + length c.args.header.now) in
+    let z : List ℕ = c.write_headers-link.new.out in
+    let link : ℕ = c.write_headers-link.result in
+    let version : o.version ≡ p.version = ap (λ (x : Outline). x.version) c.args.packet.now.outline_is in
+    let size : o.base_len ≡ length b = ap (λ (x : Outline). x.base_len) c.args.packet.now.outline_is in
+    let number : o.next_header.0 ≡ p.number = ap (λ (x : Outline). x.next_header.0) c.args.packet.now.outline_is in
+    let exts : o.extensions_len + length c.args.header.now ≡ length (bytes_of d) = omega (arith, ap (λ (x : Outline). x.extensions_len) c.args.packet.now.outline_is, inserted_len c.args.index p.headers h, ap (λ (g : ExtHeader). length g.bytes) is) in
+    let offset : c.number_offset-offset.result ≡ l = c.number_offset-offset.ensures ∙ ap number_offset version in
+    let here : IsWritten l b c.args.out.now d z n link = subst (λ (k : ℕ). IsWritten k b c.args.out.now d z n link) offset (c.write_headers-link.ensures h is) in
+    let at : n ≡ m = omega (arith, size, exts) in
+    let begun : IsWritten l b c.args.out.now d z m link = subst (λ (k : ℕ). IsWritten l b c.args.out.now d z k link) at here in
+    let none : ExtHeader = record { number = 0; bytes = [] } in
+    let fits : length b + length (bytes_of d) ≤ length c.args.out.now = omega (arith, c.requires.fits, inserted_len c.args.index p.headers h, ap (λ (g : ExtHeader). length g.bytes) is) in
+    let same = out_len l b c.args.out.now d none z n link here fits in
+    let payload : c.payload-payload.result.now ≡ p.payload = c.payload-payload.ensures in
+    let field : c.args.field ≡ rewritten_field p d c.payload-payload.result.now = c.requires.field h is ∙ ap (rewritten_field p d) (sym payload) in
+    let done = c.finish.ensures p d c.args.out.now c.args.packet.now.outline_is exts field begun (sym same) in
+    done ∙ (ap (λ (k : ℕ). rewritten p d k c.payload-payload.result.now ++ drop (rewritten_len p d c.payload-payload.result.now) c.args.out.now) number
+    ∙ ap (λ (q : List ℕ). rewritten p d p.number q ++ drop (rewritten_len p d q) c.args.out.now) payload)

@@ -37,6 +37,8 @@ fn refusal_code(error: RewriteError) -> u8
         RewriteError::HeaderFollows => 8,
         RewriteError::TooLong => 9,
         RewriteError::NoRoom => 10,
+        RewriteError::NotAHeader => 11,
+        RewriteError::Misplaced => 12,
     }
 }
 

@@ -56,7 +56,7 @@
 #define WOLFAREN_VERSION (10000 * WOLFAREN_VERSION_MAJOR + 100 * WOLFAREN_VERSION_MINOR + WOLFAREN_VERSION_PATCH)
 
 /* A checksum of the structs, numbers and calls in this header, made by scripts/abi of the repository. */
-#define WOLFAREN_ABI 0xe8cbb186u
+#define WOLFAREN_ABI 0xc4dac5d1u
 
 #if !(defined(__x86_64__) && !defined(__ILP32__)) && !defined(_M_X64) && !defined(__aarch64__) && !defined(_M_ARM64)
 #error "libwolfaren needs a 64-bit machine: x86-64 or ARM64"
@@ -687,8 +687,8 @@ struct wolfaren_added {
  *
  * A packet that isn't whole 60 seconds after its first fragment is given up when its next fragment arrives, or another packet
  * needs its slot. Of more than 8 slots, 8 are for packets with the same hash. If all of them are in use, the packet with the
- * oldest first fragment is given up. The hash depends on `factor`, which should be a random number that senders don't know,
- * and the same at each call.
+ * oldest first fragment is given up; wolfaren_give_up does it earlier. The hash depends on `factor`, which should be a random
+ * number that senders don't know, and the same at each call.
  *
  * Returns false, and changes nothing, if there aren't as many memories as slots. A memory has 77,872 bytes. The memories
  * may lie in fresh pages of zeros; a page is used when the first packet needs it.
@@ -697,6 +697,13 @@ WOLFAREN_USE_RESULT
 bool wolfaren_defragment(struct wolfaren_slot *slots, size_t slot_count, struct wolfaren_packet_memory *memories,
                          size_t memory_count, struct wolfaren_defragmenter_counts *counts, uint32_t factor,
                          const uint8_t *bytes, size_t len, uint64_t time, struct wolfaren_added *added) WOLFAREN_NONNULL(5, 10);
+
+/*
+ * Gives up the packet of a slot if it isn't whole more than 60 seconds after its first fragment, as of `time`. If so, counts it
+ * as WOLFAREN_TIMED_OUT in `counts->losses`, frees the slot, and returns true. Otherwise changes nothing and returns false.
+ */
+bool wolfaren_give_up(struct wolfaren_slot *slot, struct wolfaren_defragmenter_counts *counts, uint64_t time)
+    WOLFAREN_NONNULL(1, 2);
 
 /*
  * Writes the whole packet of a memory to the start of `out`, which has `room` bytes: the headers of the first fragment up to

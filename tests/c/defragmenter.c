@@ -1,6 +1,6 @@
 /*
- * Tests wolfaren_defragment and wolfaren_write_whole_packet: packets whose fragments arrive in any order, memory of any bytes,
- * counts, and memory that is used only as far as packets need it.
+ * Tests wolfaren_defragment, wolfaren_give_up and wolfaren_write_whole_packet: packets whose fragments arrive in any order,
+ * memory of any bytes, counts, and memory that is used only as far as packets need it.
  */
 #define _DEFAULT_SOURCE
 
@@ -119,6 +119,18 @@ static void test_losses(void)
     expect(counts.losses[WOLFAREN_TIMED_OUT] == 1 && counts.losses[WOLFAREN_DISPLACED] == 1, "counts of losses");
 }
 
+static void test_give_up(void)
+{
+    clear();
+    add_piece(2, 7, 1, 0);
+    expect(!wolfaren_give_up(&slots[0], &counts, 7 + 60 * second), "a packet after 60 seconds");
+    expect(add_piece(2, 7 + 60 * second, 1, 1).slot == 0, "the packet is still there");
+    expect(wolfaren_give_up(&slots[0], &counts, 8 + 60 * second), "a packet after more than 60 seconds");
+    expect(!wolfaren_give_up(&slots[0], &counts, UINT64_MAX) && !wolfaren_give_up(&slots[1], &counts, UINT64_MAX), "free slots");
+    expect(counts.losses[WOLFAREN_TIMED_OUT] == 1 && counts.losses[WOLFAREN_DISPLACED] == 0, "one loss");
+    expect(add_piece(2, 8 + 60 * second, 1, 2).loss == WOLFAREN_NO_LOSS, "a free slot again");
+}
+
 static void test_outcomes(void)
 {
     uint8_t bytes[PIECE_LEN];
@@ -206,6 +218,7 @@ int main(void)
     memories = reserve(SLOTS * sizeof *memories);
     test_orders();
     test_losses();
+    test_give_up();
     test_outcomes();
     test_any_bytes();
     test_pages();

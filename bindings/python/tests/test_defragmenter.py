@@ -102,6 +102,17 @@ class Defragmenters(unittest.TestCase):
         with self.assertRaises(ValueError):
             Defragmenter(0)
 
+    def test_give_up(self):
+        defragmenter = Defragmenter(64)
+        packets = [pieces(identification, bytes(range(16)), 8) for identification in range(3)]
+        for identification in range(3):
+            self.assertIsNone(defragmenter.add(packets[identification][0], 10 + identification))
+        self.assertEqual(defragmenter.give_up(60 * 10**9 + 10), 0)
+        self.assertEqual(defragmenter.give_up(60 * 10**9 + 12), 2)
+        self.assertEqual(defragmenter.counts["timed_out"], 2)
+        self.assertEqual(defragmenter.add(packets[2][1], 60 * 10**9 + 12), ipv6(17, bytes(range(16))))
+        self.assertIsNone(defragmenter.add(packets[0][1], 60 * 10**9 + 12))
+
     def test_scapy(self):
         from scapy.layers.inet import IP, UDP as ScapyUdp, defragment, fragment as fragment4
         rng = random.Random(1)

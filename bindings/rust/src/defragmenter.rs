@@ -180,6 +180,15 @@ impl Defragmenter {
         }
     }
 
+    /// Gives up the packets that aren't whole more than 60 seconds after their first fragments, as of this time, in nanoseconds.
+    /// Returns how many there were.
+    pub fn give_up(&mut self, nanoseconds: u64) -> usize {
+        let slots = self.slots.iter_mut();
+        slots
+            .filter_map(|slot| library::give_up(slot, &mut self.counts, nanoseconds).then_some(()))
+            .count()
+    }
+
     /// Writes the whole packet of a slot to the start of `out`, and returns its length in bytes. Returns `None`, and writes
     /// nothing, if there is no such slot, its packet isn't whole, the packet is longer than its length field can state, or
     /// `out` is too short.

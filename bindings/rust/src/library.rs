@@ -251,7 +251,7 @@ const _: () = {
 
 /// `WOLFAREN_ABI`: the checksum of the header that this file was written for (`scripts/abi` of the repository).
 #[cfg(all(test, not(miri)))]
-pub(crate) const ABI: u32 = 0xe8cb_b186;
+pub(crate) const ABI: u32 = 0xc4da_c5d1;
 
 unsafe extern "C" {
     fn wolfaren_parse_chain(
@@ -340,6 +340,9 @@ unsafe extern "C" {
         time: u64,
         added: *mut Added,
     ) -> bool;
+
+    #[cfg(feature = "alloc")]
+    fn wolfaren_give_up(slot: *mut Slot, counts: *mut DefragmenterCounts, time: u64) -> bool;
 
     #[cfg(feature = "alloc")]
     fn wolfaren_write_whole_packet(
@@ -1186,6 +1189,13 @@ pub(crate) fn defragment(
     };
     debug_assert!(are_as_many);
     added
+}
+
+/// Gives up the packet of a slot if it isn't whole more than 60 seconds after its first fragment. Returns whether it did.
+#[cfg(feature = "alloc")]
+pub(crate) fn give_up(slot: &mut Slot, counts: &mut DefragmenterCounts, time: u64) -> bool {
+    // SAFETY: slot and counts are borrowed exclusively.
+    unsafe { wolfaren_give_up(slot, counts, time) }
 }
 
 /// Writes the whole packet of a memory to the start of `out`, if there is one and it fits, and returns its length.

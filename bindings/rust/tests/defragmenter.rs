@@ -91,3 +91,18 @@ fn losses_and_drops() {
         Outcome::Dropped(DropReason::NoSlot)
     );
 }
+
+#[test]
+fn give_up() {
+    let mut defragmenter = Defragmenter::new(64, 3);
+    for (time, identification) in (10..).zip(1..=3) {
+        defragmenter.add(time, &piece(identification, 0, true));
+    }
+    assert_eq!(defragmenter.give_up(60_000_000_010), 0);
+    assert_eq!(defragmenter.give_up(60_000_000_012), 2);
+    assert_eq!(defragmenter.lost(Loss::TimedOut), 2);
+    let added = defragmenter.add(60_000_000_012, &piece(3, 1, false));
+    assert_eq!(packet_in(&defragmenter, added.slot), whole(2));
+    let added = defragmenter.add(60_000_000_012, &piece(1, 1, false));
+    assert_eq!((added.outcome, added.loss), (Outcome::MoreWanted, None));
+}

@@ -78,6 +78,10 @@ counted c a = record {
   losses = with_one_more c.losses (loss_code a.lost);
 }
 
+-- the counts after a packet was given up by itself
+abbrev pub counted_loss : DefragmenterCounts → Loss → DefragmenterCounts
+counted_loss c l = record c { losses = with_one_more c.losses (reason_code l.reason) }
+
 -- the index of a slot, or 0 without one
 abbrev pub slot_index : Option ℕ → ℕ
 slot_index None = 0

@@ -1,8 +1,8 @@
 //! Counts of what became of packets.
 ghost use Rattle.std.specs.Prelude.{◌≡◌, ◌<◌, ◌≤◌, length, slice_index, slice_set};
-ghost use Rattle.ip_defragmenter.specs.Counts.{outcome_code, error_code, refusal_code, drop_code, reason_code, loss_code, counted, one_more, no_counts};
+ghost use Rattle.ip_defragmenter.specs.Counts.{outcome_code, error_code, refusal_code, drop_code, reason_code, loss_code, counted, counted_loss, one_more, no_counts};
 
-use crate::{Added, DropReason, FragmentError, LossReason, Outcome, StoreError};
+use crate::{Added, DropReason, FragmentError, Loss, LossReason, Outcome, StoreError};
 use ip_defrag::AddError;
 
 /// The number of outcomes.
@@ -111,7 +111,7 @@ fn increment(counts: &mut [u64], index: usize)
 pub struct DefragmenterCounts {
     /// The packets that were added, by the code of the outcome (`Outcome::code`).
     pub outcomes: [u64; 13],
-    /// The packets that were added, by the code of the loss (`Added::loss_code`).
+    /// The packets that were added, by the code of the loss (`Added::loss_code`), and those that `give_up` gave up.
     pub losses: [u64; 3],
 }
 
@@ -133,5 +133,13 @@ impl DefragmenterCounts {
     {
         increment(&mut self.outcomes, usize::from(added.outcome.code()));
         increment(&mut self.losses, usize::from(added.loss_code()));
+    }
+
+    /// Counts a packet that was given up by `give_up`, not for a packet that was added.
+    #[inline(always)]
+    pub fn count_loss(&mut self, loss: &Loss)
+        ensures { self.new ≡ counted_loss self.old loss.now }
+    {
+        increment(&mut self.losses, usize::from(reason_code(loss.reason)));
     }
 }

@@ -12,6 +12,7 @@ mod packets;
 mod parse;
 mod random;
 mod rewrite;
+mod rewriter;
 mod statistics;
 
 use anyhow::{Context, Result, bail};
@@ -26,6 +27,7 @@ fn run(alloc: Global, job: &str, seed: u64, rounds: u64) -> Result<Digest> {
         "statistics" => statistics::run(alloc, seed, rounds),
         "parse" => parse::run(alloc, seed, rounds),
         "rewrite" => rewrite::run(alloc, seed, rounds),
+        "rewriter" => rewriter::run(alloc, seed, rounds),
         "lines" => lines::run(alloc, seed, rounds),
         "awkward" => awkward::run(alloc, seed, rounds),
         _ => bail!("no such job: {job}"),
@@ -33,13 +35,14 @@ fn run(alloc: Global, job: &str, seed: u64, rounds: u64) -> Result<Digest> {
 }
 
 /// The jobs.
-const JOBS: [&str; 6] = [
+const JOBS: [&str; 7] = [
     "filter",
     "statistics",
     "parse",
     "rewrite",
     "lines",
     "awkward",
+    "rewriter",
 ];
 
 /// Does a job, and prints the digest of its results.

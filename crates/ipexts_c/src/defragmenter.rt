@@ -4,16 +4,19 @@ ghost use Rattle.ip_dissect.specs.Dissection.{dissected};
 ghost use Rattle.ip_defrag.specs.Received.{Received};
 ghost use Rattle.ip_defragmenter.specs.FragmentOf.{FragmentParts, fragment_in};
 ghost use Rattle.ip_defragmenter.specs.Added.{IsAdded, added_nothing};
-ghost use Rattle.ip_defragmenter.specs.Counts.{counted, added_fields};
+ghost use Rattle.ip_defragmenter.specs.Counts.{counted, counted_loss, added_fields};
 ghost use Rattle.ip_defragmenter.specs.Memory.{HoldsReceived, FirstParts, first_in, payload_in};
 ghost use Rattle.ip_defragmenter.specs.Whole.{whole_packet, whole_fault};
+ghost use Rattle.ip_defragmenter.specs.Slot.{free_slot};
+ghost use Rattle.ip_defragmenter.specs.Slots.{loss_of};
 ghost use Rattle.ip_defragmenter.specs.declared.err.FragmentError.{FragmentError};
+ghost use Rattle.ip_defragmenter.specs.declared.pending.Loss.{Loss};
 ghost use Rattle.ip_defragmenter.specs.declared.outcome.Added.{Added as WasAdded};
 ghost use Rattle.ip_defragmenter.specs.declared.outcome.Outcome.TheVariants.{NotFragment, Dropped};
 ghost use Rattle.ip_defragmenter.specs.declared.outcome.DropReason.TheVariants.{Unusable};
 
 use crate::bytes::Bytes;
-use ip_defragmenter::{AddedFields, DefragmenterCounts, PacketMemory, Slot, defragment};
+use ip_defragmenter::{AddedFields, DefragmenterCounts, PacketMemory, Slot, defragment, give_up};
 
 /// Calls `defragment` and counts what became of the packet, as `Defragmenter::add` does, if there are as many memories as
 /// slots. Returns whether there are. If so, stores what became of it in `added`; otherwise nothing is changed.
@@ -53,6 +56,27 @@ pub extern "C" fn wolfaren_defragment(
     counts.count(&done);
     *added = done.fields();
     true
+}
+
+/// Calls `give_up`, and counts the packet that was given up. Returns whether one was.
+#[unsafe(no_mangle)]
+pub extern "C" fn wolfaren_give_up(
+    slot: &mut Slot,
+    counts: &mut DefragmenterCounts,
+    time: u64,
+) -> bool
+    ensures lost { (l : Loss) → loss_of slot.old time ≡ Some l
+        → (result ≡ true) × (slot.new ≡ free_slot) × (counts.new ≡ counted_loss counts.old l) }
+    ensures kept { loss_of slot.old time ≡ None
+        → (result ≡ false) × (slot.new ≡ slot.old) × (counts.new ≡ counts.old) }
+{
+    match give_up(slot, time) {
+        Some(loss) => {
+            counts.count_loss(&loss);
+            true
+        }
+        None => false,
+    }
 }
 
 /// Calls `PacketMemory::write`. Returns whether the packet is whole and was written, and stores its length in bytes in `len`,

@@ -56,6 +56,11 @@ class Defragmenter:
             return None
         return bytes(ffi.buffer(self._out, self._written[0]))
 
+    def give_up(self, time_ns: int) -> int:
+        """Gives up the packets that aren't whole more than 60 seconds after their first fragments, as of this time. Returns
+        how many there were; `counts` has them as `timed_out`."""
+        return sum(lib.wolfaren_give_up(ffi.addressof(self._slots, index), self._counts, time_ns) for index in range(self._count))
+
     @property
     def counts(self) -> dict[str, int]:
         """How many packets were added, by what became of them, and how many packets were given up, as `timed_out` and

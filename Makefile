@@ -25,7 +25,8 @@
 # make mutants        try the mutants in tests/mutants/ (CRATE='NAME ..': only these crates; ONLY=WORD: only those whose
 #                     names contain the word; JOBS=3: so many at a time)
 # make memory         run the program once for each of its allocations, with that allocation refused
-# make bench          compare its speed with etherparse 0.19.0 (ONLY=WORD: only rows whose names contain the word)
+# make bench          compare its speed with etherparse 0.19.0, that of fragments and of rewritten packets with copies of
+#                     their bytes (ONLY=WORD: only rows of etherparse whose names contain the word)
 # make bench-border   the part of make bench that measures calls through C
 # make cost           measure the worst-case time per byte
 # make diff           compare its results with etherparse 0.19.0 (SEED=..; LINES=..: how many cases)
@@ -211,8 +212,9 @@ HEADERS = 5000
 MINUTES = 5
 export SEED LINES HEADERS MINUTES ONLY CARGO_FLAGS
 
-bench:
-	status=0; bench/compare || status=1; [ -n "$(ONLY)" ] || bench/border/run || status=1; exit $$status
+bench: lib-x86_64
+	status=0; bench/compare || status=1; [ -n "$(ONLY)" ] || for part in border defragment rewriter; do \
+		bench/$$part/run || status=1; done; exit $$status
 
 bench-border:
 	bench/border/run

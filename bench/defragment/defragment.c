@@ -3,9 +3,11 @@
  * whose packets never become whole, beside a copy of the same bytes with a look-up of the packet in a hash table.
  *
  * usage: PROGRAM [ROUNDS [JOB]]
+ *        PROGRAM write FILE
  *
- * Each round has 50,000 fragments. JOB is `whole`, `flood`, `copy` or `none`; without it, prints nanoseconds for each fragment of
- * each job, the least of several rounds, and ratios to the copy.
+ * Each round has 50,000 fragments. JOB is `whole`, `ipv4`, `flood`, `copy` or `none`; without it, prints nanoseconds for each
+ * fragment of each job, the least of several rounds, and ratios to the copy. `write` writes the IPv4 fragments to a file, each
+ * after its length in four bytes, in network byte order.
  */
 #define _DEFAULT_SOURCE
 
@@ -18,8 +20,9 @@
 #include <time.h>
 
 enum { KEYS = 1000, PIECES = 50, FRAGMENTS = KEYS * PIECES, LEN = 1280, DATA = LEN - 48, SLOTS = 4096, TABLE = 4096 };
+enum { IPV4_DATA = 1256, IPV4_LEN = 20 + IPV4_DATA };
 
-static uint8_t *fragments;
+static uint8_t *fragments, *ipv4_fragments;
 static struct wolfaren_slot *slots;
 static struct wolfaren_packet_memory *memories;
 static struct wolfaren_defragmenter_counts counts;
@@ -67,15 +70,45 @@ static void make_fragments(void)
     }
 }
 
-static void add(const uint8_t *bytes)
+/* The same of IPv4, without checksums. */
+static void make_ipv4_fragments(void)
+{
+    for (unsigned i = 0; i < FRAGMENTS; i++) {
+        uint8_t *bytes = ipv4_fragments + (size_t)i * IPV4_LEN;
+        unsigned piece = i / KEYS, key = i % KEYS, field = piece * (IPV4_DATA / 8) | (piece < PIECES - 1 ? 0x2000 : 0);
+        const uint8_t header[20] = {0x45, 0, IPV4_LEN >> 8, IPV4_LEN & 255, (uint8_t)(key >> 8), (uint8_t)key, (uint8_t)(field >> 8),
+                                    (uint8_t)field, 64, 17, 0, 0, 192, 0, 2, (uint8_t)(key % 251), 192, 0, 2, 2};
+        memcpy(bytes, header, sizeof header);
+        memset(bytes + 20, (int)i, IPV4_DATA);
+    }
+}
+
+static void write_ipv4_fragments(const char *path)
+{
+    static const uint8_t len[4] = {0, 0, IPV4_LEN >> 8, IPV4_LEN & 255};
+    FILE *file = fopen(path, "wb");
+    if (file == NULL) exit(5);
+    for (size_t i = 0; i < FRAGMENTS; i++) {
+        fwrite(len, 1, sizeof len, file);
+        fwrite(ipv4_fragments + i * IPV4_LEN, 1, IPV4_LEN, file);
+    }
+    if (fclose(file) != 0) exit(5);
+}
+
+static void add(const uint8_t *bytes, size_t len)
 {
     struct wolfaren_added added;
-    if (!wolfaren_defragment(slots, SLOTS, memories, SLOTS, &counts, 0x9e3779b1, bytes, LEN, now++, &added)) exit(3);
+    if (!wolfaren_defragment(slots, SLOTS, memories, SLOTS, &counts, 0x9e3779b1, bytes, len, now++, &added)) exit(3);
 }
 
 static void run_whole(void)
 {
-    for (size_t i = 0; i < FRAGMENTS; i++) add(fragments + i * LEN);
+    for (size_t i = 0; i < FRAGMENTS; i++) add(fragments + i * LEN, LEN);
+}
+
+static void run_ipv4(void)
+{
+    for (size_t i = 0; i < FRAGMENTS; i++) add(ipv4_fragments + i * IPV4_LEN, IPV4_LEN);
 }
 
 /* The first fragments, each with an identification of its own. */
@@ -84,7 +117,7 @@ static void run_flood(void)
     for (size_t i = 0; i < FRAGMENTS; i++) {
         uint8_t *bytes = fragments + i % KEYS * LEN;
         put_identification(bytes, 1000000 + flooded++);
-        add(bytes);
+        add(bytes, LEN);
     }
     for (unsigned i = 0; i < KEYS; i++) put_identification(fragments + (size_t)i * LEN, i);
 }
@@ -125,7 +158,9 @@ static void run_none(void)
 static const struct job {
     const char *name;
     void (*run)(void);
-} jobs[] = {{"none", run_none}, {"copy", run_copy}, {"whole", run_whole}, {"flood", run_flood}};
+} jobs[] = {{"none", run_none}, {"copy", run_copy}, {"whole", run_whole}, {"ipv4", run_ipv4}, {"flood", run_flood}};
+
+enum { JOBS = sizeof jobs / sizeof *jobs };
 
 static double seconds(void)
 {
@@ -137,14 +172,20 @@ static double seconds(void)
 int main(int count, char **arguments)
 {
     int rounds = count > 1 ? atoi(arguments[1]) : 20;
-    double least[4] = {0, 1e9, 1e9, 1e9};
+    double least[JOBS] = {0, 1e9, 1e9, 1e9, 1e9};
     fragments = reserve((size_t)FRAGMENTS * LEN);
+    ipv4_fragments = reserve((size_t)FRAGMENTS * IPV4_LEN);
     slots = reserve(SLOTS * sizeof *slots);
     memories = reserve(SLOTS * sizeof *memories);
     copies = reserve((size_t)KEYS * 65536);
     make_fragments();
+    make_ipv4_fragments();
+    if (count == 3 && strcmp(arguments[1], "write") == 0) {
+        write_ipv4_fragments(arguments[2]);
+        return 0;
+    }
     for (int round = 0; round < rounds; round++) {
-        for (int i = 0; i < 4; i++) {
+        for (int i = 0; i < JOBS; i++) {
             if (count > 2 && strcmp(arguments[2], jobs[i].name) != 0) continue;
             double start = seconds();
             jobs[i].run();
@@ -153,9 +194,10 @@ int main(int count, char **arguments)
         }
     }
     if (count > 2) return 0;
-    if (counts.outcomes[WOLFAREN_WHOLE] != (uint64_t)rounds * KEYS) return 4;
+    if (counts.outcomes[WOLFAREN_WHOLE] != (uint64_t)rounds * 2 * KEYS) return 4;
     printf("copy and look-up  %7.1f ns a fragment\n", least[1]);
     printf("whole packets     %7.1f ns a fragment: %.2f\n", least[2], least[2] / least[1]);
-    printf("flood             %7.1f ns a fragment: %.2f\n", least[3], least[3] / least[1]);
+    printf("of IPv4           %7.1f ns a fragment: %.2f\n", least[3], least[3] / least[1]);
+    printf("flood             %7.1f ns a fragment: %.2f\n", least[4], least[4] / least[1]);
     return 0;
 }

@@ -36,11 +36,11 @@ fn pool(alloc: Global, random: &mut Random) -> Result<Vec<Packet>, AllocError> {
 #[inline(always)]
 fn add_rewritten(
     digest: &mut Digest,
-    result: &Result<Rewritten, RewriteError>,
+    outcome: &Result<Rewritten, RewriteError>,
     headers_len: usize,
     out: &[u8],
 ) {
-    match result {
+    match outcome {
         Ok(rewritten) => {
             digest.add_bytes(&out[..headers_len.min(rewritten.len).min(out.len())]);
             digest.add_len(rewritten.len);

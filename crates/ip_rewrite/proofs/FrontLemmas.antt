@@ -130,7 +130,7 @@ copied_after b e buffer x y is put =
     put ∙ (ap (λ k. k ++ e ++ drop (length b + length e) x) taken ∙ ap (λ k. b ++ e ++ k) after)
 
 -- headers that are linked already
-first_is : (n : ℕ) (c : List ExtHeader) → AreLinked n c → number_of_first c (leads_to n c) ≡ n
+pub first_is : (n : ℕ) (c : List ExtHeader) → AreLinked n c → number_of_first c (leads_to n c) ≡ n
 first_is n [] a = refl
 first_is n (h ∷ c) a = a.0
 
@@ -166,29 +166,31 @@ pub link_some : (l k : ℕ) (b : List ℕ) (c : List ExtHeader) → 1 ≤ length
 link_some l k b [] some = absurd (omega (arith, some))
 link_some l k b (h ∷ c) some = refl
 
--- Bytes are written after them, and the base header is changed.
+-- Bytes are written after them.
 module _ (l : ℕ) (b buffer : List ℕ) (c : List ExtHeader) (out : List ℕ) (len link : ℕ) (w : IsWritten l b buffer c out len link) (m : ℕ) (q x y : List ℕ) (is : x ≡ slice_set out link m) (put : y ≡ take len x ++ q ++ drop (len + length q) x) where
-  abbrev first : List ℕ
-  first = slice_set b l (number_of_first c m)
-
-  first_len : length first ≡ length b
-  first_len = length-set b l (number_of_first c m)
-
-  after_headers : y ≡ front l b c m ++ q ++ drop (len + length q) buffer
+  pub after_headers : y ≡ front l b c m ++ q ++ drop (length b + length (bytes_of c) + length q) buffer
   after_headers =
       let f : List ℕ = front l b c m in
       let size : length f ≡ len = front_len l b c m ∙ sym w.len in
       let begins : x ≡ f ++ drop len buffer = is ∙ set_link l b buffer c (record { number = 0; bytes = [] }) out len link w m in
       let taken : take len x ≡ f = ap (take len) begins ∙ (ap (λ k. take k (f ++ drop len buffer)) (sym size) ∙ take-append_seam f (drop len buffer)) in
       let dropped : drop len x ≡ drop len buffer = ap (drop len) begins ∙ (ap (λ k. drop k (f ++ drop len buffer)) (sym size) ∙ drop-append_seam f (drop len buffer)) in
-      let after : drop (len + length q) x ≡ drop (len + length q) buffer = sym (drop-drop (length q) len x) ∙ (ap (drop (length q)) dropped ∙ drop-drop (length q) len buffer) in
+      let after : drop (len + length q) x ≡ drop (length b + length (bytes_of c) + length q) buffer = sym (drop-drop (length q) len x) ∙ (ap (drop (length q)) dropped ∙ (drop-drop (length q) len buffer ∙ ap (λ k. drop k buffer) (omega (arith, w.len)))) in
       put ∙ (ap (λ k. k ++ q ++ drop (len + length q) x) taken ∙ ap (λ k. f ++ q ++ k) after)
 
+-- The base header before them is changed.
+module _ (l : ℕ) (b buffer : List ℕ) (c : List ExtHeader) (m : ℕ) (q y : List ℕ) (begins : y ≡ front l b c m ++ q ++ drop (length b + length (bytes_of c) + length q) buffer) where
+  abbrev first : List ℕ
+  first = slice_set b l (number_of_first c m)
+
+  first_len : length first ≡ length b
+  first_len = length-set b l (number_of_first c m)
+
   abbrev rest : List ℕ
-  rest = bytes_of (linked_headers m c) ++ (q ++ drop (len + length q) buffer)
+  rest = bytes_of (linked_headers m c) ++ (q ++ drop (length b + length (bytes_of c) + length q) buffer)
 
   split : y ≡ first ++ rest
-  split = after_headers ∙ (append_assoc (front l b c m) q (drop (len + length q) buffer) ∙ append_assoc first (bytes_of (linked_headers m c)) (q ++ drop (len + length q) buffer))
+  split = begins ∙ (append_assoc (front l b c m) q (drop (length b + length (bytes_of c) + length q) buffer) ∙ append_assoc first (bytes_of (linked_headers m c)) (q ++ drop (length b + length (bytes_of c) + length q) buffer))
 
   base_taken : take (length b) y ≡ first
   base_taken = ap (take (length b)) split ∙ (ap (λ k. take k (first ++ rest)) (sym first_len) ∙ take-append_seam first rest)
@@ -198,10 +200,9 @@ module _ (l : ℕ) (b buffer : List ℕ) (c : List ExtHeader) (out : List ℕ) (
 
   base_changed : (z : List ℕ) → z ++ drop (length b) y ≡ z ++ bytes_of (linked_headers m c) ++ q ++ drop (length b + length (bytes_of c) + length q) buffer
   base_changed z =
-      let size : len + length q ≡ length b + length (bytes_of c) + length q = omega (arith, w.len) in
-      ap (λ k. z ++ k) base_dropped ∙ (ap (λ k. z ++ (bytes_of (linked_headers m c) ++ (q ++ drop k buffer))) size
+      ap (λ k. z ++ k) base_dropped
       ∙ (sym (append_assoc z (bytes_of (linked_headers m c)) (q ++ drop (length b + length (bytes_of c) + length q) buffer))
-      ∙ sym (append_assoc (z ++ bytes_of (linked_headers m c)) q (drop (length b + length (bytes_of c) + length q) buffer))))
+      ∙ sym (append_assoc (z ++ bytes_of (linked_headers m c)) q (drop (length b + length (bytes_of c) + length q) buffer)))
 
   pub whole_written : (v field : ℕ) (z r : List ℕ) → z ≡ base_stating v (take (length b) y) field → r ≡ drop (length b) y
       → z ++ r ≡ base_stating v first field ++ bytes_of (linked_headers m c) ++ q ++ drop (length b + length (bytes_of c) + length q) buffer

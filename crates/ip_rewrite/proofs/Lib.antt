@@ -6,6 +6,7 @@ pub mod FieldLemmas
 pub mod Ipv6Lemmas
 pub mod Ipv4Lemmas
 pub mod DissectLemmas
+pub mod FirstHeaderLemmas
 pub mod PayloadLemmas
 pub mod ClearingLemmas
 pub mod InsertionLemmas

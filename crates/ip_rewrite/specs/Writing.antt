@@ -80,3 +80,11 @@ pub record IsWritten (l : ℕ) (b : List ℕ) (old : List ℕ) (c : List ExtHead
   pub bytes : new ≡ front l b c (leads_to (slice_index b l) c) ++ drop (length b + length (bytes_of c)) old
   pub len : size ≡ length b + length (bytes_of c)
   pub link : field ≡ link_of l b c
+
+-- The first of the headers c, whose length is `len`, is selected, and no other.
+pub record SelectsFirst (w : Which) (c : List ExtHeader) (len : ℕ) : Type 0 where
+  pub first : ExtHeader
+  pub others : List ExtHeader
+  pub all : c ≡ first ∷ others
+  pub kept : kept w c ≡ others
+  pub size : len ≡ length first.bytes

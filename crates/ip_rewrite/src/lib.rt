@@ -5,6 +5,7 @@ mod base;
 mod checksum;
 mod clearing;
 mod err;
+mod first_header;
 mod insertion;
 mod keeper;
 mod payload;

@@ -8,8 +8,9 @@ ghost use Rattle.ip_rewrite.specs.Selection.{kept};
 ghost use Rattle.ip_rewrite.specs.Without.{packet_fault, selection_fault, without, len_without, parts_without, without_fault, keeps_checksums};
 ghost use Rattle.ip_rewrite.specs.Writing.{no_survey, surveyed};
 
+use crate::first_header::write_without;
 use crate::survey::Survey;
-use crate::write::{test_room, write_kept};
+use crate::write::test_room;
 use crate::{Authentication, RewriteError, Which};
 use ip_base::ip_number;
 use ip_dissect::{Outline, Packet};
@@ -119,7 +120,7 @@ pub fn without(
         Ok(field) => {
             let outline = &packet.outline;
             let len = outline.base_len + survey.kept_len + outline.payload_len;
-            write_kept(&packet, which, survey.kept_len, field, out);
+            write_without(&packet, which, survey.kept_len, field, out);
             Ok(Rewritten {
                 len,
                 keeps_checksums: !survey.selects_segments,

@@ -8,7 +8,7 @@ ghost use Rattle.ip_rewrite.specs.Base.{number_offset};
 ghost use Rattle.ip_rewrite.specs.Rewritten.{rewritten, rewritten_len, rewritten_field, room_fault};
 ghost use Rattle.ip_rewrite.specs.Selection.{kept};
 ghost use Rattle.ip_rewrite.specs.Without.{without, len_without};
-ghost use Rattle.ip_rewrite.specs.Writing.{IsWritten, link_of};
+ghost use Rattle.ip_rewrite.specs.Writing.{IsWritten, front, link_of};
 
 use crate::base::state;
 use crate::keeper::{Keeper, put_at, set};
@@ -120,6 +120,20 @@ pub(crate) fn link_after(outline: &Outline, last: usize) -> usize
     last
 }
 
+/// Writes the length of a packet into its base header, at the front of a buffer.
+#[inline(always)]
+pub(crate) fn state_length(outline: &Outline, field: u16, out: &mut [u8])
+    requires base { (if outline.now.version == 4 then 20 else 40) ≤ outline.now.base_len }
+    requires fits { outline.now.base_len ≤ length out.old }
+    ensures { (p : DissectedParts) (c : List ExtHeader) (m : ℕ) (q buffer : List ℕ) → outline.now ≡ outline_of p
+        → field ≡ rewritten_field p c q
+        → out.old ≡ front (number_offset p.version) p.base c m ++ q ++ drop (rewritten_len p c q) buffer
+        → out.new ≡ rewritten p c m q ++ drop (rewritten_len p c q) buffer }
+{
+    let (base, _) = out.split_at_mut(outline.base_len);
+    state(base, outline.version, field);
+}
+
 /// Writes what follows the headers, which have `exts_len` bytes, and its length into the base header. The number of
 /// what follows is at `link`.
 #[inline(always)]
@@ -143,8 +157,7 @@ pub(crate) fn finish(
 {
     set(out, link, number.0);
     put_at(out, outline.base_len + exts_len, payload);
-    let (base, _) = out.split_at_mut(outline.base_len);
-    state(base, outline.version, field);
+    state_length(outline, field, out);
 }
 
 /// Writes the base header and the extension headers of a packet as they are.

@@ -1,6 +1,6 @@
-use Rattle.ip_spec.proofs.Common.{◌≡◌, ◌+◌, length, false, sym, ◌∙◌, ap, arith, bytes_of, Result, Ok, Err}
+use Rattle.ip_spec.proofs.Common.{◌≡◌, false, sym, ◌∙◌, ap, arith, Result, Ok, Err}
 use Rattle.std.specs.Prelude.{OnOk}
-use Rattle.ip_dissect.specs.Dissection.{DissectedParts, dissected}
+use Rattle.ip_dissect.specs.Dissection.{dissected}
 use Rattle.ip_dissect.specs.End.{has_error}
 use Rattle.ip_dissect.specs.declared.outline.Outline.{Outline}
 use Rattle.ip_dissect.proofs.PacketLemmas.{outline_fits}

@@ -34,6 +34,6 @@ returns-in-Ok-clause-dissects c =
       ap (λ (x : List ℕ). length (bytes_of (kept c.args.which (dissected x).headers))) (sym same),
     ) in
     let none : without_fault c.args.which c.args.authentication p (length c.args.out.now) ≡ None = ap (λ (w : Which). without_fault w c.args.authentication p (length c.args.out.now)) (sym which) ∙ sym c.in-Ok.ensures.fault in
-    let front = written_front p (kept c.args.which p.headers) p.number p.payload (drop (len_without c.args.which p) c.args.out.now) c.write_kept.new.out
-    (packet.outline.base_len + c.walk-packet.new.visitor.kept_len + packet.outline.payload_len) c.write_kept.ensures (omega (arith, base, kept_len, payload)) in
+    let front = written_front p (kept c.args.which p.headers) p.number p.payload (drop (len_without c.args.which p) c.args.out.now) c.write_without.new.out
+    (packet.outline.base_len + c.walk-packet.new.visitor.kept_len + packet.outline.payload_len) c.write_without.ensures (omega (arith, base, kept_len, payload)) in
     ap dissected front ∙ (dissects c.args.which c.args.authentication (length c.args.out.now) s packet.base packet.base_is none ∙ ap (λ (x : List ℕ). parts_without c.args.which (dissected x)) same)

@@ -1,4 +1,4 @@
-use Rattle.ip_spec.proofs.Common.{◌≡◌, [], ◌∷◌, ◌++◌, ◌||◌, ◌&&◌, Bool, refl, ◌∙◌, ap, arith, list_any, ExtHeader}
+use Rattle.ip_spec.proofs.Common.{◌≡◌, [], ◌∷◌, ◌++◌, ◌||◌, ◌&&◌, refl, ◌∙◌, ap, arith, list_any, ExtHeader}
 use Rattle.ip_dissect.specs.Fragment.{fragments}
 use Rattle.ip_rewrite.specs.Without.{is_authentication}
 use Rattle.ip_rewrite.specs.Clearing.{has_reserved, reserved_fragmented}

@@ -1,4 +1,4 @@
-use Rattle.ip_spec.proofs.Common.{◌≡◌, ◌+◌, ℕ, List, [], ◌∷◌, ◌++◌, ◌||◌, length, refl, sym, ◌∙◌, ap, arith, or_assoc, list_any, ExtHeader}
+use Rattle.ip_spec.proofs.Common.{◌||◌, sym, ◌∙◌, ap, arith, or_assoc, list_any, ExtHeader}
 use Rattle.ip_rewrite.specs.Without.{is_authentication}
 use Rattle.ip_rewrite.proofs.FrontLemmas.{link_more}
 use Rattle.ip_rewrite.proofs.SurveyLemmas.{any_last}

@@ -1,0 +1,104 @@
+//! Packets without their first extension header, as routers most often write them: the other headers are copied at once.
+ghost use Rattle.std.specs.Prelude.{◌≡◌, ◌≤◌, ◌<◌, ◌+◌, ◌^◌, ◌++◌, ◌==◌, None, length, drop, if◌then◌else◌, IfSome};
+ghost use Rattle.ip_spec.specs.Fields.{next_header};
+ghost use Rattle.ip_spec.specs.Chain.{bytes_of};
+ghost use Rattle.ip_dissect.specs.Dissection.{dissected};
+ghost use Rattle.ip_rewrite.specs.Rewritten.{rewritten_field};
+ghost use Rattle.ip_rewrite.specs.Selection.{kept};
+ghost use Rattle.ip_rewrite.specs.Without.{packet_fault, without, len_without};
+ghost use Rattle.ip_rewrite.specs.Writing.{SelectsFirst};
+
+use crate::Which;
+use crate::keeper::{put_at, set};
+use crate::write::{base_of, number_offset, state_length, write_kept};
+use ip_base::IpNumber;
+use ip_dissect::Packet;
+use ip_ext_slices::header_len_at;
+
+/// Returns the length of the first header if that alone is selected. The others have `kept_len` bytes then.
+#[inline(always)]
+pub(crate) fn selected_first(packet: &Packet<'_>, which: Which, kept_len: usize) -> Option<usize>
+    requires whole { packet_fault (dissected packet.now.bytes.now) ≡ None }
+    requires base { (if (dissected packet.now.bytes.now).version == 4 then 20 else 40)
+        ≤ length (dissected packet.now.bytes.now).base }
+    requires kept { kept_len ≡ length (bytes_of (kept which (dissected packet.now.bytes.now).headers)) }
+    ensures { IfSome result (λ len. SelectsFirst which (dissected packet.now.bytes.now).headers len) }
+{
+    let base = base_of(packet);
+    let number = IpNumber(base[number_offset(packet.outline.version)]);
+    let headers = packet.extensions();
+    if !which.selects(number, 0) {
+        return None;
+    }
+    let len = header_len_at(true, number, headers)?;
+    if headers.len() - len == kept_len {
+        Some(len)
+    } else {
+        None
+    }
+}
+
+/// Returns the number of what follows a header.
+#[inline(always)]
+fn next_number(header: &[u8]) -> u8
+    requires { 0 < length header.now }
+    ensures { result ≡ next_header header.now }
+{
+    header[0]
+}
+
+/// Writes the packet without its first header, which has `len` bytes; `field` is the number for the length field.
+#[inline(always)]
+pub(crate) fn write_after_first(
+    packet: &Packet<'_>,
+    which: Which,
+    len: usize,
+    field: u16,
+    out: &mut [u8],
+)
+    requires small { length out.old < 2 ^ 64 }
+    requires whole { packet_fault (dissected packet.now.bytes.now) ≡ None }
+    requires base { (if (dissected packet.now.bytes.now).version == 4 then 20 else 40)
+        ≤ length (dissected packet.now.bytes.now).base }
+    requires first { SelectsFirst which (dissected packet.now.bytes.now).headers len }
+    requires field { field ≡ rewritten_field (dissected packet.now.bytes.now)
+        (kept which (dissected packet.now.bytes.now).headers) (dissected packet.now.bytes.now).payload }
+    requires fits { len_without which (dissected packet.now.bytes.now) ≤ length out.old }
+    ensures { out.new ≡ without which (dissected packet.now.bytes.now)
+        ++ drop (len_without which (dissected packet.now.bytes.now)) out.old }
+{
+    let outline = &packet.outline;
+    let base = base_of(packet);
+    let (first, others) = packet.extensions().split_at(len);
+    put_at(out, 0, base);
+    set(out, number_offset(outline.version), next_number(first));
+    put_at(out, base.len(), others);
+    put_at(out, base.len() + others.len(), packet.payload());
+    state_length(outline, field, out);
+}
+
+/// Writes the packet of which these headers are kept, whose length is `kept_len`; `field` is the number for the length field.
+#[inline(always)]
+pub(crate) fn write_without(
+    packet: &Packet<'_>,
+    which: Which,
+    kept_len: usize,
+    field: u16,
+    out: &mut [u8],
+)
+    requires small { length out.old < 2 ^ 64 }
+    requires whole { packet_fault (dissected packet.now.bytes.now) ≡ None }
+    requires base { (if (dissected packet.now.bytes.now).version == 4 then 20 else 40)
+        ≤ length (dissected packet.now.bytes.now).base }
+    requires kept { kept_len ≡ length (bytes_of (kept which (dissected packet.now.bytes.now).headers)) }
+    requires field { field ≡ rewritten_field (dissected packet.now.bytes.now)
+        (kept which (dissected packet.now.bytes.now).headers) (dissected packet.now.bytes.now).payload }
+    requires fits { len_without which (dissected packet.now.bytes.now) ≤ length out.old }
+    ensures { out.new ≡ without which (dissected packet.now.bytes.now)
+        ++ drop (len_without which (dissected packet.now.bytes.now)) out.old }
+{
+    match selected_first(packet, which, kept_len) {
+        Some(len) => write_after_first(packet, which, len, field, out),
+        None => write_kept(packet, which, kept_len, field, out),
+    }
+}

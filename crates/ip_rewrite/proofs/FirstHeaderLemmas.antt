@@ -1,6 +1,7 @@
 -- The first header of a packet is left out, and no other.
-use Rattle.ip_spec.proofs.Common.{◌≡◌, ℕ, ◌+◌, ◌-◌, ◌≤◌, ◌<◌, List, [], ◌∷◌, ◌++◌, length, take, drop, slice_set, inl, inr, subst, refl, sym, ◌∙◌, ap, arith, true, cases_Bool, cond-true, cond-false, length-append, length-set, IsHeader, ExtHeader, IsChain, AreLinked, bytes_of, leads_to}
-use Rattle.std.proofs.lemmas.List.{take-append-drop, length-take-le, set-append_left}
+use Rattle.ip_spec.proofs.Common.{◌≡◌, ℕ, ◌+◌, ◌-◌, ◌≤◌, ◌<◌, List, [], ◌∷◌, ◌++◌, length, take, drop, slice_set, inl, inr, subst, refl, sym, ◌∙◌, ap, arith, true, cases_Bool, cond-true, cond-false, append_assoc, drop-drop, length-append, length-set, IsHeader, ExtHeader, IsChain, AreLinked, bytes_of, leads_to}
+use Rattle.std.proofs.Math.Seq.{take-add}
+use Rattle.std.proofs.lemmas.List.{take-append-drop, length-take-le, drop-take, set-append_left}
 use Rattle.ip_spec.proofs.HeaderLemmas.{header-least, one_header}
 use Rattle.ip_rewrite.specs.Headers.{linked_headers}
 use Rattle.ip_rewrite.specs.Selection.{selects, kept_from, kept}
@@ -43,22 +44,34 @@ selects_first w n (h ∷ c) s len k chain is sel header within minus size =
       size = at;
     }
 
--- The others are written after the base header, and q after them.
-pub written_after : (l : ℕ) (b buffer : List ℕ) (c : List ExtHeader) (k : ℕ) (e q x y z : List ℕ) → l < length b → AreLinked k c → e ≡ bytes_of c
+-- The others and q are written after the base header.
+pub written_after : (l : ℕ) (b buffer : List ℕ) (c : List ExtHeader) (k : ℕ) (q r x y : List ℕ) → l < length b → AreLinked k c → r ≡ bytes_of c ++ q
     → x ≡ slice_set (b ++ drop (length b) buffer) l k
-    → y ≡ take (length b) x ++ e ++ drop (length b + length e) x
-    → z ≡ take (length b + length e) y ++ q ++ drop (length b + length e + length q) y
-    → z ≡ front l b c (leads_to k c) ++ q ++ drop (length b + length (bytes_of c) + length q) buffer
-written_after l b buffer c k e q x y z less links is base put after =
+    → y ≡ take (length b) x ++ r ++ drop (length b + length r) x
+    → y ≡ front l b c (leads_to k c) ++ q ++ drop (length b + length (bytes_of c) + length q) buffer
+written_after l b buffer c k q r x y less links is base put =
+    let e : List ℕ = bytes_of c in
     let f : List ℕ = slice_set b l k in
     let size : length f ≡ length b = length-set b l k in
     let x_is : x ≡ f ++ drop (length f) buffer = base ∙ (set-append_left b (drop (length b) buffer) l k less ∙ ap (λ n. f ++ drop n buffer) (sym size)) in
-    let y_put : y ≡ take (length f) x ++ e ++ drop (length f + length e) x = subst (λ n. y ≡ take n x ++ e ++ drop (n + length e) x) (sym size) put in
-    let y_is : y ≡ f ++ e ++ drop (length f + length e) buffer = copied_after f e buffer x y x_is y_put in
-    let front_is : front l b c (leads_to k c) ≡ f ++ e = ap (λ n. slice_set b l n ++ bytes_of (linked_headers (leads_to k c) c)) (first_is k c links) ∙ (ap (λ d. f ++ bytes_of d) (linked_same k c links) ∙ ap (λ r. f ++ r) (sym is)) in
-    let both : length (f ++ e) ≡ length b + length e = length-append f e ∙ ap (λ n. n + length e) size in
-    let y_whole : y ≡ (f ++ e) ++ drop (length (f ++ e)) buffer = y_is ∙ ap (λ n. (f ++ e) ++ drop n buffer) (sym (length-append f e)) in
-    let z_put : z ≡ take (length (f ++ e)) y ++ q ++ drop (length (f ++ e) + length q) y = subst (λ n. z ≡ take n y ++ q ++ drop (n + length q) y) (sym both) after in
-    let z_is : z ≡ (f ++ e) ++ q ++ drop (length (f ++ e) + length q) buffer = copied_after (f ++ e) q buffer y z y_whole z_put in
-    let at : length (f ++ e) + length q ≡ length b + length (bytes_of c) + length q = omega (arith, both, ap length is) in
-    z_is ∙ (ap (λ n. (f ++ e) ++ q ++ drop n buffer) at ∙ ap (λ r. r ++ q ++ drop (length b + length (bytes_of c) + length q) buffer) (sym front_is))
+    let y_put : y ≡ take (length f) x ++ r ++ drop (length f + length r) x = subst (λ n. y ≡ take n x ++ r ++ drop (n + length r) x) (sym size) put in
+    let y_is : y ≡ f ++ r ++ drop (length f + length r) buffer = copied_after f r buffer x y x_is y_put in
+    let front_is : front l b c (leads_to k c) ≡ f ++ e = ap (λ n. slice_set b l n ++ bytes_of (linked_headers (leads_to k c) c)) (first_is k c links) ∙ ap (λ d. f ++ bytes_of d) (linked_same k c links) in
+    let at : length f + length r ≡ length b + length e + length q = omega (arith, size, ap length is, length-append e q) in
+    y_is ∙ (ap (λ n. f ++ r ++ drop n buffer) at ∙ (ap (λ t. f ++ t ++ drop (length b + length e + length q) buffer) is
+    ∙ (ap (λ t. t ++ drop (length b + length e + length q) buffer) (sym (append_assoc f e q)) ∙ ap (λ t. t ++ q ++ drop (length b + length e + length q) buffer) (sym front_is))))
+
+-- what follows the first n bytes of e, and q after it
+pub rest_of_part : (s : List ℕ) (start size more n : ℕ) (e q : List ℕ) → n ≤ size → take (start + size - start) (drop start s) ≡ e → take (start + size + more - (start + size)) (drop (start + size) s) ≡ q
+    → take (start + size + more - (start + n)) (drop (start + n) s) ≡ drop n e ++ q
+rest_of_part s start size more n e q fits first second =
+    let t : List ℕ = drop start s in
+    let a : ℕ = size - n in
+    let whole : n + a ≡ size = omega (arith, fits) in
+    let count : start + size + more - (start + n) ≡ a + more = omega (arith, fits) in
+    let from : drop (start + n) s ≡ drop n t = sym (drop-drop n start s) in
+    let all : take size t ≡ e = ap (λ k. take k t) (omega arith) ∙ first in
+    let front : take a (drop n t) ≡ drop n e = sym (drop-take n a t) ∙ (ap (λ k. drop n (take k t)) whole ∙ ap (drop n) all) in
+    let rest : drop a (drop n t) ≡ drop (start + size) s = drop-drop a n t ∙ (ap (λ k. drop k t) whole ∙ drop-drop size start s) in
+    let back : take more (drop a (drop n t)) ≡ q = ap (take more) rest ∙ (ap (λ k. take k (drop (start + size) s)) (omega arith) ∙ second) in
+    ap (λ k. take k (drop (start + n) s)) count ∙ (ap (take (a + more)) from ∙ (take-add a more (drop n t) ∙ (ap (λ x. x ++ take more (drop a (drop n t))) front ∙ ap (λ x. drop n e ++ x) back)))

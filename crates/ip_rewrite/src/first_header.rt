@@ -47,6 +47,19 @@ fn next_number(header: &[u8]) -> u8
     header[0]
 }
 
+/// Returns the bytes of the packet after its base header and `len` bytes of extension headers.
+#[inline(always)]
+fn bytes_after<'a>(packet: &Packet<'a>, len: usize) -> &'a [u8]
+    requires { len ≤ length (bytes_of (dissected packet.now.bytes.now).headers) }
+    ensures { result.now ≡ drop len (bytes_of (dissected packet.now.bytes.now).headers)
+        ++ (dissected packet.now.bytes.now).payload }
+{
+    let outline = &packet.outline;
+    let start = outline.base_len + len;
+    let end = outline.base_len + outline.extensions_len + outline.payload_len;
+    &packet.bytes[start..end]
+}
+
 /// Writes the packet without its first header, which has `len` bytes; `field` is the number for the length field.
 #[inline(always)]
 pub(crate) fn write_after_first(
@@ -69,11 +82,10 @@ pub(crate) fn write_after_first(
 {
     let outline = &packet.outline;
     let base = base_of(packet);
-    let (first, others) = packet.extensions().split_at(len);
+    let (first, _) = packet.extensions().split_at(len);
     put_at(out, 0, base);
     set(out, number_offset(outline.version), next_number(first));
-    put_at(out, base.len(), others);
-    put_at(out, base.len() + others.len(), packet.payload());
+    put_at(out, base.len(), bytes_after(packet, len));
     state_length(outline, field, out);
 }
 

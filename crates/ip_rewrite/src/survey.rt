@@ -99,7 +99,8 @@ pub(crate) fn has_segments(number: IpNumber, header: &[u8]) -> bool
     ensures { (h : ExtHeader) → h ≡ record { number = number.0; bytes = header.now }
         → result ≡ has_segments h }
 {
-    number == ip_number::IPV6_ROUTE && header[3] != 0
+    // no branch: which headers are routing headers can't be predicted
+    (number == ip_number::IPV6_ROUTE) & (header[3] != 0)
 }
 
 impl Survey {

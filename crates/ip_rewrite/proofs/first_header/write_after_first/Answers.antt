@@ -1,4 +1,4 @@
-use Rattle.ip_spec.proofs.Common.{◌≡◌, ℕ, ◌+◌, ◌≤◌, ◌<◌, ◌++◌, ◌∷◌, List, length, take, drop, slice_set, slice_index, ap, sym, ◌∙◌, subst, arith, take-append_seam, drop-append_seam, next_header, ExtHeader, IsChain, AreLinked, bytes_of, leads_to}
+use Rattle.ip_spec.proofs.Common.{◌≡◌, ℕ, ◌+◌, ◌≤◌, ◌<◌, ◌++◌, ◌∷◌, List, length, take, drop, slice_set, slice_index, ap, sym, ◌∙◌, subst, arith, take-append_seam, length-append, drop-append_seam, next_header, ExtHeader, IsChain, AreLinked, bytes_of, leads_to}
 use Rattle.ip_spec.proofs.HeaderLemmas.{header-least}
 use Rattle.ip_dissect.specs.Dissection.{DissectedParts, dissected}
 use Rattle.ip_dissect.specs.declared.outline.Outline.{Outline}
@@ -34,7 +34,7 @@ returns c =
     let buffer : List ℕ = c.args.out.now in
     let r : List ℕ = c.base_of-base.result.now in
     let g : List ℕ = c.split_at.result.0.now in
-    let e : List ℕ = c.split_at.result.1.now in
+    let e : List ℕ = c.bytes_after.result.now in
     let chain : IsWholeChain p = whole_chain s c.args.packet.now.base c.args.packet.now.base_is c.requires.whole in
     let here : IsChain (slice_index b l) (f.first ∷ d) = subst (IsChain (slice_index b l)) f.all chain.chain in
     let links : AreLinked k d = here.links.1 in
@@ -44,17 +44,14 @@ returns c =
     let base : r ≡ b = c.base_of-base.ensures in
     let exts : c.extensions.result.now ≡ f.first.bytes ++ bytes_of d = c.extensions.ensures ∙ ap bytes_of f.all in
     let first : g ≡ f.first.bytes = c.split_at.ensures.front ∙ (ap (λ (n : ℕ). take n c.extensions.result.now) f.size ∙ (ap (take (length f.first.bytes)) exts ∙ take-append_seam f.first.bytes (bytes_of d))) in
-    let others : e ≡ bytes_of d = c.split_at.ensures.back ∙ (ap (λ (n : ℕ). drop n c.extensions.result.now) f.size ∙ (ap (drop (length f.first.bytes)) exts ∙ drop-append_seam f.first.bytes (bytes_of d))) in
+    let others : e ≡ bytes_of d ++ q = c.bytes_after.ensures ∙ ap (λ (t : List ℕ). t ++ q) (ap (drop c.args.len) (ap bytes_of f.all) ∙ (ap (λ (n : ℕ). drop n (f.first.bytes ++ bytes_of d)) f.size ∙ drop-append_seam f.first.bytes (bytes_of d))) in
     let next : c.next_number.result ≡ k = c.next_number.ensures ∙ ap next_header first in
-    let payload : c.payload.result.now ≡ q = c.payload.ensures in
     let fits : length b + length (bytes_of d) + length q ≤ length buffer = omega (arith, c.requires.fits, ap (λ (x : List ExtHeader). length (bytes_of x)) f.kept) in
     let base_len : length r ≡ length b = ap length base in
-    let others_len : length e ≡ length (bytes_of d) = ap length others in
-    let payload_len : length c.payload.result.now ≡ length q = ap length payload in
+    let others_len : length e ≡ length (bytes_of d) + length q = ap length others ∙ length-append (bytes_of d) q in
     let start : List ℕ = c.put_at.new.out in
     let x : List ℕ = c.set.new.out in
     let y : List ℕ = c.put_at-2.new.out in
-    let z : List ℕ = c.put_at-3.new.out in
     let start_put : start ≡ r ++ drop (0 + length r) buffer = c.put_at.ensures (omega (arith, base_len, fits)) in
     let start_is : start ≡ b ++ drop (length b) buffer = subst (λ (t : List ℕ). start ≡ t ++ drop (0 + length t) buffer) base start_put ∙ ap (λ (n : ℕ). b ++ drop n buffer) (omega arith) in
     let less : l < length b = offset_within p c.requires.base in
@@ -62,11 +59,8 @@ returns c =
     let set_is : x ≡ slice_set (b ++ drop (length b) buffer) l k = stored ∙ (ap (λ (t : List ℕ). slice_set t c.number_offset.result c.next_number.result) start_is ∙ (ap (λ (i : ℕ). slice_set (b ++ drop (length b) buffer) i c.next_number.result) offset ∙ ap (slice_set (b ++ drop (length b) buffer) l) next)) in
     let put = c.put_at-2.ensures (omega (arith, base_len, others_len, fits, c.put_at.auto.out, c.set.ensures.len)) in
     let y_put : y ≡ take (length b) x ++ e ++ drop (length b + length e) x = subst (λ (n : ℕ). y ≡ take n x ++ e ++ drop (n + length e) x) base_len put in
-    let after = c.put_at-3.ensures (omega (arith, base_len, others_len, payload_len, fits, c.put_at.auto.out, c.set.ensures.len, c.put_at-2.auto.out)) in
-    let z_here : z ≡ take (length b + length e) y ++ c.payload.result.now ++ drop (length b + length e + length c.payload.result.now) y = subst (λ (n : ℕ). z ≡ take (n + length e) y ++ c.payload.result.now ++ drop (n + length e + length c.payload.result.now) y) base_len after in
-    let z_put : z ≡ take (length b + length e) y ++ q ++ drop (length b + length e + length q) y = subst (λ (t : List ℕ). z ≡ take (length b + length e) y ++ t ++ drop (length b + length e + length t) y) payload z_here in
-    let begins = written_after l b buffer d k e q x y z less links others set_is y_put z_put in
-    let named : z ≡ front l b d p.number ++ q ++ drop (length b + length (bytes_of d) + length q) buffer = subst (λ (m : ℕ). z ≡ front l b d m ++ q ++ drop (length b + length (bytes_of d) + length q) buffer) (sym number) begins in
+    let begins = written_after l b buffer d k q e x y less links others set_is y_put in
+    let named : y ≡ front l b d p.number ++ q ++ drop (length b + length (bytes_of d) + length q) buffer = subst (λ (m : ℕ). y ≡ front l b d m ++ q ++ drop (length b + length (bytes_of d) + length q) buffer) (sym number) begins in
     let field : c.args.field ≡ rewritten_field p d q = c.requires.field ∙ ap (λ (x : List ExtHeader). rewritten_field p x q) f.kept in
     let done = c.state_length.ensures p d p.number q buffer c.args.packet.now.outline_is field named in
     done ∙ ap (λ (x : List ExtHeader). rewritten p x p.number q ++ drop (rewritten_len p x q) buffer) (sym f.kept)

@@ -1,14 +1,18 @@
 -- The first header of a packet is left out, and no other.
-use Rattle.ip_spec.proofs.Common.{◌≡◌, ℕ, ◌+◌, ◌-◌, ◌≤◌, ◌<◌, List, [], ◌∷◌, ◌++◌, length, take, drop, slice_set, inl, inr, subst, refl, sym, ◌∙◌, ap, arith, true, cases_Bool, cond-true, cond-false, append_assoc, drop-drop, length-append, length-set, IsHeader, ExtHeader, IsChain, AreLinked, bytes_of, leads_to}
+use Rattle.ip_spec.proofs.Common.{◌≡◌, ℕ, ◌+◌, ◌-◌, ◌≤◌, ◌<◌, List, [], ◌∷◌, ◌++◌, length, take, drop, slice_set, inl, inr, subst, refl, sym, ◌∙◌, ap, arith, common_steps, suc, true, cases_Bool, cond-true, cond-false, false, Bool, ◌||◌, ◌&&◌, or-false, and-false, ne_eqb, nat_lt, list_any, append_assoc, drop-drop, length-append, length-set, IsHeader, ExtHeader, IsChain, AreLinked, IsEnd, take-append_seam, bytes_of, leads_to}
 use Rattle.std.proofs.Math.Seq.{take-add}
 use Rattle.std.proofs.lemmas.List.{take-append-drop, length-take-le, drop-take, set-append_left}
 use Rattle.ip_spec.proofs.HeaderLemmas.{header-least, one_header}
 use Rattle.ip_rewrite.specs.Headers.{linked_headers}
-use Rattle.ip_rewrite.specs.Selection.{selects, kept_from, kept}
-use Rattle.ip_rewrite.specs.Writing.{front, SelectsFirst}
+use Rattle.ip_rewrite.specs.Selection.{selects, kept_from, kept, any_selected, selects_fragmented}
+use Rattle.ip_dissect.specs.Fragment.{fragments}
+use Rattle.ip_rewrite.specs.Without.{is_authentication, has_segments}
+use Rattle.ip_rewrite.specs.Writing.{front, SelectsFirst, surveyed, no_survey}
 use Rattle.ip_rewrite.specs.declared.which.Which.{Which}
+use Rattle.ip_rewrite.specs.declared.which.Which.TheVariants.{Index}
+use Rattle.ip_rewrite.specs.declared.survey.Survey.{Survey}
 use Rattle.ip_rewrite.proofs.ChainLemmas.{AreHeaders}
-use Rattle.ip_rewrite.proofs.SurveyLemmas.{kept_less}
+use Rattle.ip_rewrite.proofs.SurveyLemmas.{kept_less, any_last, same_survey}
 use Rattle.ip_rewrite.proofs.FrontLemmas.{first_is, linked_same, copied_after}
 
 -- headers of which as many bytes are kept as there are
@@ -75,3 +79,68 @@ rest_of_part s start size more n e q fits first second =
     let rest : drop a (drop n t) ≡ drop (start + size) s = drop-drop a n t ∙ (ap (λ k. drop k t) whole ∙ drop-drop size start s) in
     let back : take more (drop a (drop n t)) ≡ q = ap (take more) rest ∙ (ap (λ k. take k (drop (start + size) s)) (omega arith) ∙ second) in
     ap (λ k. take k (drop (start + n) s)) count ∙ (ap (take (a + more)) from ∙ (take-add a more (drop n t) ∙ (ap (λ x. x ++ take more (drop a (drop n t))) front ∙ ap (λ x. drop n e ++ x) back)))
+
+some_before : (n : ℕ) → nat_lt 0 (suc n) ≡ true
+some_before n = grind (arith, common_steps)
+
+-- some header after the first
+pub later_more : (t : ExtHeader → Bool) (c : List ExtHeader) (h : ExtHeader) → list_any t (drop 1 (c ++ h ∷ [])) ≡ (list_any t (drop 1 c) || nat_lt 0 (length c) && t h)
+later_more t [] h = refl
+later_more t (g ∷ c) h = any_last t c h ∙ ap (λ b. list_any t c || b && t h) (sym (some_before (length c)))
+
+-- Of headers after the first, the index 0 selects none.
+unselected : (i : ℕ) (h : ExtHeader) → 0 < i → selects (Index 0) i h ≡ false
+unselected i h less = ne_eqb i 0 (λ e. omega (arith, e, less))
+
+any_later : (t : ExtHeader → Bool) (i : ℕ) (c : List ExtHeader) → 0 < i → any_selected t (Index 0) i c ≡ false
+any_later t i [] less = refl
+any_later t i (h ∷ c) less = ap (λ b. b && t h || any_selected t (Index 0) (i + 1) c) (unselected i h less) ∙ any_later t (i + 1) c (omega (arith, less))
+
+fragmented_later : (i : ℕ) (after : Bool) (c : List ExtHeader) → 0 < i → selects_fragmented (Index 0) i after c ≡ false
+fragmented_later i after [] less = refl
+fragmented_later i after (h ∷ c) less =
+    ap (λ b. after && b || selects_fragmented (Index 0) (i + 1) (after || fragments h) c) (unselected i h less)
+    ∙ (ap (λ b. b || selects_fragmented (Index 0) (i + 1) (after || fragments h) c) (and-false after) ∙ fragmented_later (i + 1) (after || fragments h) c (omega (arith, less)))
+
+kept_later : (i : ℕ) (c : List ExtHeader) → 0 < i → kept_from (Index 0) i c ≡ c
+kept_later i [] less = refl
+kept_later i (h ∷ c) less =
+    cond-false (selects (Index 0) i h) (kept_from (Index 0) (i + 1) c) (h ∷ kept_from (Index 0) (i + 1) c) (unselected i h less)
+    ∙ ap (λ d. h ∷ d) (kept_later (i + 1) c (omega (arith, less)))
+
+-- A survey of the first header h, which the headers c follow.
+pub first_surveyed : (h : ExtHeader) (c : List ExtHeader) (v : Survey) → v.which ≡ Index 0 → v.selects ≡ true → v.selects_fragmenting ≡ fragments h → v.selects_fragmented ≡ false → v.selects_segments ≡ has_segments h
+    → v.is_fragmented ≡ list_any fragments (h ∷ c) → v.keeps_authentication ≡ list_any is_authentication c → v.kept_len ≡ length (bytes_of c) → v ≡ surveyed (no_survey (Index 0)) (h ∷ c)
+first_surveyed h c v a b d e f g j k =
+    let rest : kept (Index 0) (h ∷ c) ≡ c = kept_later (0 + 1) c (omega arith) in
+    same_survey v (surveyed (no_survey (Index 0)) (h ∷ c)) a
+    b
+    (d ∙ (sym (or-false (fragments h)) ∙ ap (λ x. fragments h || x) (sym (any_later fragments (0 + 1) c (omega arith)))))
+    (e ∙ sym (fragmented_later (0 + 1) (fragments h) c (omega arith)))
+    (f ∙ (sym (or-false (has_segments h)) ∙ ap (λ x. has_segments h || x) (sym (any_later has_segments (0 + 1) c (omega arith)))))
+    g
+    (j ∙ ap (list_any is_authentication) (sym rest))
+    (omega (arith, k, ap (λ x. length (bytes_of x)) rest))
+
+-- A header of the chain's number is its first one, and the first one is such a header.
+pub first_of : (n : ℕ) (c : List ExtHeader) (s : List ℕ) (len : ℕ) → IsChain n c → s ≡ bytes_of c → IsHeader n (take len s) → len ≤ length s
+    → (d : List ExtHeader) × (c ≡ (record { number = n; bytes = take len s }) ∷ d) × (length s - len ≡ length (bytes_of d))
+first_of n [] s len chain is header within =
+    absurd (let none : length s ≡ 0 = ap length is in let h : ⊥ = omega (arith, header-least n (take len s) header, length-take-le len s within, none, within) in h)
+first_of n (h ∷ c) s len chain is header within =
+    let number : h.number ≡ n = chain.links.0 in
+    let mine : IsHeader n h.bytes = subst (λ m. IsHeader m h.bytes) number chain.headers.0 in
+    let one : take len s ≡ h.bytes = one_header n (take len s) h.bytes (drop len s) (bytes_of c) header mine (take-append-drop len s ∙ is) in
+    let same : h ≡ record { number = n; bytes = take len s } = rw (sym number, one) refl in
+    (c, ap (λ g. g ∷ c) same, omega (arith, length-take-le len s within, ap length one, ap length is, length-append h.bytes (bytes_of c)))
+
+pub no_first : (n : ℕ) (c : List ExtHeader) (s : List ℕ) → IsChain n c → s ≡ bytes_of c → IsEnd true n s → c ≡ []
+no_first n [] s chain is end = refl
+no_first n (h ∷ c) s chain is end =
+    let number : h.number ≡ n = chain.links.0 in
+    absurd (end h (record {
+      number = number;
+      header = subst (λ m. IsHeader m h.bytes) number chain.headers.0;
+      prefix = ap (take (length h.bytes)) is ∙ take-append_seam h.bytes (bytes_of c);
+      zero_only_first = λ e. refl;
+    }))

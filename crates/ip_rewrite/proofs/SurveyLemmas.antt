@@ -69,7 +69,7 @@ joined_or a b x y e = or_assoc a b x ∙ ap (λ z. a || z) (sym e)
 pub more_or : (old now result fresh x any all : Bool) → now ≡ (old || any) → fresh ≡ x → result ≡ (now || fresh) → all ≡ (any || x) → result ≡ (old || all)
 more_or old now result fresh x any all before is sum whole = sum ∙ (ap (λ z. z || fresh) before ∙ (ap (λ z. (old || any) || z) is ∙ joined_or old any x all whole))
 
-same_survey : (v u : Survey) → v.which ≡ u.which → v.selects ≡ u.selects → v.selects_fragmenting ≡ u.selects_fragmenting → v.selects_fragmented ≡ u.selects_fragmented → v.selects_segments ≡ u.selects_segments
+pub same_survey : (v u : Survey) → v.which ≡ u.which → v.selects ≡ u.selects → v.selects_fragmenting ≡ u.selects_fragmenting → v.selects_fragmented ≡ u.selects_fragmented → v.selects_segments ≡ u.selects_segments
     → v.is_fragmented ≡ u.is_fragmented → v.keeps_authentication ≡ u.keeps_authentication → v.kept_len ≡ u.kept_len → v ≡ u
 same_survey v u a b d e f g h i = rw (a, b, d, e, f, g, h, i) refl
 

@@ -9,7 +9,7 @@ ghost use Rattle.ip_rewrite.specs.Without.{packet_fault, without, len_without};
 ghost use Rattle.ip_rewrite.specs.Writing.{SelectsFirst};
 
 use crate::Which;
-use crate::keeper::{put_at, set};
+use crate::keeper::{put, set};
 use crate::write::{base_of, number_offset, state_length, write_kept};
 use ip_base::IpNumber;
 use ip_dissect::Packet;
@@ -83,9 +83,9 @@ pub(crate) fn write_after_first(
     let outline = &packet.outline;
     let base = base_of(packet);
     let (first, _) = packet.extensions().split_at(len);
-    put_at(out, 0, base);
+    put(out, 0, base);
     set(out, number_offset(outline.version), next_number(first));
-    put_at(out, base.len(), bytes_after(packet, len));
+    put(out, base.len(), bytes_after(packet, len));
     state_length(outline, field, out);
 }
 

@@ -34,6 +34,15 @@ pub(crate) fn set(out: &mut [u8], index: usize, byte: u8)
     }
 }
 
+/// Copies bytes to an offset of a buffer.
+#[inline(always)]
+pub(crate) fn put(out: &mut [u8], offset: usize, bytes: &[u8])
+    requires { offset + length bytes.now ≤ length out.old }
+    ensures { out.new ≡ take offset out.old ++ bytes.now ++ drop (offset + length bytes.now) out.old }
+{
+    out[offset..offset + bytes.len()].copy_from_slice(bytes);
+}
+
 /// Copies bytes to an offset of a buffer, if they fit.
 #[inline(always)]
 pub(crate) fn put_at(out: &mut [u8], offset: usize, bytes: &[u8])
@@ -41,7 +50,7 @@ pub(crate) fn put_at(out: &mut [u8], offset: usize, bytes: &[u8])
         ≡ take offset out.old ++ bytes.now ++ drop (offset + length bytes.now) out.old }
 {
     if offset <= out.len() && bytes.len() <= out.len() - offset {
-        out[offset..offset + bytes.len()].copy_from_slice(bytes);
+        put(out, offset, bytes);
     }
 }
 

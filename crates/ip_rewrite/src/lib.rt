@@ -6,6 +6,7 @@ mod checksum;
 mod clearing;
 mod err;
 mod first_header;
+mod first_survey;
 mod insertion;
 mod keeper;
 mod payload;

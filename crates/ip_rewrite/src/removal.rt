@@ -7,8 +7,10 @@ ghost use Rattle.ip_rewrite.specs.Rewritten.{rewritten_field};
 ghost use Rattle.ip_rewrite.specs.Selection.{kept};
 ghost use Rattle.ip_rewrite.specs.Without.{packet_fault, selection_fault, without, len_without, parts_without, without_fault, keeps_checksums};
 ghost use Rattle.ip_rewrite.specs.Writing.{no_survey, surveyed};
+ghost use Rattle.ip_rewrite.specs.declared.which.Which.TheVariants.{Index};
 
 use crate::first_header::write_without;
+use crate::first_survey::{Later, survey_first};
 use crate::survey::Survey;
 use crate::write::test_room;
 use crate::{Authentication, RewriteError, Which};
@@ -96,6 +98,62 @@ fn test(
     test_room(outline, survey.kept_len, outline.payload_len, room)
 }
 
+/// Writes the packet without the extension headers that are selected, by what a survey holds after all headers.
+#[inline(always)]
+fn write_surveyed(
+    packet: &Packet<'_>,
+    survey: &Survey,
+    authentication: Authentication,
+    out: &mut [u8],
+) -> Result<Rewritten, RewriteError>
+    requires survey { survey.now ≡ surveyed (no_survey survey.now.which) (dissected packet.now.bytes.now).headers }
+    requires small { length packet.now.bytes.now < 2 ^ 64 }
+    ensures fault { result_err result
+        ≡ without_fault survey.now.which authentication (dissected packet.now.bytes.now) (length out.old) }
+    ensures len { IfOk result (λ r. r.len ≡ len_without survey.now.which (dissected packet.now.bytes.now)) }
+    ensures checksums { IfOk result (λ r.
+        r.keeps_checksums ≡ keeps_checksums survey.now.which (dissected packet.now.bytes.now)) }
+    ensures written { IfOk result (λ r.
+        out.new ≡ without survey.now.which (dissected packet.now.bytes.now) ++ drop r.len out.old) }
+    ensures dissects { IfOk result (λ r.
+        dissected (take r.len out.new) ≡ parts_without survey.now.which (dissected packet.now.bytes.now)) }
+    ensures stays { OnErr result (out.new ≡ out.old) }
+{
+    let field = test(packet, survey, authentication, out.len())?;
+    let outline = &packet.outline;
+    let len = outline.base_len + survey.kept_len + outline.payload_len;
+    write_without(packet, survey.which, survey.kept_len, field, out);
+    Ok(Rewritten {
+        len,
+        keeps_checksums: !survey.selects_segments,
+    })
+}
+
+/// Writes a packet without its first extension header. The walk over the headers gathers less than a survey.
+#[inline(always)]
+fn without_first(
+    packet: &[u8],
+    authentication: Authentication,
+    out: &mut [u8],
+) -> Result<Rewritten, RewriteError>
+    ensures fault { result_err result
+        ≡ without_fault (Index 0) authentication (dissected packet.now) (length out.old) }
+    ensures len { IfOk result (λ r. r.len ≡ len_without (Index 0) (dissected packet.now)) }
+    ensures checksums { IfOk result (λ r.
+        r.keeps_checksums ≡ keeps_checksums (Index 0) (dissected packet.now)) }
+    ensures written { IfOk result (λ r.
+        out.new ≡ without (Index 0) (dissected packet.now) ++ drop r.len out.old) }
+    ensures dissects { IfOk result (λ r.
+        dissected (take r.len out.new) ≡ parts_without (Index 0) (dissected packet.now)) }
+    ensures stays { OnErr result (out.new ≡ out.old) }
+{
+    let mut later = Later::new();
+    let packet = Packet::walk(packet, &mut later);
+    test_packet(&packet.outline)?;
+    let survey = survey_first(&packet, &later);
+    write_surveyed(&packet, &survey, authentication, out)
+}
+
 /// Writes a packet to the front of `out` without the extension headers that are selected, and nothing else changed.
 pub fn without(
     packet: &[u8],
@@ -114,18 +172,10 @@ pub fn without(
         dissected (take r.len out.new) ≡ parts_without which (dissected packet.now)) }
     ensures stays { OnErr result (out.new ≡ out.old) }
 {
+    if which == Which::Index(0) {
+        return without_first(packet, authentication, out);
+    }
     let mut survey = Survey::new(which);
     let packet = Packet::walk(packet, &mut survey);
-    match test(&packet, &survey, authentication, out.len()) {
-        Ok(field) => {
-            let outline = &packet.outline;
-            let len = outline.base_len + survey.kept_len + outline.payload_len;
-            write_without(&packet, which, survey.kept_len, field, out);
-            Ok(Rewritten {
-                len,
-                keeps_checksums: !survey.selects_segments,
-            })
-        }
-        Err(error) => Err(error),
-    }
+    write_surveyed(&packet, &survey, authentication, out)
 }

@@ -1,5 +1,5 @@
 -- The first header of a packet is left out, and no other.
-use Rattle.ip_spec.proofs.Common.{◌≡◌, ℕ, ◌+◌, ◌-◌, ◌≤◌, ◌<◌, List, [], ◌∷◌, ◌++◌, length, take, drop, slice_set, inl, inr, subst, refl, sym, ◌∙◌, ap, arith, common_steps, suc, true, cases_Bool, cond-true, cond-false, false, Bool, ◌||◌, ◌&&◌, or-false, and-false, ne_eqb, nat_lt, list_any, append_assoc, drop-drop, length-append, length-set, IsHeader, ExtHeader, IsChain, AreLinked, IsEnd, take-append_seam, bytes_of, leads_to}
+use Rattle.ip_spec.proofs.Common.{◌≡◌, ℕ, ◌+◌, ◌-◌, ◌≤◌, ◌<◌, List, [], ◌∷◌, ◌++◌, length, take, drop, slice_set, inl, inr, subst, refl, sym, ◌∙◌, ap, arith, common_steps, suc, false≢true, true, cases_Bool, cond-true, cond-false, false, Bool, ◌||◌, ◌&&◌, or-false, and-false, ne_eqb, nat_lt, list_any, append_assoc, drop-drop, length-append, length-set, IsHeader, ExtHeader, IsChain, AreLinked, IsEnd, take-append_seam, bytes_of, leads_to}
 use Rattle.std.proofs.Math.Seq.{take-add}
 use Rattle.std.proofs.lemmas.List.{take-append-drop, length-take-le, drop-take, set-append_left}
 use Rattle.ip_spec.proofs.HeaderLemmas.{header-least, one_header}
@@ -144,3 +144,16 @@ no_first n (h ∷ c) s chain is end =
       prefix = ap (take (length h.bytes)) is ∙ take-append_seam h.bytes (bytes_of c);
       zero_only_first = λ e. refl;
     }))
+
+-- If a survey of the first header says that it is selected, there is one.
+pub first_selected : (c : List ExtHeader) (v : Survey) (len : ℕ) → v ≡ surveyed (no_survey (Index 0)) c → v.selects ≡ true → len ≡ length (bytes_of c) - v.kept_len → SelectsFirst (Index 0) c len
+first_selected [] v len is sel size = absurd (false≢true (sym (ap (λ (x : Survey). x.selects) is) ∙ sel))
+first_selected (h ∷ c) v len is sel size =
+    let rest : kept (Index 0) (h ∷ c) ≡ c = kept_later (0 + 1) c (omega arith) in
+    record {
+      first = h;
+      others = c;
+      all = refl;
+      kept = rest;
+      size = omega (arith, size, ap (λ (x : Survey). x.kept_len) is, ap (λ d. length (bytes_of d)) rest, length-append h.bytes (bytes_of c));
+    }

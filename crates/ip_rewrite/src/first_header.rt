@@ -15,7 +15,7 @@ use ip_base::IpNumber;
 use ip_dissect::Packet;
 use ip_ext_slices::header_len_at;
 
-/// Returns the length of the first header if that alone is selected. The others have `kept_len` bytes then.
+/// Returns the length of the first header if that alone is selected; the others have `kept_len` bytes then.
 #[inline(always)]
 pub(crate) fn selected_first(packet: &Packet<'_>, which: Which, kept_len: usize) -> Option<usize>
     requires whole { packet_fault (dissected packet.now.bytes.now) ≡ None }
@@ -90,10 +90,12 @@ pub(crate) fn write_after_first(
 }
 
 /// Writes the packet of which these headers are kept, whose length is `kept_len`; `field` is the number for the length field.
+/// `first` is the length of the first header if that alone is selected.
 #[inline(always)]
 pub(crate) fn write_without(
     packet: &Packet<'_>,
     which: Which,
+    first: Option<usize>,
     kept_len: usize,
     field: u16,
     out: &mut [u8],
@@ -102,6 +104,7 @@ pub(crate) fn write_without(
     requires whole { packet_fault (dissected packet.now.bytes.now) ≡ None }
     requires base { (if (dissected packet.now.bytes.now).version == 4 then 20 else 40)
         ≤ length (dissected packet.now.bytes.now).base }
+    requires first { IfSome first (λ len. SelectsFirst which (dissected packet.now.bytes.now).headers len) }
     requires kept { kept_len ≡ length (bytes_of (kept which (dissected packet.now.bytes.now).headers)) }
     requires field { field ≡ rewritten_field (dissected packet.now.bytes.now)
         (kept which (dissected packet.now.bytes.now).headers) (dissected packet.now.bytes.now).payload }
@@ -109,7 +112,7 @@ pub(crate) fn write_without(
     ensures { out.new ≡ without which (dissected packet.now.bytes.now)
         ++ drop (len_without which (dissected packet.now.bytes.now)) out.old }
 {
-    match selected_first(packet, which, kept_len) {
+    match first {
         Some(len) => write_after_first(packet, which, len, field, out),
         None => write_kept(packet, which, kept_len, field, out),
     }

@@ -1,11 +1,11 @@
 //! What is known of a packet's headers before the first of them is left out.
-ghost use Rattle.std.specs.Prelude.{◌≡◌, ◌≤◌, ◌==◌, ◌||◌, None, length, drop, if◌then◌else◌};
+ghost use Rattle.std.specs.Prelude.{◌≡◌, ◌≤◌, ◌==◌, ◌||◌, None, length, drop, if◌then◌else◌, IfSome};
 ghost use Rattle.std.specs.List.{list_any};
 ghost use Rattle.std.proofs.Common.{rules};
 ghost use Rattle.ip_dissect.specs.Dissection.{dissected};
 ghost use Rattle.ip_dissect.specs.Fragment.{fragments};
 ghost use Rattle.ip_rewrite.specs.Without.{is_authentication, packet_fault};
-ghost use Rattle.ip_rewrite.specs.Writing.{no_survey, surveyed};
+ghost use Rattle.ip_rewrite.specs.Writing.{SelectsFirst, no_survey, surveyed};
 ghost use Rattle.ip_rewrite.specs.declared.which.Which.TheVariants.{Index};
 
 use crate::Which;
@@ -82,5 +82,18 @@ pub(crate) fn survey_first(packet: &Packet<'_>, later: &Later) -> Survey
             kept_len: headers.len() - len,
         },
         None => survey,
+    }
+}
+
+/// Returns the length of the first header, if there is one, by what a survey of it holds after all headers.
+#[inline(always)]
+pub(crate) fn first_len(packet: &Packet<'_>, survey: &Survey) -> Option<usize>
+    requires { survey.now ≡ surveyed (no_survey (Index 0)) (dissected packet.now.bytes.now).headers }
+    ensures { IfSome result (λ len. SelectsFirst (Index 0) (dissected packet.now.bytes.now).headers len) }
+{
+    if survey.selects {
+        Some(packet.outline.extensions_len - survey.kept_len)
+    } else {
+        None
     }
 }

@@ -1,16 +1,16 @@
 //! Packets without some of their extension headers.
-ghost use Rattle.std.specs.Prelude.{◌≡◌, ◌≤◌, ◌<◌, ◌+◌, ◌^◌, ◌++◌, ◌==◌, ℕ, List, length, drop, take, false, if◌then◌else◌, IfOk, OnOk, OnErr};
+ghost use Rattle.std.specs.Prelude.{◌≡◌, ◌≤◌, ◌<◌, ◌+◌, ◌^◌, ◌++◌, ◌==◌, ℕ, List, length, drop, take, false, if◌then◌else◌, IfOk, IfSome, OnOk, OnErr};
 ghost use Rattle.std.specs.Result.{result_err};
 ghost use Rattle.ip_dissect.specs.Dissection.{DissectedParts, dissected};
 ghost use Rattle.ip_dissect.specs.Outline.{outline_of};
 ghost use Rattle.ip_rewrite.specs.Rewritten.{rewritten_field};
 ghost use Rattle.ip_rewrite.specs.Selection.{kept};
 ghost use Rattle.ip_rewrite.specs.Without.{packet_fault, selection_fault, without, len_without, parts_without, without_fault, keeps_checksums};
-ghost use Rattle.ip_rewrite.specs.Writing.{no_survey, surveyed};
+ghost use Rattle.ip_rewrite.specs.Writing.{SelectsFirst, no_survey, surveyed};
 ghost use Rattle.ip_rewrite.specs.declared.which.Which.TheVariants.{Index};
 
-use crate::first_header::write_without;
-use crate::first_survey::{Later, survey_first};
+use crate::first_header::{selected_first, write_without};
+use crate::first_survey::{Later, first_len, survey_first};
 use crate::survey::Survey;
 use crate::write::test_room;
 use crate::{Authentication, RewriteError, Which};
@@ -98,15 +98,18 @@ fn test(
     test_room(outline, survey.kept_len, outline.payload_len, room)
 }
 
-/// Writes the packet without the extension headers that are selected, by what a survey holds after all headers.
+/// Writes the packet without the extension headers that are selected, by what a survey holds after all headers. `first` is
+/// the length of the first header if that alone is selected.
 #[inline(always)]
 fn write_surveyed(
     packet: &Packet<'_>,
     survey: &Survey,
+    first: Option<usize>,
     authentication: Authentication,
     out: &mut [u8],
 ) -> Result<Rewritten, RewriteError>
     requires survey { survey.now ≡ surveyed (no_survey survey.now.which) (dissected packet.now.bytes.now).headers }
+    requires first { IfSome first (λ len. SelectsFirst survey.now.which (dissected packet.now.bytes.now).headers len) }
     requires small { length packet.now.bytes.now < 2 ^ 64 }
     ensures fault { result_err result
         ≡ without_fault survey.now.which authentication (dissected packet.now.bytes.now) (length out.old) }
@@ -122,7 +125,7 @@ fn write_surveyed(
     let field = test(packet, survey, authentication, out.len())?;
     let outline = &packet.outline;
     let len = outline.base_len + survey.kept_len + outline.payload_len;
-    write_without(packet, survey.which, survey.kept_len, field, out);
+    write_without(packet, survey.which, first, survey.kept_len, field, out);
     Ok(Rewritten {
         len,
         keeps_checksums: !survey.selects_segments,
@@ -151,7 +154,8 @@ fn without_first(
     let packet = Packet::walk(packet, &mut later);
     test_packet(&packet.outline)?;
     let survey = survey_first(&packet, &later);
-    write_surveyed(&packet, &survey, authentication, out)
+    let first = first_len(&packet, &survey);
+    write_surveyed(&packet, &survey, first, authentication, out)
 }
 
 /// Writes a packet to the front of `out` without the extension headers that are selected, and nothing else changed.
@@ -177,5 +181,7 @@ pub fn without(
     }
     let mut survey = Survey::new(which);
     let packet = Packet::walk(packet, &mut survey);
-    write_surveyed(&packet, &survey, authentication, out)
+    test_packet(&packet.outline)?;
+    let first = selected_first(&packet, which, survey.kept_len);
+    write_surveyed(&packet, &survey, first, authentication, out)
 }

@@ -10,3 +10,4 @@ pub mod FirstHeaderLemmas
 pub mod PayloadLemmas
 pub mod ClearingLemmas
 pub mod InsertionLemmas
+pub mod OrderLemmas

@@ -7,3 +7,4 @@ pub mod Without
 pub mod Payload
 pub mod Clearing
 pub mod Insertion
+pub mod Order

@@ -1,6 +1,7 @@
 -- What is known while a packet is written.
-use Rattle.std.specs.Prelude.{◌≡◌, ◌<◌, nat_lt, ℕ, ◌+◌, true, false, ◌||◌, ◌&&◌, not, ◌++◌, List, [], ◌∷◌, length, drop, slice_set, slice_index, if◌then◌else◌}
+use Rattle.std.specs.Prelude.{◌≡◌, ◌<◌, nat_lt, nat_le, ℕ, zero, suc, ◌+◌, Bool, ◌==◌, true, false, ◌||◌, ◌&&◌, not, ◌++◌, List, [], ◌∷◌, length, drop, slice_set, slice_index, if◌then◌else◌}
 use Rattle.std.specs.List.{list_any, AllByRecursion}
+use Rattle.ip_spec.specs.Numbers.{HOP_BY_HOP, ROUTING, FRAGMENT, AUTHENTICATION, DESTINATION_OPTIONS}
 use Rattle.ip_spec.specs.Header.{IsHeader}
 use Rattle.ip_spec.specs.Chain.{ExtHeader, bytes_of, leads_to}
 use Rattle.ip_dissect.specs.Fragment.{fragments}
@@ -8,6 +9,7 @@ use Rattle.ip_rewrite.specs.Headers.{number_of_first, linked_headers}
 use Rattle.ip_rewrite.specs.Selection.{selects, kept, any_selected, selects_fragmented}
 use Rattle.ip_rewrite.specs.Without.{is_authentication, has_segments}
 use Rattle.ip_rewrite.specs.Insertion.{inserted}
+use Rattle.ip_rewrite.specs.Order.{is_routing}
 use Rattle.ip_rewrite.specs.declared.which.Which.{Which}
 use Rattle.ip_rewrite.specs.declared.survey.Survey.{Survey}
 use Rattle.ip_rewrite.specs.declared.survey.HeaderFacts.{HeaderFacts}
@@ -62,6 +64,40 @@ surveyed v c = record v {
 -- the headers c, with h at its place if that is before the last of them
 abbrev pub inserted_so_far : ℕ → ExtHeader → List ExtHeader → List ExtHeader
 inserted_so_far i h c = if nat_lt i (length c) then inserted i h c else c
+
+-- the index of the last routing header, or 0 without one
+abbrev pub routing_index : List ExtHeader → ℕ
+routing_index [] = 0
+routing_index (h ∷ c) = if list_any is_routing c then routing_index c + 1 else 0
+
+-- the rank of the header h with the index i, if the last routing header has the index e
+abbrev pub rank_at : ℕ → ℕ → ExtHeader → ℕ
+rank_at e i h =
+    if h.number == HOP_BY_HOP then 0
+    else if (h.number == ROUTING) || (h.number == DESTINATION_OPTIONS) && nat_lt i e then 1
+    else if h.number == FRAGMENT then 2
+    else if h.number == AUTHENTICATION then 3
+    else 4
+
+-- of headers whose first has the index i, those of the rank k
+abbrev pub of_rank_from : ℕ → ℕ → ℕ → List ExtHeader → List ExtHeader
+of_rank_from k e i [] = []
+of_rank_from k e i (h ∷ c) = if rank_at e i h == k then h ∷ of_rank_from k e (i + 1) c else of_rank_from k e (i + 1) c
+
+-- the headers of the ranks below k
+abbrev pub below_rank : ℕ → ℕ → List ExtHeader → List ExtHeader
+below_rank zero e c = []
+below_rank (suc k) e c = below_rank k e c ++ of_rank_from k e 0 c
+
+-- the rank of the last header, or k without one
+abbrev pub last_rank : ℕ → ℕ → ℕ → List ExtHeader → ℕ
+last_rank k e i [] = k
+last_rank k e i (h ∷ c) = last_rank (rank_at e i h) e (i + 1) c
+
+-- the ranks after k never fall
+abbrev pub rises_at : ℕ → ℕ → ℕ → List ExtHeader → Bool
+rises_at k e i [] = true
+rises_at k e i (h ∷ c) = nat_le k (rank_at e i h) && rises_at (rank_at e i h) e (i + 1) c
 
 -- The base header b, in which the number of what follows is at the offset l, and the headers c after it, each of which leads
 -- to the next one, and the last to m.

@@ -226,11 +226,11 @@ fn test(
 
 /// How far the headers are written.
 #[derive(Clone, Copy, Debug)]
-struct Written {
+pub(crate) struct Written {
     /// How many bytes are written.
-    len: usize,
+    pub(crate) len: usize,
     /// The offset of the number of what follows them.
-    link: usize,
+    pub(crate) link: usize,
 }
 
 /// Writes the base header and the headers with one more, if it comes before one of them.

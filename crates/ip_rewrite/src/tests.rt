@@ -1,6 +1,7 @@
-//! Tests: packets that scapy made, before and after a change.
+//! Tests: packets that scapy made, before and after a change, and packets put together of headers in a given order.
 use crate::{
-    Authentication, RewriteError, Rewritten, Which, cleared, with_header, with_payload, without,
+    Authentication, RewriteError, Rewritten, Which, cleared, in_order, with_header, with_payload,
+    without,
 };
 use ip_base::{IpNumber, ip_number};
 use std::process::Abort;
@@ -215,6 +216,7 @@ enum Change<'a> {
     Without(Which),
     Payload(IpNumber, &'a [u8]),
     Cleared,
+    InOrder,
     Header(IpNumber, &'a [u8], usize),
 }
 
@@ -267,6 +269,7 @@ fn write(row: &Row<'_>, packet: &[u8], out: &mut [u8]) -> Result<Rewritten, Rewr
             with_payload(packet, number, bytes, row.authentication, out)
         }
         Change::Cleared => cleared(packet, row.authentication, out),
+        Change::InOrder => in_order(packet, row.authentication, out),
         Change::Header(number, header, index) => {
             with_header(packet, number, header, index, row.authentication, out)
         }
@@ -547,4 +550,198 @@ fn headers(rt: HostRuntime) -> Result<(), Fail> {
         invalid,
     ];
     assert_rows(&rt, &rows)
+}
+
+/// An extension header: its number and its bytes, of which the first is set where it is put.
+type Part = (IpNumber, &'static [u8]);
+
+const HOP_BY_HOP: Part = (ip_number::IPV6_HOP_BY_HOP, &OPTIONS);
+
+const FIRST_ROUTING: Part = (
+    ip_number::IPV6_ROUTE,
+    &[0xff, 0x00, 0x04, 0x00, 0x01, 0x01, 0x01, 0x01],
+);
+
+const SECOND_ROUTING: Part = (
+    ip_number::IPV6_ROUTE,
+    &[0xff, 0x00, 0x04, 0x00, 0x02, 0x02, 0x02, 0x02],
+);
+
+const ATOMIC_FRAGMENT: Part = (
+    ip_number::IPV6_FRAG,
+    &[0xff, 0x00, 0x00, 0x00, 0xa1, 0xb2, 0xc3, 0xd4],
+);
+
+const FIRST_FRAGMENT: Part = (ip_number::IPV6_FRAG, &FRAGMENT);
+
+const CHECK_VALUE: Part = (ip_number::AUTH, &AUTHENTICATION);
+
+/// Destination options for the nodes of a routing header, for those of a second one, and for the final destination.
+const FOR_NODES: Part = (
+    ip_number::IPV6_DEST_OPTIONS,
+    &[0xff, 0x00, 0x01, 0x04, 0x11, 0x11, 0x11, 0x11],
+);
+
+const BETWEEN: Part = (
+    ip_number::IPV6_DEST_OPTIONS,
+    &[0xff, 0x00, 0x01, 0x04, 0x22, 0x22, 0x22, 0x22],
+);
+
+const FINAL: Part = (
+    ip_number::IPV6_DEST_OPTIONS,
+    &[0xff, 0x00, 0x01, 0x04, 0x33, 0x33, 0x33, 0x33],
+);
+
+/// Copies bytes to an offset, as far as there is room.
+fn put(out: &mut [u8], offset: usize, bytes: &[u8]) {
+    for (place, byte) in out.iter_mut().skip(offset).zip(bytes) {
+        *place = *byte;
+    }
+}
+
+/// Puts an IPv6 packet together of these headers and 8 bytes of UDP. Returns its length.
+fn assemble(parts: &[Part], out: &mut [u8]) -> usize {
+    put(out, 0, &PLAIN);
+    let mut link = 6usize;
+    let mut len = 40usize;
+    for (number, header) in parts {
+        put(out, link, &[number.0]);
+        put(out, len, header);
+        link = len;
+        len = len.saturating_add(header.len());
+    }
+    put(out, link, &[17]);
+    put(out, len, b"\x03\xe8\x07\xd0\x00\x08\x12\x34");
+    let payload_len = u8::try_from(len.saturating_sub(32)).unwrap_or(0);
+    put(out, 4, &[0, payload_len]);
+    len.saturating_add(8)
+}
+
+/// Compares what is written of a packet with these headers with one with these headers in the order that is wanted.
+fn assert_order(
+    rt: &impl Abort,
+    authentication: Authentication,
+    parts: &[Part],
+    wanted: &[Part],
+) -> Result<(), Fail> {
+    let mut old = [0u8; 128];
+    let len = assemble(parts, &mut old);
+    let mut new = [0x5au8; 128];
+    let new_len = assemble(wanted, &mut new);
+    let packet = old.get(..len).ok_or("the packet")?;
+    let mut out = [0x5au8; 128];
+    let result = in_order(packet, authentication, &mut out);
+    let written = Rewritten {
+        len: new_len,
+        keeps_checksums: true,
+    };
+    assert!(rt; result == Ok(written), "{result:?} at {parts:?}");
+    assert!(rt; out == new, "{out:?} for {new:?} at {parts:?}");
+    Ok(())
+}
+
+/// Compares the error for a packet with these headers with the one that is wanted.
+fn assert_order_stays(
+    rt: &impl Abort,
+    authentication: Authentication,
+    parts: &[Part],
+    error: RewriteError,
+) -> Result<(), Fail> {
+    let mut old = [0u8; 128];
+    let len = assemble(parts, &mut old);
+    let packet = old.get(..len).ok_or("the packet")?;
+    let mut out = [0x5au8; 128];
+    let result = in_order(packet, authentication, &mut out);
+    assert!(rt; result == Err(error), "{result:?} at {parts:?}");
+    assert!(rt; out == [0x5a; 128], "{out:?} at {parts:?}");
+    Ok(())
+}
+
+#[test]
+fn orders(rt: HostRuntime) -> Result<(), Fail> {
+    let rows: [(&[Part], &[Part]); 8] = [
+        (
+            &[HOP_BY_HOP, ATOMIC_FRAGMENT, FIRST_ROUTING],
+            &[HOP_BY_HOP, FIRST_ROUTING, ATOMIC_FRAGMENT],
+        ),
+        (
+            &[FOR_NODES, ATOMIC_FRAGMENT, FIRST_ROUTING, FINAL],
+            &[FOR_NODES, FIRST_ROUTING, ATOMIC_FRAGMENT, FINAL],
+        ),
+        (&[FINAL, ATOMIC_FRAGMENT], &[ATOMIC_FRAGMENT, FINAL]),
+        (
+            &[
+                ATOMIC_FRAGMENT,
+                FOR_NODES,
+                FIRST_ROUTING,
+                BETWEEN,
+                SECOND_ROUTING,
+                FINAL,
+            ],
+            &[
+                FOR_NODES,
+                FIRST_ROUTING,
+                BETWEEN,
+                SECOND_ROUTING,
+                ATOMIC_FRAGMENT,
+                FINAL,
+            ],
+        ),
+        (
+            &[SECOND_ROUTING, FIRST_ROUTING, FINAL, BETWEEN],
+            &[SECOND_ROUTING, FIRST_ROUTING, FINAL, BETWEEN],
+        ),
+        (
+            &[FIRST_ROUTING, FINAL, BETWEEN, ATOMIC_FRAGMENT],
+            &[FIRST_ROUTING, ATOMIC_FRAGMENT, FINAL, BETWEEN],
+        ),
+        (&[FIRST_FRAGMENT, FINAL], &[FIRST_FRAGMENT, FINAL]),
+        (&[CHECK_VALUE, FINAL], &[CHECK_VALUE, FINAL]),
+    ];
+    for (parts, wanted) in rows.iter() {
+        assert_order(&rt, Authentication::Valid, parts, wanted)?;
+    }
+    Ok(())
+}
+
+#[test]
+fn orders_that_stay(rt: HostRuntime) -> Result<(), Fail> {
+    let covered: [Part; 3] = [HOP_BY_HOP, CHECK_VALUE, FIRST_ROUTING];
+    let ordered: [Part; 3] = [HOP_BY_HOP, FIRST_ROUTING, CHECK_VALUE];
+    let fragmented: [Part; 2] = [FINAL, FIRST_FRAGMENT];
+    let twice: [Part; 3] = [ATOMIC_FRAGMENT, FIRST_ROUTING, FIRST_FRAGMENT];
+    assert_order(&rt, Authentication::Invalid, &covered, &ordered)?;
+    let valid = Authentication::Valid;
+    assert_order_stays(&rt, valid, &covered, RewriteError::Authenticated)?;
+    assert_order_stays(&rt, valid, &fragmented, RewriteError::Fragmented)?;
+    assert_order_stays(&rt, valid, &twice, RewriteError::Fragmented)?;
+    // Byte 51 of the first fragment has the low bits of the offset, byte 41 of the chain is the length of its hop-by-hop
+    // options, and byte 5 the low byte of the payload length.
+    let small = Row {
+        room: 111,
+        ..changed(&CHAIN, Change::InOrder, Err(RewriteError::NoRoom))
+    };
+    let padded = Row {
+        padding: 9,
+        ..changed(&TWICE, Change::InOrder, Ok((&TWICE, true)))
+    };
+    let rows = [
+        changed(&AUTHENTICATED, Change::InOrder, Ok((&AUTHENTICATED, true))),
+        changed(&FIRST, Change::InOrder, Ok((&FIRST, true))),
+        with_byte(&FIRST, 51, 0x09, RewriteError::LaterFragment),
+        with_byte(&CHAIN, 41, 20, RewriteError::Headers),
+        with_byte(&CHAIN, 5, 73, RewriteError::Missing),
+        small,
+        padded,
+    ];
+    assert_rows(&rt, &rows)
+}
+
+/// Returns a row of a packet with one byte replaced, whose headers can't be put in order.
+fn with_byte(packet: &[u8], offset: usize, byte: u8, error: RewriteError) -> Row<'_> {
+    Row {
+        offset,
+        byte,
+        ..changed(packet, Change::InOrder, Err(error))
+    }
 }

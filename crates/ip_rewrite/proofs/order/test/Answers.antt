@@ -1,0 +1,67 @@
+use Rattle.ip_spec.proofs.Common.{◌≡◌, ◌≤◌, length, refl, false, sym, ◌∙◌, ap, arith, List, Option, None, option_or, ExtHeader, bytes_of, Result, Ok, Err}
+use Rattle.std.specs.Prelude.{OnOk, IfOk}
+use Rattle.ip_dissect.specs.Dissection.{DissectedParts, dissected}
+use Rattle.ip_dissect.specs.End.{has_error}
+use Rattle.ip_dissect.specs.declared.outline.Outline.{Outline}
+use Rattle.ip_dissect.proofs.PacketLemmas.{outline_fits}
+use Rattle.ip_rewrite.specs.Rewritten.{rewritten_field, rewritten_len, room_fault}
+use Rattle.ip_rewrite.specs.Without.{packet_fault}
+use Rattle.ip_rewrite.specs.Order.{in_order, order_fault}
+use Rattle.ip_rewrite.proofs.BaseLemmas.{base_there}
+use Rattle.ip_rewrite.proofs.OrderLemmas.{ordered_len}
+use Rattle.ip_rewrite.proofs.order.test.Goals as goal
+
+pub test_room-requires-clause-new : goal.test_room-requires-clause-new
+test_room-requires-clause-new c =
+    let all = outline_fits c.args.packet.now.bytes.now c.args.packet.now.base c.args.packet.now.outline c.args.packet.now.base_is c.args.packet.now.outline_is in
+    omega (arith, all, c.requires.small)
+
+pub test_room-requires-clause-old : goal.test_room-requires-clause-old
+test_room-requires-clause-old c =
+    let all = outline_fits c.args.packet.now.bytes.now c.args.packet.now.base c.args.packet.now.outline c.args.packet.now.base_is c.args.packet.now.outline_is in
+    omega (arith, all, c.requires.small)
+
+weaker : {X E : Type 0} (P Q : X → Type 0) (r : Result X E) → ((x : X) → P x → Q x) → IfOk r P → IfOk r Q
+weaker P Q (Ok x) f p = f x p
+weaker P Q (Err e) f p = tt
+
+on_ok : {X E : Type 0} {P : Type 0} (r : Result X E) → P → OnOk r P
+on_ok (Ok x) p = p
+on_ok (Err e) p = tt
+
+both_none : {E : Type 0} (a b r : Option E) → a ≡ None → b ≡ None → option_or a (option_or b r) ≡ r
+both_none a b r none also = rw (none, also) refl
+
+pub returns-clause-fault : goal.returns-clause-fault
+returns-clause-fault c =
+    let p : DissectedParts = dissected c.args.packet.now.bytes.now in
+    let d : List ExtHeader = in_order p.headers in
+    let packet : packet_fault p ≡ None = sym (c.in_ok-test_packet.ensures.fault p c.args.packet.now.outline_is) in
+    let order : order_fault c.args.authentication p ≡ None = sym (c.in_ok-test_order.ensures p c.requires.authentication c.requires.fragmented c.is_in_order-ordered.ensures) in
+    let size : c.args.packet.now.outline.extensions_len ≡ length (bytes_of d) = ap (λ (o : Outline). o.extensions_len) c.args.packet.now.outline_is ∙ sym (ordered_len p.headers) in
+    let payload : c.args.packet.now.outline.payload_len ≡ length p.payload = ap (λ (o : Outline). o.payload_len) c.args.packet.now.outline_is in
+    c.test_room.ensures.fault p d p.payload c.args.packet.now.outline_is size payload ∙ sym (both_none (packet_fault p) (order_fault c.args.authentication p) (room_fault p d p.payload c.args.room) packet order)
+
+pub returns-clause-field : goal.returns-clause-field
+returns-clause-field c =
+    let p : DissectedParts = dissected c.args.packet.now.bytes.now in
+    let d : List ExtHeader = in_order p.headers in
+    let packet : packet_fault p ≡ None = sym (c.in_ok-test_packet.ensures.fault p c.args.packet.now.outline_is) in
+    let size : c.args.packet.now.outline.extensions_len ≡ length (bytes_of d) = ap (λ (o : Outline). o.extensions_len) c.args.packet.now.outline_is ∙ sym (ordered_len p.headers) in
+    let payload : c.args.packet.now.outline.payload_len ≡ length p.payload = ap (λ (o : Outline). o.payload_len) c.args.packet.now.outline_is in
+    weaker _ (λ n. n ≡ rewritten_field p d p.payload) c.test_room.result (λ n f. f p d p.payload c.args.packet.now.outline_is size payload) c.test_room.ensures.field
+
+pub returns-clause-fits : goal.returns-clause-fits
+returns-clause-fits c =
+    let p : DissectedParts = dissected c.args.packet.now.bytes.now in
+    let d : List ExtHeader = in_order p.headers in
+    let packet : packet_fault p ≡ None = sym (c.in_ok-test_packet.ensures.fault p c.args.packet.now.outline_is) in
+    let base : c.args.packet.now.outline.base_len ≡ length p.base = ap (λ (o : Outline). o.base_len) c.args.packet.now.outline_is in
+    let size : c.args.packet.now.outline.extensions_len ≡ length (bytes_of d) = ap (λ (o : Outline). o.extensions_len) c.args.packet.now.outline_is ∙ sym (ordered_len p.headers) in
+    let payload : c.args.packet.now.outline.payload_len ≡ length p.payload = ap (λ (o : Outline). o.payload_len) c.args.packet.now.outline_is in
+    weaker _ (λ n. rewritten_len p d p.payload ≤ c.args.room) c.test_room.result (λ n f. omega (arith, f, base, size, payload)) c.test_room.ensures.fits
+
+pub returns-clause-base : goal.returns-clause-base
+returns-clause-base c =
+    let none : has_error (dissected c.args.packet.now.bytes.now).end ≡ false = sym (ap (λ (o : Outline). o.has_error) c.args.packet.now.outline_is) ∙ c.in_ok-test_packet.ensures.whole in
+    on_ok c.test_room.result (base_there c.args.packet.now.bytes.now c.args.packet.now.base c.args.packet.now.base_is none)

@@ -11,3 +11,4 @@ pub mod PayloadLemmas
 pub mod ClearingLemmas
 pub mod InsertionLemmas
 pub mod OrderLemmas
+pub mod OrderLawLemmas

@@ -1,7 +1,7 @@
 -- A packet with its headers in the recommended order.
-use Rattle.ip_spec.proofs.Common.{zero, suc, ◌≡◌, ℕ, ◌+◌, ◌≤◌, ◌<◌, ◌⊎◌, List, [], ◌∷◌, ◌++◌, length, drop, inl, inr, subst, refl, sym, ◌∙◌, ap, arith, common_steps, Bool, true, false, false≢true, cases_Bool, eqb-true, eq-eqb, cond-true, cond-false, if◌then◌else◌, or-false, and-true, ◌&&◌, ◌||◌, ◌==◌, nat_lt, nat_le, list_any, length-append, append_assoc, All-from_recursion, recursion_from_All, AllByRecursion, Option, None, IsHeader, ExtHeader, bytes_of, HOP_BY_HOP, ROUTING, FRAGMENT, AUTHENTICATION}
+use Rattle.ip_spec.proofs.Common.{zero, suc, ◌≡◌, ℕ, ◌+◌, ◌≤◌, ◌<◌, ◌⊎◌, List, [], ◌∷◌, ◌++◌, length, drop, inl, inr, subst, refl, sym, ◌∙◌, ap, arith, common_steps, Bool, true, false, false≢true, cases_Bool, eqb-true, eq-eqb, cond-true, cond-false, if◌then◌else◌, or-false, and-true, ◌&&◌, ◌||◌, ◌==◌, nat_lt, nat_le, list_any, length-append, append_assoc, All-from_recursion, recursion_from_All, AllByRecursion, Option, Some, None, option_or, IsHeader, ExtHeader, bytes_of, HOP_BY_HOP, ROUTING, FRAGMENT, AUTHENTICATION}
 use Rattle.ip_spec.specs.Numbers.{DESTINATION_OPTIONS}
-use Rattle.std.specs.Prelude.{IsPermutation}
+use Rattle.std.specs.Prelude.{IsPermutation, unwrap_or}
 use Rattle.std.proofs.Math.Bool.{or-true}
 use Rattle.std.proofs.lemmas.List.Concat.{length-flat_map}
 use Rattle.std.proofs.lemmas.List.Sorted.{IsPermutation-refl, IsPermutation-sym, IsPermutation-trans, IsPermutation-cons, IsPermutation-middle, IsPermutation-append_left, length_permutation, All-permutation, sum_by-IsPermutation}
@@ -11,8 +11,8 @@ use Rattle.ip_dissect.specs.Outline.{IsBaseOf}
 use Rattle.ip_dissect.specs.declared.dissection.BaseHeader.{BaseHeader}
 use Rattle.ip_rewrite.specs.Rewritten.{rewritten, rewritten_parts}
 use Rattle.ip_rewrite.specs.Without.{packet_fault}
-use Rattle.ip_rewrite.specs.Order.{is_routing, rank, of_rank, in_order, rises_from, is_in_order, order_fault, ordering_fault}
-use Rattle.ip_rewrite.specs.Writing.{routing_index, rank_at, of_rank_from, below_rank, last_rank, rises_at}
+use Rattle.ip_rewrite.specs.Order.{is_routing, rank_of, rank, of_rank, in_order, rises_from, is_in_order, recommended_index, order_fault, ordering_fault}
+use Rattle.ip_rewrite.specs.Writing.{routing_index, rank_at, of_rank_from, below_rank, last_rank, rises_at, first_above}
 use Rattle.ip_rewrite.specs.declared.which.Authentication.{Authentication}
 use Rattle.ip_rewrite.proofs.ChainLemmas.{NoZero}
 use Rattle.ip_rewrite.proofs.SurveyLemmas.{any_last}
@@ -125,7 +125,7 @@ abbrev chosen : Bool → Bool → Bool → Bool → ℕ
 chosen a b d e = if a then 0 else if b then 1 else if d then 2 else if e then 3 else 4
 
 -- what is in order is all that was there
-cases_rank : (h : ExtHeader) (c : List ExtHeader) → (rank h c ≡ 0) ⊎ ((rank h c ≡ 1) ⊎ ((rank h c ≡ 2) ⊎ ((rank h c ≡ 3) ⊎ (rank h c ≡ 4))))
+pub cases_rank : (h : ExtHeader) (c : List ExtHeader) → (rank h c ≡ 0) ⊎ ((rank h c ≡ 1) ⊎ ((rank h c ≡ 2) ⊎ ((rank h c ≡ 3) ⊎ (rank h c ≡ 4))))
 cases_rank h c = one_of (h.number == HOP_BY_HOP) ((h.number == ROUTING) || (h.number == DESTINATION_OPTIONS) && list_any is_routing c) (h.number == FRAGMENT) (h.number == AUTHENTICATION)
   where
     one_of : (a b d e : Bool) → (chosen a b d e ≡ 0) ⊎ ((chosen a b d e ≡ 1) ⊎ ((chosen a b d e ≡ 2) ⊎ ((chosen a b d e ≡ 3) ⊎ (chosen a b d e ≡ 4))))
@@ -139,12 +139,12 @@ of_first : (k n : ℕ) (h : ExtHeader) (c : List ExtHeader) → rank h c ≡ n �
 of_first k n h c is = ap (λ r. if r == k then h ∷ of_rank k c else of_rank k c) is
 
 -- with the header h before those of the rank k
-abbrev with_first : ℕ → ExtHeader → List ExtHeader → List ExtHeader
+abbrev pub with_first : ℕ → ExtHeader → List ExtHeader → List ExtHeader
 with_first k h c =
     (if k == 0 then h ∷ of_rank 0 c else of_rank 0 c) ++ (if k == 1 then h ∷ of_rank 1 c else of_rank 1 c) ++ (if k == 2 then h ∷ of_rank 2 c else of_rank 2 c)
     ++ (if k == 3 then h ∷ of_rank 3 c else of_rank 3 c) ++ (if k == 4 then h ∷ of_rank 4 c else of_rank 4 c)
 
-first_at : (k : ℕ) (h : ExtHeader) (c : List ExtHeader) → rank h c ≡ k → in_order (h ∷ c) ≡ with_first k h c
+pub first_at : (k : ℕ) (h : ExtHeader) (c : List ExtHeader) → rank h c ≡ k → in_order (h ∷ c) ≡ with_first k h c
 first_at k h c is = rw (of_first 0 k h c is, of_first 1 k h c is, of_first 2 k h c is, of_first 3 k h c is, of_first 4 k h c is) refl
 
 before : (h : ExtHeader) (x y z : List ExtHeader) → IsPermutation (h ∷ ((x ++ y) ++ z)) ((x ++ h ∷ y) ++ z)
@@ -286,3 +286,37 @@ below_less k (suc n) e c within = elim (cases_Bool (nat_le k n)) [
 
 pub next_fits : (k : ℕ) (c : List ExtHeader) → k < 5 → length (bytes_of (below_rank k (routing_index c) c ++ of_rank_from k (routing_index c) 0 c)) ≤ length (bytes_of c)
 next_fits k c within = omega (arith, below_less (suc k) 5 (routing_index c) c (omega (arith, within)), ap (λ d. length (bytes_of d)) (below_is c), ordered_len c)
+
+-- the first header of a higher rank
+pub or_more : (o x y : Option ℕ) → option_or (option_or o x) y ≡ option_or o (option_or x y)
+or_more None x y = refl
+or_more (Some i) x y = refl
+
+pub above_more : (k e i j : ℕ) (c : List ExtHeader) (h : ExtHeader) → j ≡ i + length c → first_above k e i (c ++ h ∷ []) ≡ option_or (first_above k e i c) (if nat_lt k (rank_at e j h) then Some j else None)
+above_more k e i j [] h at = let same : j ≡ i = omega arith in ap (λ n. if nat_lt k (rank_at e n h) then Some n else None) (sym same)
+above_more k e i j (g ∷ c) h at =
+    let next : j ≡ i + 1 + length c = omega arith in
+    ap (λ x. if nat_lt k (rank_at e i g) then Some i else x) (above_more k e (i + 1) j c h next) ∙ inside (nat_lt k (rank_at e i g)) (first_above k e (i + 1) c) (if nat_lt k (rank_at e j h) then Some j else None)
+  where
+    inside : (b : Bool) (x y : Option ℕ) → (if b then Some i else option_or x y) ≡ option_or (if b then Some i else x) y
+    inside true x y = refl
+    inside false x y = refl
+
+above_is : (n e i : ℕ) (c : List ExtHeader) → Agree e i c → unwrap_or (first_above (rank_of n false) e i c) (i + length c) ≡ i + recommended_index n c
+above_is n e i [] a = refl
+above_is n e i (h ∷ c) a =
+    let step : i + length (h ∷ c) ≡ i + 1 + length c = omega arith in
+    let next : i + 1 + recommended_index n c ≡ i + (recommended_index n c + 1) = omega arith in
+    ap (λ r. unwrap_or (if nat_lt (rank_of n false) r then Some i else first_above (rank_of n false) e (i + 1) c) (i + length (h ∷ c))) a.0
+    ∙ (ap (λ m. unwrap_or (if nat_lt (rank_of n false) (rank h c) then Some i else first_above (rank_of n false) e (i + 1) c) m) step
+    ∙ choose (nat_lt (rank_of n false) (rank h c)) (above_is n e (i + 1) c a.1 ∙ next))
+  where
+    choose : (b : Bool) → unwrap_or (first_above (rank_of n false) e (i + 1) c) (i + 1 + length c) ≡ i + (recommended_index n c + 1)
+        → unwrap_or (if b then Some i else first_above (rank_of n false) e (i + 1) c) (i + 1 + length c) ≡ i + (if b then 0 else recommended_index n c + 1)
+    choose true f = omega arith
+    choose false f = f
+
+pub index_is : (n : ℕ) (c : List ExtHeader) → unwrap_or (first_above (rank_of n false) (routing_index c) 0 c) (length c) ≡ recommended_index n c
+index_is n c =
+    let size : length c ≡ 0 + length c = omega arith in
+    ap (unwrap_or (first_above (rank_of n false) (routing_index c) 0 c)) size ∙ (above_is n (routing_index c) 0 c (agreed c) ∙ omega arith)

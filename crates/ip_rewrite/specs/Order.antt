@@ -1,5 +1,5 @@
 -- A packet whose extension headers are in the order that RFC 8200, section 4.1, recommends.
-use Rattle.std.specs.Prelude.{ℕ, ◌++◌, Bool, true, ◌==◌, ◌&&◌, ◌||◌, not, List, [], ◌∷◌, nat_le, Option, Some, None, if◌then◌else◌}
+use Rattle.std.specs.Prelude.{ℕ, ◌+◌, ◌++◌, Bool, true, false, ◌==◌, ◌&&◌, ◌||◌, not, List, [], ◌∷◌, nat_lt, nat_le, Option, Some, None, if◌then◌else◌}
 use Rattle.std.specs.List.{list_any}
 use Rattle.std.specs.Option.{option_or}
 use Rattle.ip_spec.specs.Numbers.{HOP_BY_HOP, ROUTING, FRAGMENT, AUTHENTICATION, DESTINATION_OPTIONS}
@@ -16,15 +16,19 @@ use Rattle.ip_rewrite.specs.declared.err.RewriteError.TheVariants as err
 abbrev pub is_routing : ExtHeader → Bool
 is_routing h = h.number == ROUTING
 
--- The rank in this order of the header h, which the headers c follow. Destination options before a routing header are for
--- the nodes that it lists: they have its rank, and so none passes a routing header.
-abbrev pub rank : ExtHeader → List ExtHeader → ℕ
-rank h c =
-    if h.number == HOP_BY_HOP then 0
-    else if (h.number == ROUTING) || (h.number == DESTINATION_OPTIONS) && list_any is_routing c then 1
-    else if h.number == FRAGMENT then 2
-    else if h.number == AUTHENTICATION then 3
+-- The rank in this order of a header of number n. Destination options that a routing header follows are for the nodes that
+-- it lists: they have its rank, and so none passes a routing header.
+abbrev pub rank_of : ℕ → Bool → ℕ
+rank_of n routing_follows =
+    if n == HOP_BY_HOP then 0
+    else if (n == ROUTING) || (n == DESTINATION_OPTIONS) && routing_follows then 1
+    else if n == FRAGMENT then 2
+    else if n == AUTHENTICATION then 3
     else 4
+
+-- of the header h, which the headers c follow
+abbrev pub rank : ExtHeader → List ExtHeader → ℕ
+rank h c = rank_of h.number (list_any is_routing c)
 
 -- the headers of the rank k, one after another as before
 abbrev pub of_rank : ℕ → List ExtHeader → List ExtHeader
@@ -40,8 +44,14 @@ abbrev pub rises_from : ℕ → List ExtHeader → Bool
 rises_from k [] = true
 rises_from k (h ∷ c) = nat_le k (rank h c) && rises_from (rank h c) c
 
+-- the ranks never fall
 abbrev pub is_in_order : List ExtHeader → Bool
 is_in_order c = rises_from 0 c
+
+-- the index that this order has for a header of number n among the headers c: that of the first one of a higher rank
+abbrev pub recommended_index : ℕ → List ExtHeader → ℕ
+recommended_index n [] = 0
+recommended_index n (h ∷ c) = if nat_lt (rank_of n false) (rank h c) then 0 else recommended_index n c + 1
 
 -- why the order can't change: the packet is a fragment; or an authentication header covers the whole packet (RFC 4302,
 -- section 3.3.3)

@@ -1,7 +1,6 @@
 -- What is known while a packet is written.
-use Rattle.std.specs.Prelude.{◌≡◌, ◌<◌, nat_lt, nat_le, ℕ, zero, suc, ◌+◌, Bool, ◌==◌, true, false, ◌||◌, ◌&&◌, not, ◌++◌, List, [], ◌∷◌, length, drop, slice_set, slice_index, if◌then◌else◌}
+use Rattle.std.specs.Prelude.{◌≡◌, ◌<◌, nat_lt, nat_le, ℕ, zero, suc, ◌+◌, Bool, ◌==◌, true, false, ◌||◌, ◌&&◌, not, ◌++◌, List, [], ◌∷◌, length, drop, slice_set, slice_index, Option, Some, None, if◌then◌else◌}
 use Rattle.std.specs.List.{list_any, AllByRecursion}
-use Rattle.ip_spec.specs.Numbers.{HOP_BY_HOP, ROUTING, FRAGMENT, AUTHENTICATION, DESTINATION_OPTIONS}
 use Rattle.ip_spec.specs.Header.{IsHeader}
 use Rattle.ip_spec.specs.Chain.{ExtHeader, bytes_of, leads_to}
 use Rattle.ip_dissect.specs.Fragment.{fragments}
@@ -9,7 +8,7 @@ use Rattle.ip_rewrite.specs.Headers.{number_of_first, linked_headers}
 use Rattle.ip_rewrite.specs.Selection.{selects, kept, any_selected, selects_fragmented}
 use Rattle.ip_rewrite.specs.Without.{is_authentication, has_segments}
 use Rattle.ip_rewrite.specs.Insertion.{inserted}
-use Rattle.ip_rewrite.specs.Order.{is_routing}
+use Rattle.ip_rewrite.specs.Order.{is_routing, rank_of}
 use Rattle.ip_rewrite.specs.declared.which.Which.{Which}
 use Rattle.ip_rewrite.specs.declared.survey.Survey.{Survey}
 use Rattle.ip_rewrite.specs.declared.survey.HeaderFacts.{HeaderFacts}
@@ -72,12 +71,7 @@ routing_index (h ∷ c) = if list_any is_routing c then routing_index c + 1 else
 
 -- the rank of the header h with the index i, if the last routing header has the index e
 abbrev pub rank_at : ℕ → ℕ → ExtHeader → ℕ
-rank_at e i h =
-    if h.number == HOP_BY_HOP then 0
-    else if (h.number == ROUTING) || (h.number == DESTINATION_OPTIONS) && nat_lt i e then 1
-    else if h.number == FRAGMENT then 2
-    else if h.number == AUTHENTICATION then 3
-    else 4
+rank_at e i h = rank_of h.number (nat_lt i e)
 
 -- of headers whose first has the index i, those of the rank k
 abbrev pub of_rank_from : ℕ → ℕ → ℕ → List ExtHeader → List ExtHeader
@@ -98,6 +92,11 @@ last_rank k e i (h ∷ c) = last_rank (rank_at e i h) e (i + 1) c
 abbrev pub rises_at : ℕ → ℕ → ℕ → List ExtHeader → Bool
 rises_at k e i [] = true
 rises_at k e i (h ∷ c) = nat_le k (rank_at e i h) && rises_at (rank_at e i h) e (i + 1) c
+
+-- the index of the first header of a rank above k
+abbrev pub first_above : ℕ → ℕ → ℕ → List ExtHeader → Option ℕ
+first_above k e i [] = None
+first_above k e i (h ∷ c) = if nat_lt k (rank_at e i h) then Some i else first_above k e (i + 1) c
 
 -- The base header b, in which the number of what follows is at the offset l, and the headers c after it, each of which leads
 -- to the next one, and the last to m.

@@ -10,7 +10,9 @@ mod first_survey;
 mod insertion;
 mod keeper;
 mod order;
+mod order_laws;
 mod payload;
+mod place;
 mod removal;
 mod survey;
 #[cfg(test)]
@@ -22,6 +24,8 @@ pub use clearing::cleared;
 pub use err::RewriteError;
 pub use insertion::with_header;
 pub use order::in_order;
+pub use order_laws::headers_are_put_in_order;
 pub use payload::with_payload;
+pub use place::recommended_index;
 pub use removal::{Rewritten, without};
 pub use which::{Authentication, Which};

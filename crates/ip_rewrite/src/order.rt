@@ -25,14 +25,14 @@ use ip_dissect::{HeaderVisitor, Outline, Packet};
 const RANKS: u8 = 5;
 
 /// What was seen of a packet's headers.
-#[derive(Clone, Copy, Debug)]
-struct Contents {
+#[derive(Clone, Copy, Debug, Default)]
+pub(crate) struct Contents {
     /// There is an authentication header.
     has_authentication: bool,
     /// A header fragments the payload.
     fragments: bool,
     /// The index of the last routing header, or 0 without one.
-    last_routing: usize,
+    pub(crate) last_routing: usize,
 }
 
 impl HeaderVisitor for Contents {
@@ -55,7 +55,7 @@ impl HeaderVisitor for Contents {
 
 /// Returns the rank of the header with this number and index in the recommended order (RFC 8200, section 4.1).
 #[inline(always)]
-fn rank(number: IpNumber, index: usize, last_routing: usize) -> u8
+pub(crate) fn rank(number: IpNumber, index: usize, last_routing: usize) -> u8
     ensures { (h : ExtHeader) → h.number ≡ number.0 → result ≡ rank_at last_routing index h }
 {
     let is_before_routing = number == ip_number::IPV6_DEST_OPTIONS && index < last_routing;
@@ -311,11 +311,7 @@ pub fn in_order(
         dissected (take r.len out.new) ≡ rewritten_parts p (in_order p.headers) p.number p.payload) }
     ensures stays { OnErr result (out.new ≡ out.old) }
 {
-    let mut contents = Contents {
-        has_authentication: false,
-        fragments: false,
-        last_routing: 0,
-    };
+    let mut contents = Contents::default();
     let packet = Packet::walk(packet, &mut contents);
     match test(&packet, &contents, authentication, out.len()) {
         Ok(field) => {

@@ -1,7 +1,7 @@
-//! Tests: packets that scapy made, before and after a change, and packets put together of headers in a given order.
+//! Tests: packets that scapy made, before and after a change, and packets with headers in any order.
 use crate::{
-    Authentication, RewriteError, Rewritten, Which, cleared, in_order, with_header, with_payload,
-    without,
+    Authentication, RewriteError, Rewritten, Which, cleared, in_order, recommended_index,
+    with_header, with_payload, without,
 };
 use ip_base::{IpNumber, ip_number};
 use std::process::Abort;
@@ -599,7 +599,7 @@ fn put(out: &mut [u8], offset: usize, bytes: &[u8]) {
     }
 }
 
-/// Puts an IPv6 packet together of these headers and 8 bytes of UDP. Returns its length.
+/// Writes an IPv6 packet with these headers and 8 bytes of UDP. Returns its length.
 fn assemble(parts: &[Part], out: &mut [u8]) -> usize {
     put(out, 0, &PLAIN);
     let mut link = 6usize;
@@ -744,4 +744,28 @@ fn with_byte(packet: &[u8], offset: usize, byte: u8, error: RewriteError) -> Row
         byte,
         ..changed(packet, Change::InOrder, Err(error))
     }
+}
+
+#[test]
+fn places(rt: HostRuntime) -> Result<(), Fail> {
+    let rows: [(&[u8], IpNumber, usize); 13] = [
+        (&CHAIN, ip_number::IPV6_HOP_BY_HOP, 1),
+        (&CHAIN, ip_number::IPV6_ROUTE, 2),
+        (&CHAIN, ip_number::IPV6_FRAG, 2),
+        (&CHAIN, ip_number::AUTH, 2),
+        (&CHAIN, ip_number::IPV6_DEST_OPTIONS, 3),
+        (&TWICE, ip_number::IPV6_HOP_BY_HOP, 0),
+        (&TWICE, ip_number::IPV6_ROUTE, 2),
+        (&FIRST, ip_number::IPV6_ROUTE, 1),
+        (&FIRST, ip_number::IPV6_FRAG, 2),
+        (&FIRST, ip_number::IPV6_DEST_OPTIONS, 3),
+        (&PLAIN, ip_number::IPV6_DEST_OPTIONS, 0),
+        (&UNAUTHENTICATED, ip_number::AUTH, 0),
+        (b"", ip_number::AUTH, 0),
+    ];
+    for (packet, number, wanted) in rows.iter() {
+        let index = recommended_index(packet, *number);
+        assert!(rt; index == *wanted, "{index} for {number:?} in {packet:?}");
+    }
+    Ok(())
 }

@@ -71,7 +71,7 @@ record IsSelected (w : Which) (p : DissectedParts) : Type 0 where
 selected : (w : Which) (a : Authentication) (p : DissectedParts) → selection_fault w a p ≡ None → IsSelected w p
 selected w a p e = record { some = grind (arith, common_steps); no_header = grind (arith, common_steps) }
 
-field_fits : (p : DissectedParts) (c : List ExtHeader) (q : List ℕ) (room : ℕ) → room_fault p c q room ≡ None → rewritten_field p c q < 65536
+pub field_fits : (p : DissectedParts) (c : List ExtHeader) (q : List ℕ) (room : ℕ) → room_fault p c q room ≡ None → rewritten_field p c q < 65536
 field_fits p c q room e = grind (arith, common_steps)
 
 -- IPv6
@@ -184,14 +184,8 @@ module _ (b s : List ℕ) where
       let x : List ℕ = after_base b (ipv4_stated b) s in
       subst (λ (c : List ExtHeader). IsLongestUnder (AtMostOneOf 51) n x c) (sym (cond-true (ipv4_fragment_offset b == 0) (longest_ipv4_chain n x) [] (eq-eqb (ipv4_fragment_offset b) 0 (offset4 whole)))) (ipv4_longest n x)
 
-pub whole_chain : (s : List ℕ) (o : Option BaseHeader) → IsBaseOf s o → packet_fault (dissected s) ≡ None → IsWholeChain (dissected s)
-whole_chain s None is = λ e.
-    let v : BeginNone s = begins_none s is in
-    absurd (false≢true (sym (whole_packet (dissected s) e).no_error ∙ (ap (λ (p : DissectedParts). has_error p.end) v.is ∙ base_error s v.reason v.ends)))
-whole_chain s (Some (Ipv6 h)) is =
-    let b : List ℕ = ipv6_header.bytes h in
-    let v : BeginIpv6 s b = begins6 s (Some (Ipv6 h)) b is refl refl in
-    subst (λ (p : DissectedParts). packet_fault p ≡ None → IsWholeChain p) (sym v.is) (λ e.
+pub whole_chain6 : (s b : List ℕ) → BeginIpv6 s b → packet_fault (dissected s) ≡ None → IsWholeChain (dissected s)
+whole_chain6 s b v = subst (λ (p : DissectedParts). packet_fault p ≡ None → IsWholeChain p) (sym v.is) (λ e.
     let whole : IsWhole (ipv6_dissected b s) = whole_packet (ipv6_dissected b s) e in
     let later : has_later (ipv6_chain b s) ≡ false = later_of (has_later (ipv6_chain b s)) _ whole.not_later in
     record {
@@ -202,10 +196,9 @@ whole_chain s (Some (Ipv6 h)) is =
       ipv4 = λ n. absurd (cc);
       last = λ n. absurd (cc);
     })
-whole_chain s (Some (Ipv4 h)) is =
-    let b : List ℕ = ipv4_header.bytes h in
-    let v : BeginIpv4 s b = begins4 s (Some (Ipv4 h)) b is refl refl in
-    subst (λ (p : DissectedParts). packet_fault p ≡ None → IsWholeChain p) (sym v.is) (λ e.
+
+pub whole_chain4 : (s b : List ℕ) → BeginIpv4 s b → packet_fault (dissected s) ≡ None → IsWholeChain (dissected s)
+whole_chain4 s b v = subst (λ (p : DissectedParts). packet_fault p ≡ None → IsWholeChain p) (sym v.is) (λ e.
     let whole : IsWhole (ipv4_dissected b s) = whole_packet (ipv4_dissected b s) e in
     let has = (longest4 b s whole).has in
     record {
@@ -217,15 +210,23 @@ whole_chain s (Some (Ipv4 h)) is =
       last = λ _ auth. some_header b (ipv4_stated b) (ipv4_fragment_offset b) (protocol b) (after_base b (ipv4_stated b) s) (ipv4_chain b s) (longest4 b s whole) auth (offset4 b s whole) whole.no_error;
     })
 
+pub no_base : (s : List ℕ) → IsBaseOf s None → packet_fault (dissected s) ≡ None → ⊥
+no_base s is e =
+    let v : BeginNone s = begins_none s is in
+    false≢true (sym (whole_packet (dissected s) e).no_error ∙ (ap (λ (p : DissectedParts). has_error p.end) v.is ∙ base_error s v.reason v.ends))
+
+pub whole_chain : (s : List ℕ) (o : Option BaseHeader) → IsBaseOf s o → packet_fault (dissected s) ≡ None → IsWholeChain (dissected s)
+whole_chain s None is = λ e. absurd (no_base s is e)
+whole_chain s (Some (Ipv6 h)) is = whole_chain6 s (ipv6_header.bytes h) (begins6 s (Some (Ipv6 h)) (ipv6_header.bytes h) is refl refl)
+whole_chain s (Some (Ipv4 h)) is = whole_chain4 s (ipv4_header.bytes h) (begins4 s (Some (Ipv4 h)) (ipv4_header.bytes h) is refl refl)
+
 -- The packet with other headers, or with another payload, dissects as the old one with this change.
 module _ (c : List ExtHeader) (m : ℕ) (q : List ℕ) (room : ℕ) where
   abbrev Dissects : DissectedParts → Type 0
   Dissects p = packet_fault p ≡ None → CanFollow p.version c m → room_fault p c q room ≡ None → dissected (rewritten p c m q) ≡ rewritten_parts p c m q
 
   pub changed : (s : List ℕ) (o : Option BaseHeader) → IsBaseOf s o → Dissects (dissected s)
-  changed s None is = λ e f r.
-      let v : BeginNone s = begins_none s is in
-      absurd (false≢true (sym (whole_packet (dissected s) e).no_error ∙ (ap (λ (p : DissectedParts). has_error p.end) v.is ∙ base_error s v.reason v.ends)))
+  changed s None is = λ e f r. absurd (no_base s is e)
   changed s (Some (Ipv6 h)) is =
       let b : List ℕ = ipv6_header.bytes h in
       let v : BeginIpv6 s b = begins6 s (Some (Ipv6 h)) b is refl refl in
@@ -268,7 +269,7 @@ dissects w a room s o is e =
     both x y first second = rw (first, second) refl
 
 -- the bytes that are written
-stating_len : (v : ℕ) (b : List ℕ) (t : ℕ) → length (base_stating v b t) ≡ length b
+pub stating_len : (v : ℕ) (b : List ℕ) (t : ℕ) → length (base_stating v b t) ≡ length b
 stating_len v b t = elim (cases_Bool (v == 4)) [
   | inl s ↦ ap length (cond-true (v == 4) (ipv4_stating b t) (with_word b 4 t) s) ∙ (word_len (without_checksum b t) 10 (checksum_of (without_checksum b t)) ∙ (word_len (with_word b 2 t) 10 0 ∙ word_len b 2 t))
   | inr s ↦ ap length (cond-false (v == 4) (ipv4_stating b t) (with_word b 4 t) s) ∙ word_len b 4 t

@@ -115,7 +115,7 @@ module _ (b : List ℕ) (header : IsIpv4Header b) (c : List ExtHeader) (m t : �
   names : protocol sent_base4 ≡ number_of_first c m
   names = byte 9 (λ e. cc) (λ e. cc) (λ e. cc) (λ e. cc) ∙ get_or-set_same b 9 (number_of_first c m) 0 (omega (arith, least))
 
-  stated : t < 65536 → total_len sent_base4 ≡ t
+  pub stated : t < 65536 → total_len sent_base4 ≡ t
   stated small =
       range_same (with_word changed 2 t) sent_base4 2 (byte_after 2 (λ e. cc) (λ e. cc)) (byte_after 3 (λ e. cc) (λ e. cc))
       ∙ word_is changed 2 t (omega (arith, least, length-set b 9 (number_of_first c m))) small

@@ -60,7 +60,7 @@ module _ (b : List ℕ) (header : IsIpv6Header b) (c : List ExtHeader) (m t : �
   next : ipv6_next_header sent_base6 ≡ number_of_first c m
   next = byte 6 (λ e. cc) (λ e. cc) ∙ get_or-set_same b 6 (number_of_first c m) 0 (omega (arith, header.len))
 
-  stated : t < 65536 → payload_length sent_base6 ≡ t
+  pub stated : t < 65536 → payload_length sent_base6 ≡ t
   stated small = word_is (slice_set b 6 (number_of_first c m)) 4 t (omega (arith, header.len, length-set b 6 (number_of_first c m))) small
 
   abbrev after : List ℕ

@@ -10,5 +10,6 @@ pub mod FirstHeaderLemmas
 pub mod PayloadLemmas
 pub mod ClearingLemmas
 pub mod InsertionLemmas
+pub mod RestoringLemmas
 pub mod OrderLemmas
 pub mod OrderLawLemmas

@@ -6,7 +6,7 @@ use Rattle.ip_dissect.specs.Extent.{ipv4_stated, ipv6_stated}
 use Rattle.ip_dissect.specs.Fragment.{ipv6_fragment}
 use Rattle.ip_dissect.specs.Dissection.{DissectedParts}
 use Rattle.ip_rewrite.specs.Headers.{number_of_first, linked_headers}
-use Rattle.ip_rewrite.specs.Base.{length_field, base_before}
+use Rattle.ip_rewrite.specs.Base.{length_field, base_stating, base_before}
 use Rattle.ip_rewrite.specs.declared.err.RewriteError.{RewriteError}
 use Rattle.ip_rewrite.specs.declared.err.RewriteError.TheVariants.{TooLong, NoRoom}
 
@@ -42,6 +42,10 @@ rewritten_len p c q = length p.base + length (bytes_of c) + length q
 
 abbrev pub rewritten_field : DissectedParts → List ExtHeader → List ℕ → ℕ
 rewritten_field p c q = length_field p.version (is_unstated p) p.base (length (bytes_of c) + length q)
+
+-- the packet as it is, without padding, with its length and IPv4's checksum stated anew
+abbrev pub restated : DissectedParts → List ℕ
+restated p = base_stating p.version p.base (rewritten_field p p.headers p.payload) ++ bytes_of p.headers ++ p.payload
 
 -- why it can't be written into so many bytes: its length field has 16 bits, or it is longer
 abbrev pub room_fault : DissectedParts → List ExtHeader → List ℕ → ℕ → Option RewriteError

@@ -1,0 +1,242 @@
+-- A packet without the header that was inserted into it.
+use Rattle.ip_spec.proofs.Common.{zero, suc, ◌≡◌, ◌≢◌, ℕ, ◌+◌, ◌/◌, ◌%◌, ◌≤◌, ◌<◌, List, [], ◌∷◌, ◌++◌, length, take, inl, inr, false≢true, subst, refl, sym, ◌∙◌, ap, arith, common_steps, Bool, true, false, cases_Bool, eqb-true, eq-eqb, ne_eqb, cond-true, cond-false, if◌then◌else◌, ◌&&◌, ◌==◌, not, slice_set, slice_index, length-set, Option, Some, None, is_some, ExtHeader, bytes_of}
+use Rattle.std.proofs.lemmas.List.{set-set, set_comm, set-get_or}
+use Rattle.ip_spec.proofs.HeaderLemmas.{header-least}
+use Rattle.ip_base.specs.Ipv4Header.{version, ipv4_header_len, total_len}
+use Rattle.ip_base.specs.Ipv6Header.{payload_length}
+use Rattle.ip_defragmenter.specs.Whole.{with_word}
+use Rattle.ip_defragmenter.specs.Checksum.{checksum_of}
+use Rattle.ip_dissect.specs.End.{base_end}
+use Rattle.ip_dissect.specs.Dissection.{DissectedParts, ipv4_dissected, ipv6_dissected, dissected}
+use Rattle.ip_dissect.specs.declared.end.End.{End}
+use Rattle.ip_dissect.proofs.DissectedLemmas.{BeginIpv4, begin_ipv4, BeginIpv6, begin_ipv6, base_none, base6, picked4}
+use Rattle.ip_rewrite.specs.Headers.{number_of_first, linked_headers}
+use Rattle.ip_rewrite.specs.Base.{number_offset, without_checksum, ipv4_stating, length_field, base_stating}
+use Rattle.ip_rewrite.specs.Rewritten.{is_unstated, base_for, rewritten_field, rewritten_parts, restated}
+use Rattle.ip_rewrite.specs.Selection.{kept_from, kept}
+use Rattle.ip_rewrite.specs.Without.{packet_fault, without}
+use Rattle.ip_rewrite.specs.Insertion.{inserted, is_header, header_fault, insertion_fault}
+use Rattle.ip_rewrite.specs.declared.which.Which.TheVariants.{Index}
+use Rattle.ip_rewrite.specs.declared.which.Authentication.{Authentication}
+use Rattle.ip_rewrite.proofs.FrontLemmas.{joined_len, first_is, linked_same}
+use Rattle.ip_rewrite.proofs.Ipv4Lemmas.{stated as stated4}
+use Rattle.ip_rewrite.proofs.Ipv6Lemmas.{stated as stated6}
+use Rattle.ip_rewrite.proofs.DissectLemmas.{none_first, field_fits, stating_len, IsWholeChain, whole_chain4, whole_chain6, no_base}
+use Rattle.ip_rewrite.proofs.InsertionLemmas.{header_is, inserted_len, index_within}
+
+-- the base header, changed twice
+word_set : (b : List ℕ) (i n j x : ℕ) → i ≢ j → i + 1 ≢ j → slice_set (with_word b i n) j x ≡ with_word (slice_set b j x) i n
+word_set b i n j x p q = set_comm (slice_set b i (n / 256)) (i + 1) j (n % 256) x q ∙ ap (λ l. slice_set l (i + 1) (n % 256)) (set_comm b i j (n / 256) x p)
+
+word_word : (b : List ℕ) (i n m : ℕ) → with_word (with_word b i n) i m ≡ with_word b i m
+word_word b i n m =
+    ap (λ l. slice_set l (i + 1) (m % 256)) (set_comm (slice_set b i (n / 256)) (i + 1) i (n % 256) (m / 256) (λ e. omega (arith, e)) ∙ ap (λ l. slice_set l (i + 1) (n % 256)) (set-set b i (n / 256) (m / 256)))
+    ∙ set-set (slice_set b i (m / 256)) (i + 1) (n % 256) (m % 256)
+
+words_swap : (b : List ℕ) (i n j m : ℕ) → i ≢ j → i + 1 ≢ j → i ≢ j + 1 → i + 1 ≢ j + 1 → with_word (with_word b i n) j m ≡ with_word (with_word b j m) i n
+words_swap b i n j m p q r s = ap (λ l. slice_set l (j + 1) (m % 256)) (word_set b i n j (m / 256) p q) ∙ word_set (slice_set b j (m / 256)) i n (j + 1) (m % 256) r s
+
+twice6 : (b : List ℕ) (k n u t : ℕ) → with_word (slice_set (with_word (slice_set b 6 k) 4 u) 6 n) 4 t ≡ with_word (slice_set b 6 n) 4 t
+twice6 b k n u t =
+    ap (λ l. with_word l 4 t) (word_set (slice_set b 6 k) 4 u 6 n (λ e. omega (arith, e)) (λ e. omega (arith, e)) ∙ ap (λ l. with_word l 4 u) (set-set b 6 k n)) ∙ word_word (slice_set b 6 n) 4 u t
+
+twice4 : (b : List ℕ) (k n u t : ℕ) → ipv4_stating (slice_set (ipv4_stating (slice_set b 9 k) u) 9 n) t ≡ ipv4_stating (slice_set b 9 n) t
+twice4 b k n u t =
+    let old : List ℕ = slice_set b 9 k in
+    let new : List ℕ = slice_set b 9 n in
+    let sum : ℕ = checksum_of (without_checksum old u) in
+    let stated : ipv4_stating old u ≡ with_word (with_word old 2 u) 10 sum = word_word (with_word old 2 u) 10 0 sum in
+    let named : slice_set (ipv4_stating old u) 9 n ≡ with_word (with_word new 2 u) 10 sum =
+    ap (λ l. slice_set l 9 n) stated ∙ (word_set (with_word old 2 u) 10 sum 9 n (λ e. omega (arith, e)) (λ e. omega (arith, e))
+    ∙ ap (λ l. with_word l 10 sum) (word_set old 2 u 9 n (λ e. omega (arith, e)) (λ e. omega (arith, e)) ∙ ap (λ l. with_word l 2 u) (set-set b 9 k n))) in
+    let same : without_checksum (slice_set (ipv4_stating old u) 9 n) t ≡ without_checksum new t =
+    ap (λ l. without_checksum l t) named
+    ∙ (ap (λ l. with_word l 10 0) (words_swap (with_word new 2 u) 10 sum 2 t (λ e. omega (arith, e)) (λ e. omega (arith, e)) (λ e. omega (arith, e)) (λ e. omega (arith, e)) ∙ ap (λ l. with_word l 10 sum) (word_word new 2 u t))
+    ∙ word_word (with_word new 2 t) 10 sum 0) in
+    ap (λ l. with_word l 10 (checksum_of l)) same
+
+twice : (v : ℕ) (b : List ℕ) (k n u t : ℕ) → base_stating v (slice_set (base_stating v (slice_set b (number_offset v) k) u) (number_offset v) n) t ≡ base_stating v (slice_set b (number_offset v) n) t
+twice v b k n u t = elim (cases_Bool (v == 4)) [
+  | inl s ↦ rw s (twice4 b k n u t)
+  | inr s ↦ rw s (twice6 b k n u t)
+]
+
+-- Headers that differ in nothing but to which number they lead.
+abbrev Alike : List ExtHeader → List ExtHeader → Type 0
+Alike [] [] = Unit {0}
+Alike [] (h ∷ d) = ⊥
+Alike (g ∷ c) [] = ⊥
+Alike (g ∷ c) (h ∷ d) = (g.number ≡ h.number) × ((x : ℕ) → slice_set g.bytes 0 x ≡ slice_set h.bytes 0 x) × Alike c d
+
+linked_alike : (m : ℕ) (c : List ExtHeader) → Alike (linked_headers m c) c
+linked_alike m [] = tt
+linked_alike m (h ∷ c) = (refl, λ x. set-set h.bytes 0 (number_of_first c m) x, linked_alike m c)
+
+kept_alike : (i j : ℕ) (c d : List ExtHeader) → Alike c d → Alike (kept_from (Index i) j c) (kept_from (Index i) j d)
+kept_alike i j [] [] a = tt
+kept_alike i j [] (h ∷ d) a = absurd a
+kept_alike i j (g ∷ c) [] a = absurd a
+kept_alike i j (g ∷ c) (h ∷ d) a = pick (j == i) (kept_alike i (j + 1) c d a.2)
+  where
+    pick : (b : Bool) → Alike (kept_from (Index i) (j + 1) c) (kept_from (Index i) (j + 1) d)
+        → Alike (if b then kept_from (Index i) (j + 1) c else g ∷ kept_from (Index i) (j + 1) c) (if b then kept_from (Index i) (j + 1) d else h ∷ kept_from (Index i) (j + 1) d)
+    pick true r = r
+    pick false r = (a.0, a.1, r)
+
+alike_first : (m : ℕ) (c d : List ExtHeader) → Alike c d → number_of_first c m ≡ number_of_first d m
+alike_first m [] [] a = refl
+alike_first m [] (h ∷ d) a = absurd a
+alike_first m (g ∷ c) [] a = absurd a
+alike_first m (g ∷ c) (h ∷ d) a = a.0
+
+alike_linked : (m : ℕ) (c d : List ExtHeader) → Alike c d → linked_headers m c ≡ linked_headers m d
+alike_linked m [] [] a = refl
+alike_linked m [] (h ∷ d) a = absurd a
+alike_linked m (g ∷ c) [] a = absurd a
+alike_linked m (g ∷ c) (h ∷ d) a =
+    let bytes : slice_set g.bytes 0 (number_of_first c m) ≡ slice_set h.bytes 0 (number_of_first d m) = a.1 (number_of_first c m) ∙ ap (slice_set h.bytes 0) (alike_first m c d a.2) in
+    ap (λ (n : ℕ). let k : ExtHeader = record { number = n; bytes = slice_set g.bytes 0 (number_of_first c m) } in k ∷ linked_headers m c) a.0
+    ∙ (ap (λ (b : List ℕ). let k : ExtHeader = record { number = h.number; bytes = b } in k ∷ linked_headers m c) bytes
+    ∙ ap (λ x. record { number = h.number; bytes = slice_set h.bytes 0 (number_of_first d m) } ∷ x) (alike_linked m c d a.2))
+
+-- the header at an index isn't kept
+kept_later : (i j : ℕ) (c : List ExtHeader) → i < j → kept_from (Index i) j c ≡ c
+kept_later i j [] less = refl
+kept_later i j (h ∷ c) less =
+    cond-false (j == i) (kept_from (Index i) (j + 1) c) (h ∷ kept_from (Index i) (j + 1) c) (ne_eqb j i (λ e. omega (arith, e, less))) ∙ ap (λ x. h ∷ x) (kept_later i (j + 1) c (omega (arith, less)))
+
+kept_index : (i j n : ℕ) (h : ExtHeader) (c : List ExtHeader) → i ≡ j + n → n ≤ length c → kept_from (Index i) j (inserted n h c) ≡ c
+kept_index i j zero h c at within =
+    cond-true (j == i) (kept_from (Index i) (j + 1) c) (h ∷ kept_from (Index i) (j + 1) c) (eq-eqb j i (omega (arith, at))) ∙ kept_later i (j + 1) c (omega (arith, at))
+kept_index i j (suc n) h [] at within = absurd (omega (arith, within))
+kept_index i j (suc n) h (g ∷ c) at within =
+    cond-false (j == i) (kept_from (Index i) (j + 1) (inserted n h c)) (g ∷ kept_from (Index i) (j + 1) (inserted n h c)) (ne_eqb j i (λ e. omega (arith, e, at)))
+    ∙ ap (λ x. g ∷ x) (kept_index i (j + 1) n h c (omega (arith, at)) (omega (arith, within)))
+
+-- the packet without the header
+module _ (i : ℕ) (h : ExtHeader) (p : DissectedParts) (chain : IsWholeChain p) (within : i ≤ length p.headers) where
+  abbrev new : DissectedParts
+  new = rewritten_parts p (inserted i h p.headers) p.number p.payload
+
+  abbrev left : List ExtHeader
+  left = kept (Index i) new.headers
+
+  abbrev byte : ℕ
+  byte = slice_index p.base (number_offset p.version)
+
+  alike : Alike left p.headers
+  alike = subst (Alike left) (kept_index i 0 i h p.headers (omega arith) within) (kept_alike i 0 new.headers (inserted i h p.headers) (linked_alike p.number (inserted i h p.headers)))
+
+  links : linked_headers p.number left ≡ p.headers
+  links = alike_linked p.number left p.headers alike ∙ (ap (λ m. linked_headers m p.headers) chain.number ∙ linked_same byte p.headers chain.chain.links)
+
+  first : number_of_first left p.number ≡ byte
+  first = alike_first p.number left p.headers alike ∙ (ap (number_of_first p.headers) chain.number ∙ first_is byte p.headers chain.chain.links)
+
+  size : length (bytes_of left) ≡ length (bytes_of p.headers)
+  size = sym (joined_len left p.number) ∙ ap (λ c. length (bytes_of c)) links
+
+  base_size : length new.base ≡ length p.base
+  base_size = stating_len p.version (slice_set p.base (number_offset p.version) (number_of_first (inserted i h p.headers) p.number)) (rewritten_field p (inserted i h p.headers) p.payload) ∙ length-set p.base (number_offset p.version) (number_of_first (inserted i h p.headers) p.number)
+
+  field : is_unstated new ≡ is_unstated p → rewritten_field new left p.payload ≡ rewritten_field p p.headers p.payload
+  field same = field_same p.version (is_unstated new) (is_unstated p) new.base p.base (length (bytes_of left) + length p.payload) (length (bytes_of p.headers) + length p.payload) same base_size (omega (arith, size))
+    where
+      field_same : (v : ℕ) (x y : Bool) (b d : List ℕ) (n k : ℕ) → x ≡ y → length b ≡ length d → n ≡ k → length_field v x b n ≡ length_field v y d k
+      field_same v x y b d n k e f g = rw (e, f, g) refl
+
+  base : is_unstated new ≡ is_unstated p → base_for new left p.number p.payload ≡ base_stating p.version p.base (rewritten_field p p.headers p.payload)
+  base same =
+      let t : ℕ = rewritten_field p p.headers p.payload in
+      let o : ℕ = number_offset p.version in
+      ap (λ n. base_stating p.version (slice_set new.base o n) (rewritten_field new left p.payload)) first
+      ∙ (ap (base_stating p.version (slice_set new.base o byte)) (field same)
+      ∙ (twice p.version p.base (number_of_first (inserted i h p.headers) p.number) byte (rewritten_field p (inserted i h p.headers) p.payload) t
+      ∙ ap (λ l. base_stating p.version l t) (set-get_or p.base o 0)))
+
+  pub restored : is_unstated new ≡ is_unstated p → without (Index i) new ≡ restated p
+  restored same = ap (λ b. b ++ bytes_of (linked_headers p.number left) ++ p.payload) (base same) ∙ ap (λ c. base_stating p.version p.base (rewritten_field p p.headers p.payload) ++ bytes_of c ++ p.payload) links
+
+-- whether the packet states its length
+unstated_is : (b : Bool) (f l k n : ℕ) (o : Option ℕ) → f ≡ (if b then 0 else l) → 0 < l → o ≡ (if f == 0 then None else Some k) → 0 < n → (not (is_some o) && not (n == 0)) ≡ b
+unstated_is true f l k n o is more stated some = rw (stated, is, ne_eqb n 0 (λ e. omega (arith, e, some))) refl
+unstated_is false f l k n o is more stated some = rw (stated, is, ne_eqb l 0 (λ e. omega (arith, e, more))) refl
+
+inserted_some : (i : ℕ) (h : ExtHeader) (c : List ExtHeader) → is_header h.number h.bytes ≡ true → 0 < length (bytes_of (inserted i h c))
+inserted_some i h c whole = omega (arith, inserted_len i c h, header-least h.number h.bytes (header_is h.number h.bytes whole))
+
+record IsInsertable (a : Authentication) (i : ℕ) (h : ExtHeader) (p : DissectedParts) (room : ℕ) : Type 0 where
+  whole : packet_fault p ≡ None
+  header : is_header h.number h.bytes ≡ true
+  small : rewritten_field p (inserted i h p.headers) p.payload < 65536
+
+is_one : (a : Authentication) (i : ℕ) (h : ExtHeader) (p : DissectedParts) → header_fault a i h p ≡ None → is_header h.number h.bytes ≡ true
+is_one a i h p e = grind (arith, common_steps)
+
+insertable : (a : Authentication) (i : ℕ) (h : ExtHeader) (p : DissectedParts) (room : ℕ) → insertion_fault a i h p room ≡ None → IsInsertable a i h p room
+insertable a i h p room e =
+    let first = none_first (packet_fault p) _ e in
+    let second = none_first (header_fault a i h p) _ first.1 in
+    record { whole = first.0; header = is_one a i h p second.0; small = field_fits p (inserted i h p.headers) p.payload room second.1 }
+
+module _ (a : Authentication) (i : ℕ) (h : ExtHeader) (room : ℕ) where
+  abbrev Restores : DissectedParts → Type 0
+  Restores p = insertion_fault a i h p room ≡ None → IsWholeChain p → without (Index i) (rewritten_parts p (inserted i h p.headers) p.number p.payload) ≡ restated p
+
+  restores6 : (s b : List ℕ) → BeginIpv6 s b → Restores (ipv6_dissected b s)
+  restores6 s b v e chain =
+      let p : DissectedParts = ipv6_dissected b s in
+      let c : List ExtHeader = inserted i h p.headers in
+      let new : IsInsertable a i h p room = insertable a i h p room e in
+      let t : ℕ = rewritten_field p c p.payload in
+      let stated : payload_length (base_for p c p.number p.payload) ≡ t = stated6 b v.header c p.number t p.payload new.small in
+      let some : 0 < length (bytes_of c) = inserted_some i h p.headers new.header in
+      let size : length (bytes_of (linked_headers p.number c)) ≡ length (bytes_of c) = joined_len c p.number in
+      restored i h p chain (index_within a i h p room e)
+      (unstated_is (is_unstated p) t (length (bytes_of c) + length p.payload) (40 + t) (length (bytes_of (linked_headers p.number c)) + length p.payload) (rewritten_parts p c p.number p.payload).stated refl (omega (arith, some))
+      (ap (λ (n : ℕ). let o : Option ℕ = if n == 0 then None else Some (40 + n) in o) stated) (omega (arith, some, size)))
+
+  restores4 : (s b : List ℕ) → BeginIpv4 s b → Restores (ipv4_dissected b s)
+  restores4 s b v e chain =
+      let p : DissectedParts = ipv4_dissected b s in
+      let c : List ExtHeader = inserted i h p.headers in
+      let new : IsInsertable a i h p room = insertable a i h p room e in
+      let t : ℕ = rewritten_field p c p.payload in
+      let stated : total_len (base_for p c p.number p.payload) ≡ t = stated4 b v.header c p.number t p.payload new.small in
+      let some : 0 < length (bytes_of c) = inserted_some i h p.headers new.header in
+      let size : length (bytes_of (linked_headers p.number c)) ≡ length (bytes_of c) = joined_len c p.number in
+      restored i h p chain (index_within a i h p room e)
+      (unstated_is (is_unstated p) t (length b + (length (bytes_of c) + length p.payload)) t (length (bytes_of (linked_headers p.number c)) + length p.payload) (rewritten_parts p c p.number p.payload).stated refl (omega (arith, some))
+      (ap (λ (n : ℕ). let o : Option ℕ = if n == 0 then None else Some n in o) stated) (omega (arith, some, size)))
+
+  -- by the version
+  version4 : (s : List ℕ) → base_end s ≡ None → version s ≡ 4 → (dissected s).version ≡ 4
+  unfolding dissected
+  version4 s none four = ap (λ (p : DissectedParts). p.version) (picked4 s (base_end s) (version s) _ _ none four)
+
+  version6 : (s : List ℕ) → base_end s ≡ None → version s ≡ 6 → (dissected s).version ≡ 6
+  unfolding dissected
+  version6 s none six = rw (none, six) refl
+
+  abbrev Restored : List ℕ → Type 0
+  Restored s = without (Index i) (rewritten_parts (dissected s) (inserted i h (dissected s).headers) (dissected s).number (dissected s).payload) ≡ restated (dissected s)
+
+  restores_based : (s : List ℕ) → base_end s ≡ None → insertion_fault a i h (dissected s) room ≡ None → Restored s
+  restores_based s none e =
+      let whole : packet_fault (dissected s) ≡ None = (insertable a i h (dissected s) room e).whole in
+      elim (cases_Bool (version s == 4)) [
+        | inl four ↦
+            let v = begin_ipv4 s (version4 s none (eqb-true (version s) 4 four)) in
+            subst Restores (sym v.is) (restores4 s (take (ipv4_header_len s) s) v) e (whole_chain4 s (take (ipv4_header_len s) s) v whole)
+        | inr other ↦
+            let six : version s ≡ 6 = (base6 s none (λ four. false≢true (sym other ∙ eq-eqb (version s) 4 four))).0 in
+            let v = begin_ipv6 s (version6 s none six) in
+            subst Restores (sym v.is) (restores6 s (take 40 s) v) e (whole_chain6 s (take 40 s) v whole)
+      ]
+
+  restores_by : (s : List ℕ) (o : Option End) → base_end s ≡ o → insertion_fault a i h (dissected s) room ≡ None → Restored s
+  restores_by s None none e = restores_based s none e
+  restores_by s (Some x) some e = absurd (no_base s (base_none s (λ none. cc)) (insertable a i h (dissected s) room e).whole)
+
+  pub restores : (s : List ℕ) → insertion_fault a i h (dissected s) room ≡ None → Restored s
+  restores s e = restores_by s (base_end s) refl e

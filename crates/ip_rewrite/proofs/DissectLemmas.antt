@@ -50,12 +50,12 @@ pub none_first : (a b : Option RewriteError) → option_or a b ≡ None → (a �
 none_first None b e = (refl, e)
 none_first (Some x) b e = absurd (cc)
 
-record IsWhole (p : DissectedParts) : Type 0 where
-  no_error : has_error p.end ≡ false
-  all_here : p.missing ≡ 0
-  not_later : is_later_end p.end ≡ false
+pub record IsWhole (p : DissectedParts) : Type 0 where
+  pub no_error : has_error p.end ≡ false
+  pub all_here : p.missing ≡ 0
+  pub not_later : is_later_end p.end ≡ false
 
-whole_packet : (p : DissectedParts) → packet_fault p ≡ None → IsWhole p
+pub whole_packet : (p : DissectedParts) → packet_fault p ≡ None → IsWhole p
 whole_packet p e = record { no_error = grind (arith, common_steps); all_here = grind (arith, common_steps); not_later = grind (arith, common_steps) }
 
 payload_end : (e : End) → has_error e ≡ false → is_later_end e ≡ false → e ≡ Payload

@@ -12,7 +12,7 @@ pub word_other : (b : List ℕ) (i n j : ℕ) → j ≢ i → j ≢ i + 1 → sl
 word_other b i n j p q = get_or-set_other (slice_set b i (n / 256)) (i + 1) j (n % 256) 0 q ∙ get_or-set_other b i j (n / 256) 0 p
 
 -- the word
-word_bytes : (b : List ℕ) (i j : ℕ) → j < 2 → slice_index (take 2 (drop i b)) j ≡ slice_index b (i + j)
+pub word_bytes : (b : List ℕ) (i j : ℕ) → j < 2 → slice_index (take 2 (drop i b)) j ≡ slice_index b (i + j)
 word_bytes b i j less = get_or-take 2 (drop i b) j 0 less ∙ get_or-drop i b j 0
 
 pub word_is : (b : List ℕ) (i n : ℕ) → i + 2 ≤ length b → n < 65536 → from_be_bytes w16 (take 2 (drop i (with_word b i n))) ≡ n

@@ -11,5 +11,6 @@ pub mod PayloadLemmas
 pub mod ClearingLemmas
 pub mod InsertionLemmas
 pub mod RestoringLemmas
+pub mod RestatedLemmas
 pub mod OrderLemmas
 pub mod OrderLawLemmas

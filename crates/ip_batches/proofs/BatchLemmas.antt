@@ -23,7 +23,7 @@ span_within buffer spans i d none l =
 
 -- The first i of the results `xs` are stored in the array that was `old`, and one more is.
 module _ {X : Type 0} (xs old : List X) where
-  one_stored : (ys : List X) (i : ℕ) (x d : X) → ys ≡ take i xs ++ drop i old → i < length xs → i < length old → x ≡ get_or xs i d
+  pub one_stored : (ys : List X) (i : ℕ) (x d : X) → ys ≡ take i xs ++ drop i old → i < length xs → i < length old → x ≡ get_or xs i d
       → set ys i x ≡ take (i + 1) xs ++ drop (i + 1) old
   one_stored ys i x d stored l m is =
       let first : length (take i xs) ≡ i = grind (arith, common_steps) in

@@ -1,3 +1,4 @@
 pub mod BatchLemmas
+pub mod BlockLemmas
 pub mod PlainLemmas
 pub mod SumLemmas

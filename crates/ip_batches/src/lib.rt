@@ -2,6 +2,7 @@
 #![tactic(auto)]
 
 mod batch;
+mod blocks;
 mod count;
 mod dissect;
 mod matches;

@@ -1,8 +1,11 @@
 //! Tests the packets of a batch with a filter.
-ghost use Rattle.std.specs.Prelude.{◌≡◌};
+ghost use Rattle.std.specs.Prelude.{◌≡◌, ◌↔◌, IsTrue};
+ghost use Rattle.std.specs.List.{All};
+ghost use Rattle.ip_filter.specs.Program.{tests_of};
 ghost use Rattle.ip_spans.specs.HeaderSpan.{filled};
 ghost use Rattle.ip_statistics.specs.Counts.{one_if};
 ghost use Rattle.ip_batches.specs.Batch.{packets_at, matches_of};
+ghost use Rattle.ip_batches.specs.Blocks.{IsBrief};
 
 use crate::Batch;
 use ip_filter::Filter;
@@ -11,8 +14,21 @@ impl Batch<'_> {
     /// Stores for each packet, in order, 1 if the filter matches it and 0 if it doesn't, at the front of `matches`, as
     /// many as fit; the other elements are unchanged.
     #[inline(always)]
-    #[tactic(auto, using(crate::proofs::BatchLemmas::all_stored))]
     pub fn filter(&self, filter: &Filter, matches: &mut [u8])
+        ensures { matches.new ≡ filled
+            (matches_of filter.now (packets_at self.now.buffer.now self.now.spans.now)) matches.old }
+    {
+        if is_brief(filter) {
+            self.filter_blocks(filter, matches);
+        } else {
+            self.filter_each(filter, matches);
+        }
+    }
+
+    /// Stores which packets the filter matches, as `filter` does, one by one.
+    #[inline(always)]
+    #[tactic(auto, using(crate::proofs::BatchLemmas::all_stored))]
+    fn filter_each(&self, filter: &Filter, matches: &mut [u8])
         ensures { matches.new ≡ filled
             (matches_of filter.now (packets_at self.now.buffer.now self.now.spans.now)) matches.old }
     {
@@ -23,9 +39,16 @@ impl Batch<'_> {
     }
 }
 
+/// Returns whether all tests of the filter are brief.
+fn is_brief(filter: &Filter) -> bool
+    ensures { IsTrue result ↔ All IsBrief (tests_of filter.now) }
+{
+    filter.used_tests().iter().all(|test| test.is_brief())
+}
+
 /// Returns 1 for true and 0 for false.
 #[inline(always)]
-fn byte_of(is_match: bool) -> u8
+pub(crate) fn byte_of(is_match: bool) -> u8
     ensures { result ≡ one_if is_match }
 {
     u8::from(is_match)

@@ -7,12 +7,12 @@ ghost use Rattle.ip_filter.specs.Flags.{AreKnown, any_flag};
 ghost use Rattle.ip_filter.specs.Facts.{first_number};
 ghost use Rattle.ip_filter.specs.HeaderConditions.{meets_condition};
 ghost use Rattle.ip_filter.specs.Truth.{is_first_kind, is_later_kind, fault_kind, fault_in, is_truncated, is_in_layer};
-ghost use Rattle.ip_filter.specs.Truth.{has_source, has_destination, some_fragment};
+ghost use Rattle.ip_filter.specs.Truth.{some_fragment};
 
+use crate::FaultKind;
 use crate::flags::{Flags, mask};
 use crate::header_condition::{HeaderCondition, any_header};
 use crate::layers::is_in_layer;
-use crate::{FaultKind, Network};
 use ip_base::err::ip::{HeaderError, HeadersError, SliceError};
 use ip_base::err::ipv6_exts;
 use ip_base::{IpNumber, ip_number};
@@ -80,36 +80,6 @@ impl<'a> Facts<'a> {
         }
         match self.packet.outline.fragment {
             Some(fragment) => u64::from(fragment.identification) == number,
-            None => false,
-        }
-    }
-
-    /// Returns whether the source address of the packet lies in the network.
-    #[inline(always)]
-    pub(crate) fn has_source(&self, network: Network) -> bool
-        ensures { result ≡ has_source network (dissected self.now.packet.bytes.now) }
-    {
-        match &self.packet.base {
-            Some(BaseHeader::Ipv4(header)) => network.has_ipv4(u32::from_be_bytes(header.source())),
-            Some(BaseHeader::Ipv6(header)) => {
-                network.has_ipv6(u128::from_be_bytes(header.source()))
-            }
-            None => false,
-        }
-    }
-
-    /// Returns whether the destination address of the packet lies in the network.
-    #[inline(always)]
-    pub(crate) fn has_destination(&self, network: Network) -> bool
-        ensures { result ≡ has_destination network (dissected self.now.packet.bytes.now) }
-    {
-        match &self.packet.base {
-            Some(BaseHeader::Ipv4(header)) => {
-                network.has_ipv4(u32::from_be_bytes(header.destination()))
-            }
-            Some(BaseHeader::Ipv6(header)) => {
-                network.has_ipv6(u128::from_be_bytes(header.destination()))
-            }
             None => false,
         }
     }

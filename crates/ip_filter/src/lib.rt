@@ -2,8 +2,10 @@
 #![tactic(auto)]
 
 mod arguments;
+mod brief;
 mod builder;
 mod compile;
+mod early;
 mod facts;
 mod filter;
 mod flags;
@@ -29,6 +31,7 @@ mod test_of;
 mod transport;
 mod words;
 
+pub use brief::Brief;
 pub use filter::{Filter, Test};
 pub use laws::bytes_after_the_packet_change_nothing;
 pub use network::Network;

@@ -70,12 +70,9 @@ impl Test {
     pub(crate) fn is_met(&self, facts: &Facts<'_>) -> bool
         ensures { result ≡ meets self.now (dissected facts.now.packet.bytes.now) }
     {
-        let outline = &facts.packet.outline;
         match self.kind {
             kind::FLAGS => facts.has_one_of(self.number),
-            kind::LEADS_TO => {
-                outline.version != 0 && u64::from(outline.next_header.0) == self.number
-            }
+            kind::LEADS_TO => self.leads_to(&facts.packet),
             kind::HEADERS => self.compares(Quantity::Headers, facts),
             kind::CHAIN_BYTES => self.compares(Quantity::ChainBytes, facts),
             kind::PAYLOAD => self.compares(Quantity::Payload, facts),
@@ -96,18 +93,9 @@ impl Test {
                 None => false,
             },
             kind::IDENTIFICATION => facts.has_identification(self.number),
-            kind::SOURCE => match self.network() {
-                Some(network) => facts.has_source(network),
-                None => false,
-            },
-            kind::DESTINATION => match self.network() {
-                Some(network) => facts.has_destination(network),
-                None => false,
-            },
-            kind::EITHER => match self.network() {
-                Some(network) => facts.has_source(network) || facts.has_destination(network),
-                None => false,
-            },
+            kind::SOURCE => self.has_source(&facts.packet),
+            kind::DESTINATION => self.has_destination(&facts.packet),
+            kind::EITHER => self.has_either(&facts.packet),
             kind::LAYER => { facts.has_one_of(self.address_low) && facts.is_in_layer(self.number) }
             _ => self.is_met_in_payload(facts),
         }
@@ -183,7 +171,7 @@ impl Test {
 
     /// Returns the network, if the version is 4 or 6 and the address fits it.
     #[inline(always)]
-    fn network(&self) -> Option<Network>
+    pub(crate) fn network(&self) -> Option<Network>
         ensures { result ≡ network_in self.now }
     {
         match self.version {
@@ -205,7 +193,7 @@ impl Test {
 
 /// Returns the comparison with this code.
 #[inline(always)]
-fn comparison_of(code: u8) -> Option<Comparison>
+pub(crate) fn comparison_of(code: u8) -> Option<Comparison>
     ensures { result ≡ comparison_in code }
 {
     match code {

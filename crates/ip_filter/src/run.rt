@@ -1,5 +1,5 @@
 //! Runs the tests of a filter on a packet.
-ghost use Rattle.std.specs.Prelude.{◌≡◌, ◌≤◌, length, true, false, if◌then◌else◌};
+ghost use Rattle.std.specs.Prelude.{◌≡◌, ◌≤◌, ◌==◌, ◌||◌, ◌∷◌, [], length, true, false, if◌then◌else◌};
 ghost use Rattle.ip_dissect.specs.Dissection.{dissected};
 ghost use Rattle.ip_dissect.specs.End.{has_error};
 ghost use Rattle.ip_dissect.specs.Outline.{is_plain};
@@ -11,7 +11,6 @@ ghost use Rattle.ip_filter.specs.Frames.{frame_of};
 
 use crate::facts::Facts;
 use crate::flags::Flags;
-use crate::meets::kind;
 use crate::{Filter, Test};
 use ip_dissect::{Packet, PacketStart, PacketVisitor, Visited};
 
@@ -44,24 +43,71 @@ impl Filter {
     }
 }
 
-/// How far tests of flags lead a packet.
+/// How far early tests lead a packet.
 #[derive(Clone, Copy)]
 pub(crate) enum Reached {
     /// Past all tests: whether it passes.
     End(bool),
-    /// To the test with this index, which is not one of flags.
+    /// To the test with this index, which is not an early one.
     Next(usize),
 }
 
-/// Returns whether the packet at the start of `bytes` passes the tests. Plain packets of both versions are tested in one
-/// place: most of their flags are known at compile time.
+/// Returns whether the packet at the start of `bytes` passes the tests. One test of flags or of the protocol number has its
+/// own path, on which a plain packet's other parts need not be known; so have tests of which the first is not an early one.
 #[inline(always)]
 pub(crate) fn run_on(tests: &[Test], bytes: &[u8]) -> bool
     requires { length tests.now ≤ 64 }
     ensures { result ≡ passes tests.now (λ x. meets x (dissected bytes.now)) }
 {
+    if tests.len() == 1 && tests[0].is_of_numbers() {
+        return run_one(tests, &tests[0], bytes);
+    }
+    if !tests.is_empty() && tests[0].is_early() {
+        return run_early_first(tests, bytes);
+    }
+    run_late(tests, bytes)
+}
+
+/// Returns whether the packet passes the only test, which is one of flags or of the protocol number.
+#[inline(always)]
+fn run_one(tests: &[Test], test: &Test, bytes: &[u8]) -> bool
+    requires one { tests.now ≡ test.now ∷ [] }
+    requires kind { ((test.now.kind == 1) || (test.now.kind == 2)) ≡ true }
+    ensures { result ≡ passes tests.now (λ x. meets x (dissected bytes.now)) }
+{
+    match Packet::visit(bytes, &mut Tester { tests }) {
+        Visited::Plain(packet) => {
+            let is_met = test.is_met_by_numbers(&packet, Flags::none().of(&packet));
+            test.next_index(is_met) == PASSED
+        }
+        Visited::Slow(passed) => passed,
+    }
+}
+
+/// Returns whether the packet passes the tests, of which the first is an early one. Plain packets of both versions are tested
+/// in one place: most of their flags are known at compile time.
+#[inline(never)]
+fn run_early_first(tests: &[Test], bytes: &[u8]) -> bool
+    requires { length tests.now ≤ 64 }
+    ensures { result ≡ passes tests.now (λ x. meets x (dissected bytes.now)) }
+{
     match Packet::visit(bytes, &mut Tester { tests }) {
         Visited::Plain(packet) => run_on_plain(tests, packet),
+        Visited::Slow(passed) => passed,
+    }
+}
+
+/// Returns whether the packet passes the tests, of which the first is not an early one.
+#[inline(never)]
+fn run_late(tests: &[Test], bytes: &[u8]) -> bool
+    requires { length tests.now ≤ 64 }
+    ensures { result ≡ passes tests.now (λ x. meets x (dissected bytes.now)) }
+{
+    match Packet::visit(bytes, &mut Tester { tests }) {
+        Visited::Plain(packet) => {
+            let flags = Flags::none().of(&packet);
+            run_stored(tests, 0, &Facts { packet, flags })
+        }
         Visited::Slow(passed) => passed,
     }
 }
@@ -76,8 +122,8 @@ fn run_on_plain(tests: &[Test], packet: Packet<'_>) -> bool
     run_on_packet(tests, packet, Flags::none().of(&packet))
 }
 
-/// Returns whether a packet passes that has these flags. Tests of flags come first, if there is no error: they need no other
-/// part of the packet, which is then not stored.
+/// Returns whether a packet passes that has these flags. Early tests come first, if there is no error: they need no part of
+/// the packet to be stored.
 #[inline(always)]
 fn run_on_packet(tests: &[Test], packet: Packet<'_>, flags: Flags) -> bool
     requires few { length tests.now ≤ 64 }
@@ -87,15 +133,15 @@ fn run_on_packet(tests: &[Test], packet: Packet<'_>, flags: Flags) -> bool
     if packet.outline.has_error {
         return run_stored(tests, 0, &Facts { packet, flags });
     }
-    match run_flags(tests, &packet, flags) {
+    match run_early(tests, &packet, flags) {
         Reached::End(passed) => passed,
         Reached::Next(next) => run_stored(tests, next, &Facts { packet, flags }),
     }
 }
 
-/// Runs tests of flags on a packet without an error, up to the first test that is not one.
+/// Runs early tests on a packet without an error, up to the first test that is not one.
 #[inline(always)]
-fn run_flags(tests: &[Test], packet: &Packet<'_>, flags: Flags) -> Reached
+fn run_early(tests: &[Test], packet: &Packet<'_>, flags: Flags) -> Reached
     requires few { length tests.now ≤ 64 }
     requires flags { AreKnown (dissected packet.now.bytes.now) flags }
     requires none { has_error (dissected packet.now.bytes.now).end ≡ false }
@@ -104,10 +150,9 @@ fn run_flags(tests: &[Test], packet: &Packet<'_>, flags: Flags) -> Reached
     let mut next = 0;
     'tests: while next < tests.len() {
         let test = &tests[next];
-        if test.kind != kind::FLAGS {
+        let Some(after) = test.index_early(packet, flags) else {
             return Reached::Next(next);
-        }
-        let after = index_by_flags(test, packet, flags);
+        };
         if after <= next {
             return Reached::End(false);
         }
@@ -185,33 +230,13 @@ fn run_from(tests: &[Test], first: usize, packet: Option<&Facts<'_>>) -> bool
     next == PASSED
 }
 
-/// Returns the index of the test to which one of flags leads a packet without an error.
-#[inline(always)]
-fn index_by_flags(test: &Test, packet: &Packet<'_>, flags: Flags) -> usize
-    requires kind { test.now.kind ≡ 1 }
-    requires flags { AreKnown (dissected packet.now.bytes.now) flags }
-    requires none { has_error (dissected packet.now.bytes.now).end ≡ false }
-    ensures { result ≡ (if meets test.now (dissected packet.now.bytes.now) then test.now.if_met
-        else test.now.if_not) }
-{
-    if flags.has_one_of(test.number) {
-        usize::from(test.if_met)
-    } else {
-        usize::from(test.if_not)
-    }
-}
-
 /// Returns the index of the test to which this one leads the packet.
 #[inline(always)]
 fn index_after(test: &Test, packet: Option<&Facts<'_>>) -> usize
     ensures { result ≡ (if frame_meets (frame_of packet.entry) test.now then test.now.if_met
         else test.now.if_not) }
 {
-    if meets(test, packet) {
-        usize::from(test.if_met)
-    } else {
-        usize::from(test.if_not)
-    }
+    test.next_index(meets(test, packet))
 }
 
 /// Returns whether the packet meets the test.

@@ -1,6 +1,6 @@
 use Rattle.std.proofs.Common.{◌≡◌, ◌++◌, take, drop}
 use Rattle.ip_batches.specs.Batch.{packets_at, matches_of}
-use Rattle.ip_batches.proofs.batch.Batch.filter.Given as goal
+use Rattle.ip_batches.proofs.batch.Batch.filter_each.Given as goal
 
 -- the results before the index are stored
 abbrev pub invariant-packets : goal.invariant-packets

@@ -2,7 +2,7 @@ use Rattle.std.proofs.Common.{length, ◌-◌}
 use Rattle.ip_dissect.specs.Dissection.{dissected}
 use Rattle.ip_filter.specs.Tests.{meets}
 use Rattle.ip_filter.specs.Reached.{IsLedTo}
-use Rattle.ip_filter.proofs.run.run_flags.Given as goal
+use Rattle.ip_filter.proofs.run.run_early.Given as goal
 
 abbrev pub invariant-tests : goal.invariant-tests
 invariant-tests l = IsLedTo l.tests (λ x. meets x (dissected l.packet.bytes.now)) l.next

@@ -1,0 +1,24 @@
+-- Blocks of packets, of which all take each test before any takes the next one.
+use Rattle.std.specs.Prelude.{◌≡◌, ℕ, ◌<◌, ◌==◌, ◌||◌, true, List, length, drop, Bool, if◌then◌else◌, slice_index_or}
+use Rattle.ip_dissect.specs.Dissection.{dissected}
+use Rattle.ip_filter.specs.Tests.{meets}
+use Rattle.ip_filter.specs.Program.{led_to}
+use Rattle.ip_filter.specs.declared.filter.Test.{Test}
+use Rattle.ip_filter.specs.declared.brief.Brief.{Brief}
+
+-- a brief test: of flags, of the protocol number or of the payload's length
+abbrev pub IsBrief : Test → Type 0
+IsBrief x = ((x.kind == 1) || (x.kind == 2) || (x.kind == 5)) ≡ true
+
+-- the tests that the packet of a brief meets
+abbrev pub met_by : Brief → Test → Bool
+met_by x t = meets t (dissected x.bytes.now)
+
+-- where the test x with the index i leads a packet whose next test is the one with the index n
+abbrev pub after_test : Test → ℕ → Brief → ℕ → ℕ
+after_test x i b n = if i == n then (if met_by b x then x.if_met else x.if_not) else n
+
+-- The tests before index i have led each packet to the index at its place.
+abbrev pub AreLed : List Test → ℕ → List Brief → List ℕ → Type 0
+AreLed xs i briefs next = (j : ℕ) (d : Brief) → j < length briefs → led_to (met_by (slice_index_or briefs j d)) i (slice_index_or next j 0) (drop i xs)
+    ≡ led_to (met_by (slice_index_or briefs j d)) 0 0 xs

@@ -1,0 +1,143 @@
+//! What the most frequent tests ask of a packet, in a few numbers.
+ghost use Rattle.std.specs.Prelude.{◌≡◌, ◌==◌, ◌&&◌, ◌||◌, ℕ, length};
+ghost use Rattle.ip_dissect.specs.Dissection.{dissected};
+ghost use Rattle.ip_filter.specs.Flags.{AreFlags, AreKnown};
+ghost use Rattle.ip_filter.specs.Tests.{compared, meets};
+ghost use Rattle.ip_filter.specs.Truth.{has_base};
+ghost use Rattle.ip_filter.specs.declared.term.Quantity.TheVariants.{Payload};
+
+use crate::Test;
+use crate::flags::Flags;
+use crate::meets::{comparison_of, kind};
+use ip_base::IpNumber;
+use ip_dissect::{Packet, PacketStart, PacketVisitor};
+
+/// What brief tests ask of a packet. Where many packets are tested, each brief test is run on all of them before the next
+/// one: that needs no branch on what a packet is, which no processor could predict.
+#[derive(Clone, Copy, Debug)]
+pub struct Brief<'a> {
+    /// The bytes that start with the packet.
+    pub bytes: &'a [u8],
+    flags: Flags,
+    payload_len: usize,
+    number: IpNumber,
+    is_packet: bool,
+    ghost flags_are: { (m : ℕ) → AreFlags m (dissected bytes.now) flags },
+    ghost payload_is: { payload_len ≡ length (dissected bytes.now).payload },
+    ghost number_is: { number.0 ≡ (dissected bytes.now).number },
+    ghost base_is: { is_packet ≡ has_base (dissected bytes.now) },
+}
+
+impl<'a> Brief<'a> {
+    /// Returns what brief tests ask of the packet at the start of `bytes`, which may be any bytes.
+    pub fn of(bytes: &'a [u8]) -> Brief<'a>
+        ensures { result.bytes.now ≡ bytes.now }
+    {
+        let mut flags = Flags::none();
+        let packet = Packet::walk(bytes, &mut flags);
+        Brief::of_packet(&packet, flags.of(&packet))
+    }
+
+    /// Sets the brief to that of the packet at the start of `bytes`, in its place: a brief that is returned would be moved.
+    #[inline(always)]
+    pub fn set(&mut self, bytes: &'a [u8])
+        ensures { self.new.bytes.now ≡ bytes.now }
+    {
+        let _ = Packet::visit(bytes, &mut Briefing { brief: self });
+    }
+
+    /// Returns what brief tests ask of a packet that has these flags.
+    #[inline(always)]
+    fn of_packet(packet: &Packet<'a>, flags: Flags) -> Brief<'a>
+        requires { AreKnown (dissected packet.now.bytes.now) flags }
+        ensures { result.bytes.now ≡ packet.now.bytes.now }
+    {
+        Brief {
+            bytes: packet.bytes,
+            flags: with_error(packet, flags),
+            payload_len: packet.outline.payload_len,
+            number: packet.outline.next_header,
+            is_packet: packet.outline.version != 0,
+        }
+    }
+}
+
+/// Returns the flags of a packet, and those of its error, if there is one.
+#[inline(always)]
+fn with_error(packet: &Packet<'_>, flags: Flags) -> Flags
+    requires { AreKnown (dissected packet.now.bytes.now) flags }
+    ensures { (m : ℕ) → AreFlags m (dissected packet.now.bytes.now) result }
+{
+    if packet.outline.has_error {
+        return flags.with_end(&packet.end());
+    }
+    flags
+}
+
+/// A visitor that sets a brief.
+#[derive(Debug, Drop)]
+struct Briefing<'b, 'a> {
+    brief: &'b mut Brief<'a>,
+}
+
+impl<'a> PacketVisitor<'a> for Briefing<'_, 'a> {
+    type Plain = ();
+
+    type Slow = ();
+
+    ghost plain = { λ old s new _. (new.brief.ghost_name ≡ old.brief.ghost_name)
+        × (new.brief.now.bytes.now ≡ s) };
+
+    ghost slow = { λ old s new _. (new.brief.ghost_name ≡ old.brief.ghost_name)
+        × (new.brief.now.bytes.now ≡ s) };
+
+    #[inline(always)]
+    fn visit_plain(&mut self, packet: Packet<'a>) {
+        *self.brief = Brief::of_packet(&packet, Flags::none().of(&packet));
+    }
+
+    #[inline(always)]
+    fn visit_slow(&mut self, start: PacketStart<'a>) {
+        let mut flags = Flags::none();
+        let packet = start.walk(&mut flags);
+        *self.brief = Brief::of_packet(&packet, flags.of(&packet));
+    }
+}
+
+impl Test {
+    /// Returns whether the test is a brief one: of flags, of the protocol number that follows the headers, or of the payload
+    /// bytes that are here.
+    #[inline(always)]
+    pub fn is_brief(&self) -> bool
+        ensures { result ≡ ((self.now.kind == 1) || (self.now.kind == 2) || (self.now.kind == 5)) }
+    {
+        matches!(self.kind, kind::FLAGS | kind::LEADS_TO | kind::PAYLOAD)
+    }
+
+    /// Returns whether the test is a brief one and the packet of the brief meets it.
+    #[inline(always)]
+    pub fn is_met_by(&self, brief: &Brief<'_>) -> bool
+        ensures { result ≡ (((self.now.kind == 1) || (self.now.kind == 2) || (self.now.kind == 5))
+            && meets self.now (dissected brief.now.bytes.now)) }
+    {
+        match self.kind {
+            kind::FLAGS => brief.flags.has_one_of(self.number),
+            kind::LEADS_TO => brief.is_packet & (u64::from(brief.number.0) == self.number),
+            kind::PAYLOAD => self.compares_payload(brief),
+            _ => false,
+        }
+    }
+
+    /// Returns whether the packet of the brief has a base header, and its payload's length compares as the test asks.
+    #[inline(always)]
+    fn compares_payload(&self, brief: &Brief<'_>) -> bool
+        ensures { result ≡ compared self.now Payload (dissected brief.now.bytes.now) }
+    {
+        match comparison_of(self.comparison) {
+            Some(comparison) => {
+                brief.is_packet & comparison.holds(brief.payload_len as u64, self.number)
+            }
+            None => false,
+        }
+    }
+}

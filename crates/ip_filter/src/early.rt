@@ -1,0 +1,148 @@
+//! Early tests: those of flags, of the protocol number that follows the headers, and of addresses. They need no part of a
+//! packet but its base header, the number and the flags.
+ghost use Rattle.std.specs.Prelude.{◌≡◌, ◌==◌, ◌&&◌, ◌||◌, true, false, if◌then◌else◌, IfSome};
+ghost use Rattle.std.specs.Option.{option_map_or};
+ghost use Rattle.ip_dissect.specs.Dissection.{dissected};
+ghost use Rattle.ip_dissect.specs.End.{has_error};
+ghost use Rattle.ip_filter.specs.Flags.{AreKnown};
+ghost use Rattle.ip_filter.specs.Tests.{meets, network_in};
+ghost use Rattle.ip_filter.specs.Truth.{has_base, has_source, has_destination};
+
+use crate::flags::Flags;
+use crate::meets::kind;
+use crate::{Network, Test};
+use ip_dissect::{BaseHeader, Packet};
+
+impl Test {
+    /// Returns whether the test is an early one.
+    #[inline(always)]
+    pub(crate) fn is_early(&self) -> bool {
+        matches!(
+            self.kind,
+            kind::FLAGS | kind::LEADS_TO | kind::SOURCE | kind::DESTINATION | kind::EITHER,
+        )
+    }
+
+    /// Returns whether the test is one of flags or of the protocol number.
+    #[inline(always)]
+    pub(crate) fn is_of_numbers(&self) -> bool
+        ensures { result ≡ ((self.now.kind == 1) || (self.now.kind == 2)) }
+    {
+        matches!(self.kind, kind::FLAGS | kind::LEADS_TO)
+    }
+
+    /// Returns whether a packet without an error meets the test, which is one of flags or of the protocol number.
+    #[inline(always)]
+    pub(crate) fn is_met_by_numbers(&self, packet: &Packet<'_>, flags: Flags) -> bool
+        requires kind { ((self.now.kind == 1) || (self.now.kind == 2)) ≡ true }
+        requires flags { AreKnown (dissected packet.now.bytes.now) flags }
+        requires none { has_error (dissected packet.now.bytes.now).end ≡ false }
+        ensures { result ≡ meets self.now (dissected packet.now.bytes.now) }
+    {
+        match self.kind {
+            kind::FLAGS => flags.has_one_of(self.number),
+            _ => self.leads_to(packet),
+        }
+    }
+
+    /// Returns the index to which the test leads a packet without an error, if it is an early one.
+    #[inline(always)]
+    pub(crate) fn index_early(&self, packet: &Packet<'_>, flags: Flags) -> Option<usize>
+        requires flags { AreKnown (dissected packet.now.bytes.now) flags }
+        requires none { has_error (dissected packet.now.bytes.now).end ≡ false }
+        ensures { IfSome result (λ i. i ≡ (if meets self.now (dissected packet.now.bytes.now)
+            then self.now.if_met else self.now.if_not)) }
+    {
+        match self.kind {
+            kind::FLAGS => Some(self.next_index(flags.has_one_of(self.number))),
+            kind::LEADS_TO => Some(self.next_index(self.leads_to(packet))),
+            kind::SOURCE => Some(self.next_index(self.has_source(packet))),
+            kind::DESTINATION => Some(self.next_index(self.has_destination(packet))),
+            kind::EITHER => Some(self.next_index(self.has_either(packet))),
+            _ => None,
+        }
+    }
+
+    /// Returns the index to which the test leads a packet that meets it or doesn't.
+    #[inline(always)]
+    pub(crate) fn next_index(&self, is_met: bool) -> usize
+        ensures { result ≡ (if is_met then self.now.if_met else self.now.if_not) }
+    {
+        if is_met {
+            usize::from(self.if_met)
+        } else {
+            usize::from(self.if_not)
+        }
+    }
+
+    /// Returns whether the headers of the packet lead to the protocol number of the test.
+    #[inline(always)]
+    pub(crate) fn leads_to(&self, packet: &Packet<'_>) -> bool
+        ensures { result ≡ (has_base (dissected packet.now.bytes.now)
+            && ((dissected packet.now.bytes.now).number == self.now.number)) }
+    {
+        let outline = &packet.outline;
+        outline.version != 0 && u64::from(outline.next_header.0) == self.number
+    }
+
+    /// Returns whether either address of the packet lies in the network of the test.
+    #[inline(always)]
+    pub(crate) fn has_either(&self, packet: &Packet<'_>) -> bool
+        ensures { result ≡ option_map_or (λ n. has_source n (dissected packet.now.bytes.now)
+            || has_destination n (dissected packet.now.bytes.now)) (network_in self.now) false }
+    {
+        self.has_source(packet) || self.has_destination(packet)
+    }
+
+    /// Returns whether the source address of the packet lies in the network of the test.
+    #[inline(always)]
+    pub(crate) fn has_source(&self, packet: &Packet<'_>) -> bool
+        ensures { result ≡ option_map_or (λ n. has_source n (dissected packet.now.bytes.now))
+            (network_in self.now) false }
+    {
+        match self.network() {
+            Some(network) => has_source(packet, network),
+            None => false,
+        }
+    }
+
+    /// Returns whether the destination address of the packet lies in the network of the test.
+    #[inline(always)]
+    pub(crate) fn has_destination(&self, packet: &Packet<'_>) -> bool
+        ensures { result ≡ option_map_or (λ n. has_destination n (dissected packet.now.bytes.now))
+            (network_in self.now) false }
+    {
+        match self.network() {
+            Some(network) => has_destination(packet, network),
+            None => false,
+        }
+    }
+}
+
+/// Returns whether the source address of the packet lies in the network.
+#[inline(always)]
+fn has_source(packet: &Packet<'_>, network: Network) -> bool
+    ensures { result ≡ has_source network (dissected packet.now.bytes.now) }
+{
+    match &packet.base {
+        Some(BaseHeader::Ipv4(header)) => network.has_ipv4(u32::from_be_bytes(header.source())),
+        Some(BaseHeader::Ipv6(header)) => network.has_ipv6(u128::from_be_bytes(header.source())),
+        None => false,
+    }
+}
+
+/// Returns whether the destination address of the packet lies in the network.
+#[inline(always)]
+fn has_destination(packet: &Packet<'_>, network: Network) -> bool
+    ensures { result ≡ has_destination network (dissected packet.now.bytes.now) }
+{
+    match &packet.base {
+        Some(BaseHeader::Ipv4(header)) => {
+            network.has_ipv4(u32::from_be_bytes(header.destination()))
+        }
+        Some(BaseHeader::Ipv6(header)) => {
+            network.has_ipv6(u128::from_be_bytes(header.destination()))
+        }
+        None => false,
+    }
+}

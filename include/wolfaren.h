@@ -17,7 +17,8 @@
  *  - For what is in an extension header: wolfaren_next_option, wolfaren_routing_fields and wolfaren_routing_address,
  *    wolfaren_fragment_fields, wolfaren_authentication_fields.
  *  - For fragments, which make packets whole: wolfaren_defragment and wolfaren_write_whole_packet.
- *  - For packets without some of their extension headers: wolfaren_without_number and wolfaren_without_index.
+ *  - For packets with other extension headers or another payload: wolfaren_without_number, wolfaren_without_index,
+ *    wolfaren_with_header, wolfaren_with_payload and wolfaren_cleared.
  *  - For new chains, or headers in another order: wolfaren_link_headers and wolfaren_write_headers.
  *
  * The header needs C99 or C++11, or a later standard.
@@ -719,17 +720,19 @@ WOLFAREN_USE_RESULT
 bool wolfaren_write_whole_packet(const struct wolfaren_packet_memory *memory, uint8_t *out, size_t room, size_t *written)
     WOLFAREN_NONNULL(1, 4);
 
-/* Why a packet wasn't rewritten: values of `refusal` in struct wolfaren_rewritten. The first that applies is stored. */
+/* Why a packet wasn't rewritten: values of `refusal` in struct wolfaren_rewritten. The first in this list that applies is stored. */
 enum wolfaren_refusal {
     WOLFAREN_NOT_REFUSED = 0,
     WOLFAREN_REFUSED_HEADERS = 1,         /* no IP header, or its headers are truncated or faulty: wolfaren_dissect says why */
     WOLFAREN_REFUSED_MISSING = 2,         /* fewer bytes are here than it states */
     WOLFAREN_REFUSED_LATER_FRAGMENT = 3,  /* it is a middle or last fragment */
+    WOLFAREN_REFUSED_NOT_A_HEADER = 11,   /* the bytes aren't one header of the number, or in IPv4 no authentication header */
     WOLFAREN_REFUSED_NO_HEADER = 4,       /* it has no such header */
     WOLFAREN_REFUSED_FRAGMENT_HEADER = 5, /* the header is the fragment header of a fragment that isn't atomic */
-    WOLFAREN_REFUSED_FRAGMENTED = 6,      /* the header is in the part of the packet that is fragmented */
+    WOLFAREN_REFUSED_MISPLACED = 12,      /* the header can't be at this index */
+    WOLFAREN_REFUSED_FRAGMENTED = 6,      /* the change is in the part of the packet that is fragmented */
     WOLFAREN_REFUSED_AUTHENTICATED = 7,   /* an authentication header covers the change (RFC 4302, section 3.3.3) */
-    WOLFAREN_REFUSED_HEADER_FOLLOWS = 8,  /* an IPv4 packet's payload would be read as another authentication header */
+    WOLFAREN_REFUSED_HEADER_FOLLOWS = 8,  /* the payload would be read as an extension header, in IPv4 an authentication header */
     WOLFAREN_REFUSED_TOO_LONG = 9,        /* its length field can't state the length */
     WOLFAREN_REFUSED_NO_ROOM = 10         /* `room` is less than the length */
 };
@@ -761,6 +764,38 @@ bool wolfaren_without_number(const uint8_t *bytes, size_t len, uint8_t number, b
 WOLFAREN_USE_RESULT
 bool wolfaren_without_index(const uint8_t *bytes, size_t len, size_t index, bool may_be_invalid, uint8_t *out, size_t room,
                             struct wolfaren_rewritten *rewritten) WOLFAREN_NONNULL(7);
+
+/*
+ * Writes a packet as wolfaren_without_number does, with one more extension header: the `header_len` bytes, which have this
+ * number, before the header with this index in the chain, or after all of them if there are as many. The first byte of
+ * the new header, its next header field, is replaced. If `room` is the sum of `len` and `header_len`, it is enough.
+ *
+ * `keeps_checksums` is 0 if the header is a routing header with segments left. A fragment header is refused unless it is
+ * atomic. Hop-by-hop options must come first (RFC 8200, section 4.1), and an IPv4 packet has one extension header at most.
+ */
+WOLFAREN_USE_RESULT
+bool wolfaren_with_header(const uint8_t *bytes, size_t len, uint8_t number, const uint8_t *header, size_t header_len,
+                          size_t index, bool may_be_invalid, uint8_t *out, size_t room, struct wolfaren_rewritten *rewritten)
+    WOLFAREN_NONNULL(10);
+
+/*
+ * Writes a packet as wolfaren_without_number does, with all of its extension headers and another payload, the `payload_len`
+ * bytes with this number. A fragment that isn't atomic is refused. `keeps_checksums` is 0: a checksum in the payload is the
+ * caller's. If `room` is the sum of `len` and `payload_len`, it is enough.
+ */
+WOLFAREN_USE_RESULT
+bool wolfaren_with_payload(const uint8_t *bytes, size_t len, uint8_t number, const uint8_t *payload, size_t payload_len,
+                           bool may_be_invalid, uint8_t *out, size_t room, struct wolfaren_rewritten *rewritten)
+    WOLFAREN_NONNULL(9);
+
+/*
+ * Writes a packet as wolfaren_without_number does, with the reserved bits of its fragment and authentication headers set to
+ * zero (RFC 8200, section 4.5; RFC 4302, section 2.3). A packet with an authentication header is refused only if one of these
+ * bits is 1, and a fragment only if one is 1 in the part that is fragmented. If `room` is `len`, it is enough.
+ */
+WOLFAREN_USE_RESULT
+bool wolfaren_cleared(const uint8_t *bytes, size_t len, bool may_be_invalid, uint8_t *out, size_t room,
+                      struct wolfaren_rewritten *rewritten) WOLFAREN_NONNULL(6);
 
 /* A buffer size, in bytes, that is large enough for any text of wolfaren_fault_text and its terminating null byte. */
 #define WOLFAREN_TEXT_ROOM 256

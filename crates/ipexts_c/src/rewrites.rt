@@ -1,14 +1,23 @@
 //! Packets with other extension headers.
-ghost use Rattle.std.specs.Prelude.{◌≡◌, ◌++◌, length, drop, take, false, IsTrue, Some, None};
+ghost use Rattle.std.specs.Prelude.{◌≡◌, ◌++◌, length, drop, take, not, true, false, IsTrue, IsOkAnd, Some, None};
+ghost use Rattle.std.specs.Result.{result_err};
+ghost use Rattle.ip_spec.specs.Chain.{ExtHeader};
+ghost use Rattle.ip_spec.specs.Encoding.{cleared_chain};
 ghost use Rattle.ip_dissect.specs.Dissection.{dissected};
-ghost use Rattle.ip_rewrite.specs.Without.{without, parts_without, without_fault};
+ghost use Rattle.ip_rewrite.specs.Rewritten.{rewritten as packet_with, rewritten_len, rewritten_parts};
+ghost use Rattle.ip_rewrite.specs.Without.{without, parts_without, without_fault, has_segments};
+ghost use Rattle.ip_rewrite.specs.Clearing.{clearing_fault};
+ghost use Rattle.ip_rewrite.specs.Payload.{payload_fault};
+ghost use Rattle.ip_rewrite.specs.Insertion.{inserted, insertion_fault};
 ghost use Rattle.ip_rewrite.specs.declared.err.RewriteError.{RewriteError as Refusal};
 ghost use Rattle.ip_rewrite.specs.declared.which.Which.TheVariants.{Index};
 ghost use Rattle.ipexts_c.specs.Rewrites.{with_number, authentication, refusal_code, rewritten_fields, fields_without, refused_fields};
 
 use crate::bytes::Bytes;
 use ip_base::IpNumber;
-use ip_rewrite::{Authentication, RewriteError, Rewritten, Which, without};
+use ip_rewrite::{
+    Authentication, RewriteError, Rewritten, Which, cleared, with_header, with_payload, without,
+};
 
 /// A packet that was written, or why none was, as numbers.
 #[repr(C)]
@@ -80,27 +89,15 @@ fn authentication(may_be_invalid: bool) -> Authentication
     }
 }
 
-/// Calls `without`. Returns whether the packet was written, and stores its length or why it wasn't written in `rewritten`.
-fn write_without(
-    bytes: &[u8],
-    which: Which,
-    may_be_invalid: bool,
-    out: &mut [u8],
-    rewritten: &mut RewrittenFields,
-) -> bool
-    ensures accepted { IsTrue result
-        → without_fault which (authentication may_be_invalid) (dissected bytes.now) (length out.old) ≡ None }
-    ensures fields { IsTrue result → rewritten.new ≡ fields_without which (dissected bytes.now) }
+/// Stores the length of a packet that was written, or why none was. Returns whether one was.
+#[inline(always)]
+fn stored(outcome: Result<Rewritten, RewriteError>, rewritten: &mut RewrittenFields) -> bool
     ensures written { IsTrue result
-        → out.new ≡ without which (dissected bytes.now) ++ drop rewritten.new.len out.old }
-    ensures dissects { IsTrue result
-        → dissected (take rewritten.new.len out.new) ≡ parts_without which (dissected bytes.now) }
-    ensures refused { result ≡ false → (e : Refusal) × (rewritten.new ≡ refused_fields e)
-        × (without_fault which (authentication may_be_invalid) (dissected bytes.now) (length out.old)
-        ≡ Some e) }
-    ensures same { result ≡ false → out.new ≡ out.old }
+        → IsOkAnd outcome (λ r. rewritten.new ≡ rewritten_fields r.len r.keeps_checksums) }
+    ensures refused { result ≡ false
+        → (e : Refusal) × (rewritten.new ≡ refused_fields e) × (result_err outcome ≡ Some e) }
 {
-    match without(bytes, which, authentication(may_be_invalid), out) {
+    match outcome {
         Ok(written) => {
             *rewritten = RewrittenFields::of(written);
             true
@@ -136,7 +133,8 @@ pub extern "C" fn wolfaren_without_number(
     ensures same { result ≡ false → out.new ≡ out.old }
 {
     let which = Which::Number(IpNumber(number));
-    write_without(bytes.slice(), which, may_be_invalid, out, rewritten)
+    let outcome = without(bytes.slice(), which, authentication(may_be_invalid), out);
+    stored(outcome, rewritten)
 }
 
 /// Calls `without` for the header with an index, as `wolfaren_without_number` does for those with a number.
@@ -161,11 +159,103 @@ pub extern "C" fn wolfaren_without_index(
         (dissected bytes.entry.slice.now) (length out.old) ≡ Some e) }
     ensures same { result ≡ false → out.new ≡ out.old }
 {
-    write_without(
-        bytes.slice(),
-        Which::Index(index),
-        may_be_invalid,
-        out,
-        rewritten,
-    )
+    let which = Which::Index(index);
+    let outcome = without(bytes.slice(), which, authentication(may_be_invalid), out);
+    stored(outcome, rewritten)
+}
+
+/// Calls `with_header`, as `wolfaren_without_number` calls `without`.
+#[unsafe(no_mangle)]
+pub extern "C" fn wolfaren_with_header(
+    bytes: Bytes<'_>,
+    number: u8,
+    header: Bytes<'_>,
+    index: usize,
+    may_be_invalid: bool,
+    out: &mut [u8],
+    rewritten: &mut RewrittenFields,
+) -> bool
+    ensures accepted { IsTrue result
+        → let h : ExtHeader = record { number = number; bytes = header.entry.slice.now } in
+        insertion_fault (authentication may_be_invalid) index h
+        (dissected bytes.entry.slice.now) (length out.old) ≡ None }
+    ensures fields { IsTrue result
+        → let h : ExtHeader = record { number = number; bytes = header.entry.slice.now } in
+        let p = dissected bytes.entry.slice.now in rewritten.new
+        ≡ rewritten_fields (rewritten_len p (inserted index h p.headers) p.payload) (not (has_segments h)) }
+    ensures written { IsTrue result
+        → let h : ExtHeader = record { number = number; bytes = header.entry.slice.now } in
+        let p = dissected bytes.entry.slice.now in out.new
+        ≡ packet_with p (inserted index h p.headers) p.number p.payload ++ drop rewritten.new.len out.old }
+    ensures dissects { IsTrue result
+        → let h : ExtHeader = record { number = number; bytes = header.entry.slice.now } in
+        let p = dissected bytes.entry.slice.now in dissected (take rewritten.new.len out.new)
+        ≡ rewritten_parts p (inserted index h p.headers) p.number p.payload }
+    ensures refused { result ≡ false → (e : Refusal) × (rewritten.new ≡ refused_fields e)
+        × (let h : ExtHeader = record { number = number; bytes = header.entry.slice.now } in
+        insertion_fault (authentication may_be_invalid) index h
+        (dissected bytes.entry.slice.now) (length out.old) ≡ Some e) }
+    ensures same { result ≡ false → out.new ≡ out.old }
+{
+    let authentication = authentication(may_be_invalid);
+    let (number, header) = (IpNumber(number), header.slice());
+    let outcome = with_header(bytes.slice(), number, header, index, authentication, out);
+    stored(outcome, rewritten)
+}
+
+/// Calls `with_payload`, as `wolfaren_without_number` calls `without`.
+#[unsafe(no_mangle)]
+pub extern "C" fn wolfaren_with_payload(
+    bytes: Bytes<'_>,
+    number: u8,
+    payload: Bytes<'_>,
+    may_be_invalid: bool,
+    out: &mut [u8],
+    rewritten: &mut RewrittenFields,
+) -> bool
+    ensures accepted { IsTrue result
+        → payload_fault (authentication may_be_invalid) number payload.entry.slice.now
+        (dissected bytes.entry.slice.now) (length out.old) ≡ None }
+    ensures fields { IsTrue result → let p = dissected bytes.entry.slice.now in rewritten.new
+        ≡ rewritten_fields (rewritten_len p p.headers payload.entry.slice.now) false }
+    ensures written { IsTrue result → let p = dissected bytes.entry.slice.now in out.new
+        ≡ packet_with p p.headers number payload.entry.slice.now ++ drop rewritten.new.len out.old }
+    ensures dissects { IsTrue result → let p = dissected bytes.entry.slice.now in
+        dissected (take rewritten.new.len out.new)
+        ≡ rewritten_parts p p.headers number payload.entry.slice.now }
+    ensures refused { result ≡ false → (e : Refusal) × (rewritten.new ≡ refused_fields e)
+        × (payload_fault (authentication may_be_invalid) number payload.entry.slice.now
+        (dissected bytes.entry.slice.now) (length out.old) ≡ Some e) }
+    ensures same { result ≡ false → out.new ≡ out.old }
+{
+    let authentication = authentication(may_be_invalid);
+    let (number, payload) = (IpNumber(number), payload.slice());
+    let outcome = with_payload(bytes.slice(), number, payload, authentication, out);
+    stored(outcome, rewritten)
+}
+
+/// Calls `cleared`, as `wolfaren_without_number` calls `without`.
+#[unsafe(no_mangle)]
+pub extern "C" fn wolfaren_cleared(
+    bytes: Bytes<'_>,
+    may_be_invalid: bool,
+    out: &mut [u8],
+    rewritten: &mut RewrittenFields,
+) -> bool
+    ensures accepted { IsTrue result → clearing_fault (authentication may_be_invalid)
+        (dissected bytes.entry.slice.now) (length out.old) ≡ None }
+    ensures fields { IsTrue result → let p = dissected bytes.entry.slice.now in rewritten.new
+        ≡ rewritten_fields (rewritten_len p (cleared_chain p.headers) p.payload) true }
+    ensures written { IsTrue result → let p = dissected bytes.entry.slice.now in out.new
+        ≡ packet_with p (cleared_chain p.headers) p.number p.payload ++ drop rewritten.new.len out.old }
+    ensures dissects { IsTrue result → let p = dissected bytes.entry.slice.now in
+        dissected (take rewritten.new.len out.new)
+        ≡ rewritten_parts p (cleared_chain p.headers) p.number p.payload }
+    ensures refused { result ≡ false → (e : Refusal) × (rewritten.new ≡ refused_fields e)
+        × (clearing_fault (authentication may_be_invalid)
+        (dissected bytes.entry.slice.now) (length out.old) ≡ Some e) }
+    ensures same { result ≡ false → out.new ≡ out.old }
+{
+    let outcome = cleared(bytes.slice(), authentication(may_be_invalid), out);
+    stored(outcome, rewritten)
 }

@@ -85,8 +85,9 @@
 //!
 //! Only here: `Dissection`, `BaseHeader`, `Fragment`, `FragmentKind`, `End`, `Filter`, `Statistics`, `FaultKind`,
 //! `HeaderOptions`, `HeaderOption`, `UnknownOption`, `RoutingAddresses`, `RoutingAddress`, `PacketSpan`, `Defragmenter`,
-//! `Added`, `Outcome`, `DropReason`, `Loss`, `without`, `Which`, `Authentication`, `Rewritten`, `Ipv6ExtensionsBuilder`,
-//! `err::BuildError`, `err::FilterError`, `err::Expected`, `err::SpanError`, `err::RewriteError`.
+//! `Added`, `Outcome`, `DropReason`, `Loss`, `without`, `with_header`, `with_payload`, `cleared`, `Which`,
+//! `Authentication`, `Rewritten`, `Ipv6ExtensionsBuilder`, `err::BuildError`, `err::FilterError`, `err::Expected`,
+//! `err::SpanError`, `err::RewriteError`.
 //!
 //! The table has all names of etherparse's layer of extension headers. Of the layer below, that is IP headers, protocol
 //! numbers, `IpFragOffset`, `LenSource` and `Layer`, etherparse has more names than the table lists. The constants of
@@ -172,6 +173,6 @@ pub use ipv6_raw_ext_header_slice::{Ipv6RawExtHeaderSlice, Ipv6RawExtensionHeade
 pub use ipv6_slice::Ipv6Slice;
 pub use len_source::LenSource;
 pub use packet_span::PacketSpan;
-pub use rewrite::{without, Authentication, Rewritten, Which};
+pub use rewrite::{cleared, with_header, with_payload, without, Authentication, Rewritten, Which};
 pub use routing_addresses::{RoutingAddress, RoutingAddresses};
 pub use statistics::{FaultKind, Statistics};

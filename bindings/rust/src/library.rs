@@ -372,6 +372,40 @@ unsafe extern "C" {
         rewritten: *mut Rewritten,
     ) -> bool;
 
+    fn wolfaren_with_header(
+        bytes: *const u8,
+        len: usize,
+        number: u8,
+        header: *const u8,
+        header_len: usize,
+        index: usize,
+        may_be_invalid: bool,
+        out: *mut u8,
+        room: usize,
+        rewritten: *mut Rewritten,
+    ) -> bool;
+
+    fn wolfaren_with_payload(
+        bytes: *const u8,
+        len: usize,
+        number: u8,
+        payload: *const u8,
+        payload_len: usize,
+        may_be_invalid: bool,
+        out: *mut u8,
+        room: usize,
+        rewritten: *mut Rewritten,
+    ) -> bool;
+
+    fn wolfaren_cleared(
+        bytes: *const u8,
+        len: usize,
+        may_be_invalid: bool,
+        out: *mut u8,
+        room: usize,
+        rewritten: *mut Rewritten,
+    ) -> bool;
+
     fn wolfaren_init_statistics(statistics: *mut Statistics);
 
     fn wolfaren_count_packet(statistics: *mut Statistics, bytes: *const u8, len: usize);
@@ -880,6 +914,18 @@ pub(crate) fn number_name(number: u8) -> &'static str {
     core::str::from_utf8(text).unwrap_or_default()
 }
 
+/// Makes a call that writes a packet to the start of `out`, and returns what it stores of that.
+#[inline(always)]
+fn rewritten(
+    out: &mut [u8],
+    call: impl FnOnce(*mut u8, usize, *mut Rewritten) -> bool,
+) -> Rewritten {
+    let mut rewritten = Rewritten::default();
+    let is_written = call(out.as_mut_ptr(), out.len(), &raw mut rewritten);
+    debug_assert_eq!(is_written, rewritten.refusal == 0);
+    rewritten
+}
+
 /// Writes the packet at the start of the bytes without its extension headers of a number, to the start of `out`.
 pub(crate) fn without_number(
     bytes: &[u8],
@@ -887,21 +933,11 @@ pub(crate) fn without_number(
     may_be_invalid: bool,
     out: &mut [u8],
 ) -> Rewritten {
-    let mut rewritten = Rewritten::default();
+    let (start, len) = (bytes.as_ptr(), bytes.len());
     // SAFETY: the bytes are a slice, which the call only reads. `out` is borrowed exclusively, so it doesn't overlap them.
-    let is_written = unsafe {
-        wolfaren_without_number(
-            bytes.as_ptr(),
-            bytes.len(),
-            number,
-            may_be_invalid,
-            out.as_mut_ptr(),
-            out.len(),
-            &raw mut rewritten,
-        )
-    };
-    debug_assert_eq!(is_written, rewritten.refusal == 0);
-    rewritten
+    rewritten(out, |out, room, rewritten| unsafe {
+        wolfaren_without_number(start, len, number, may_be_invalid, out, room, rewritten)
+    })
 }
 
 /// Writes the packet at the start of the bytes without the extension header with this index, to the start of `out`.
@@ -911,21 +947,76 @@ pub(crate) fn without_index(
     may_be_invalid: bool,
     out: &mut [u8],
 ) -> Rewritten {
-    let mut rewritten = Rewritten::default();
+    let (start, len) = (bytes.as_ptr(), bytes.len());
     // SAFETY: the bytes are a slice, which the call only reads. `out` is borrowed exclusively, so it doesn't overlap them.
-    let is_written = unsafe {
-        wolfaren_without_index(
-            bytes.as_ptr(),
-            bytes.len(),
+    rewritten(out, |out, room, rewritten| unsafe {
+        wolfaren_without_index(start, len, index, may_be_invalid, out, room, rewritten)
+    })
+}
+
+/// Writes the packet at the start of the bytes with one more extension header, to the start of `out`.
+pub(crate) fn with_header(
+    bytes: &[u8],
+    number: u8,
+    header: &[u8],
+    index: usize,
+    may_be_invalid: bool,
+    out: &mut [u8],
+) -> Rewritten {
+    let (start, len) = (bytes.as_ptr(), bytes.len());
+    let (header, header_len) = (header.as_ptr(), header.len());
+    // SAFETY: the bytes and the header are slices, which the call only reads. `out` is borrowed exclusively, so it
+    // doesn't overlap them.
+    rewritten(out, |out, room, rewritten| unsafe {
+        wolfaren_with_header(
+            start,
+            len,
+            number,
+            header,
+            header_len,
             index,
             may_be_invalid,
-            out.as_mut_ptr(),
-            out.len(),
-            &raw mut rewritten,
+            out,
+            room,
+            rewritten,
         )
-    };
-    debug_assert_eq!(is_written, rewritten.refusal == 0);
-    rewritten
+    })
+}
+
+/// Writes the packet at the start of the bytes with another payload, to the start of `out`.
+pub(crate) fn with_payload(
+    bytes: &[u8],
+    number: u8,
+    payload: &[u8],
+    may_be_invalid: bool,
+    out: &mut [u8],
+) -> Rewritten {
+    let (start, len) = (bytes.as_ptr(), bytes.len());
+    let (payload, payload_len) = (payload.as_ptr(), payload.len());
+    // SAFETY: the bytes and the payload are slices, which the call only reads. `out` is borrowed exclusively, so it
+    // doesn't overlap them.
+    rewritten(out, |out, room, rewritten| unsafe {
+        wolfaren_with_payload(
+            start,
+            len,
+            number,
+            payload,
+            payload_len,
+            may_be_invalid,
+            out,
+            room,
+            rewritten,
+        )
+    })
+}
+
+/// Writes the packet at the start of the bytes with its reserved bits set to zero, to the start of `out`.
+pub(crate) fn cleared(bytes: &[u8], may_be_invalid: bool, out: &mut [u8]) -> Rewritten {
+    let (start, len) = (bytes.as_ptr(), bytes.len());
+    // SAFETY: the bytes are a slice, which the call only reads. `out` is borrowed exclusively, so it doesn't overlap them.
+    rewritten(out, |out, room, rewritten| unsafe {
+        wolfaren_cleared(start, len, may_be_invalid, out, room, rewritten)
+    })
 }
 
 #[cfg(all(test, not(miri)))]

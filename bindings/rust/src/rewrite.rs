@@ -24,8 +24,8 @@ pub enum Authentication {
 pub struct Rewritten {
     /// Its length in bytes.
     pub len: usize,
-    /// Whether transport checksums hold as before. They don't after a routing header with segments left was removed: the
-    /// final destination was in it (RFC 8200, section 8.1).
+    /// Whether transport checksums hold as before. They don't with another payload, or after a routing header with segments
+    /// left was removed or inserted: they cover the final destination (RFC 8200, section 8.1).
     pub keeps_checksums: bool,
 }
 
@@ -58,10 +58,84 @@ pub fn without(
     out: &mut [u8],
 ) -> Result<Rewritten, RewriteError> {
     let may_be_invalid = authentication == Authentication::Invalid;
-    let written = match which {
+    result(&match which {
         Which::Index(index) => library::without_index(packet, index, may_be_invalid, out),
         Which::Number(number) => library::without_number(packet, number.0, may_be_invalid, out),
-    };
+    })
+}
+
+/// Writes a packet with one more extension header to the start of `out`: the bytes of `header`, which have this number,
+/// before the header with this index in the chain, or after all of them if there are as many. The first byte of the new
+/// header, its next header field, is replaced. If `out` is as long as `packet` and `header` together, the room is enough.
+///
+/// All else stays, as with [`without`].
+///
+/// # Errors
+///
+/// Why the packet can't be written. `out` is then unchanged.
+pub fn with_header(
+    packet: &[u8],
+    number: IpNumber,
+    header: &[u8],
+    index: usize,
+    authentication: Authentication,
+    out: &mut [u8],
+) -> Result<Rewritten, RewriteError> {
+    let may_be_invalid = authentication == Authentication::Invalid;
+    result(&library::with_header(
+        packet,
+        number.0,
+        header,
+        index,
+        may_be_invalid,
+        out,
+    ))
+}
+
+/// Writes a packet with all of its extension headers and another payload of this number to the start of `out`. If `out` is
+/// as long as `packet` and `payload` together, the room is enough. A checksum in the payload is the caller's.
+///
+/// All else stays, as with [`without`].
+///
+/// # Errors
+///
+/// Why the packet can't be written. `out` is then unchanged.
+pub fn with_payload(
+    packet: &[u8],
+    number: IpNumber,
+    payload: &[u8],
+    authentication: Authentication,
+    out: &mut [u8],
+) -> Result<Rewritten, RewriteError> {
+    let may_be_invalid = authentication == Authentication::Invalid;
+    result(&library::with_payload(
+        packet,
+        number.0,
+        payload,
+        may_be_invalid,
+        out,
+    ))
+}
+
+/// Writes a packet to the start of `out` with the reserved bits of its fragment and authentication headers set to zero (RFC
+/// 8200, section 4.5; RFC 4302, section 2.3). If `out` is as long as `packet`, the room is enough.
+///
+/// All else stays, as with [`without`].
+///
+/// # Errors
+///
+/// Why the packet can't be written. `out` is then unchanged.
+pub fn cleared(
+    packet: &[u8],
+    authentication: Authentication,
+    out: &mut [u8],
+) -> Result<Rewritten, RewriteError> {
+    let may_be_invalid = authentication == Authentication::Invalid;
+    result(&library::cleared(packet, may_be_invalid, out))
+}
+
+/// Returns what the library stored of a packet that was written, or why none was.
+fn result(written: &library::Rewritten) -> Result<Rewritten, RewriteError> {
     match written.refusal {
         0 => Ok(Rewritten {
             len: written.len,

@@ -1,7 +1,11 @@
-//! Tests `without` with packets made here, by RFC 8200, section 4, and RFC 791, section 3.1.
+//! Tests `without`, `with_header`, `with_payload` and `cleared` with packets made here, by RFC 8200, section 4, and RFC 791,
+//! section 3.1.
 #![cfg(not(miri))]
 use wolfaren::err::RewriteError;
-use wolfaren::{ip_number, without, Authentication, IpNumber, Rewritten, Which};
+use wolfaren::{
+    cleared, ip_number, with_header, with_payload, without, Authentication, IpNumber, Rewritten,
+    Which,
+};
 
 /// An IPv6 packet of headers with these numbers, each of 8 bytes or, for authentication, 16, and 4 bytes of payload.
 fn packet(numbers: &[u8]) -> Vec<u8> {
@@ -19,15 +23,15 @@ fn packet(numbers: &[u8]) -> Vec<u8> {
     bytes
 }
 
-/// Returns what is written into room for this many bytes.
-fn written(
-    bytes: &[u8],
-    which: Which,
-    authentication: Authentication,
+type Written = Result<(Vec<u8>, bool), RewriteError>;
+
+/// Returns what a call writes into room for this many bytes.
+fn written_by(
+    call: impl FnOnce(&mut [u8]) -> Result<Rewritten, RewriteError>,
     room: usize,
-) -> Result<(Vec<u8>, bool), RewriteError> {
+) -> Written {
     let mut out = vec![0x5a; room];
-    let result = without(bytes, which, authentication, &mut out);
+    let result = call(&mut out);
     let len = result.map_or(0, |written| written.len);
     assert!(out[len..].iter().all(|byte| *byte == 0x5a));
     let Rewritten {
@@ -37,11 +41,34 @@ fn written(
     Ok((out, keeps_checksums))
 }
 
-fn by_index(bytes: &[u8], index: usize) -> Result<(Vec<u8>, bool), RewriteError> {
+fn written(bytes: &[u8], which: Which, authentication: Authentication, room: usize) -> Written {
+    written_by(|out| without(bytes, which, authentication, out), room)
+}
+
+/// Returns the packet with a header of 8 bytes, whose first is replaced, and which has segments left if it can.
+fn inserted(bytes: &[u8], number: u8, index: usize, authentication: Authentication) -> Written {
+    let header = [99, 0, 0, u8::from(number == 43), 0, 0, 0, 0];
+    let number = IpNumber(number);
+    written_by(
+        |out| with_header(bytes, number, &header, index, authentication, out),
+        100,
+    )
+}
+
+/// Returns the packet with the payload of `packet`, of any number.
+fn replaced(bytes: &[u8], number: u8, authentication: Authentication) -> Written {
+    let (number, payload) = (IpNumber(number), [0xd0, 0xd1, 0xd2, 0xd3]);
+    written_by(
+        |out| with_payload(bytes, number, &payload, authentication, out),
+        100,
+    )
+}
+
+fn by_index(bytes: &[u8], index: usize) -> Written {
     written(bytes, Which::Index(index), Authentication::Valid, 100)
 }
 
-fn by_number(bytes: &[u8], number: IpNumber) -> Result<(Vec<u8>, bool), RewriteError> {
+fn by_number(bytes: &[u8], number: IpNumber) -> Written {
     written(bytes, Which::Number(number), Authentication::Valid, 100)
 }
 
@@ -135,4 +162,115 @@ fn refusals() {
     }
     let error: &dyn std::error::Error = &RewriteError::NoRoom;
     assert_eq!(error.to_string(), "the buffer is too short for the packet");
+}
+
+#[test]
+fn inserted_headers() {
+    let (chain, covered) = (packet(&[0, 60, 43]), packet(&[51]));
+    let (valid, invalid) = (Authentication::Valid, Authentication::Invalid);
+    for index in 1..4 {
+        let mut numbers = vec![0, 60, 43];
+        numbers.insert(index, 60);
+        assert_eq!(
+            inserted(&chain, 60, index, valid),
+            Ok((packet(&numbers), true))
+        );
+    }
+    let (_, keeps_checksums) = inserted(&chain, 43, 1, valid).unwrap();
+    assert!(!keeps_checksums);
+    for (bytes, number, index, error) in [
+        (&chain, 17, 1, RewriteError::NotAHeader),
+        (&chain, 60, 0, RewriteError::Misplaced),
+        (&chain, 0, 1, RewriteError::Misplaced),
+        (&chain, 60, 4, RewriteError::Misplaced),
+        (&covered, 60, 1, RewriteError::Authenticated),
+    ] {
+        assert_eq!(inserted(bytes, number, index, valid), Err(error));
+    }
+    assert_eq!(
+        inserted(&covered, 60, 1, invalid),
+        Ok((packet(&[51, 60]), true))
+    );
+    let insert = |header: &[u8], room| {
+        let number = ip_number::IPV6_FRAG;
+        written_by(
+            |out| with_header(&chain, number, header, 1, valid, out),
+            room,
+        )
+    };
+    assert_eq!(
+        insert(&[0, 0, 0, 8, 0, 0, 0, 0], 100),
+        Err(RewriteError::FragmentHeader)
+    );
+    for (len, room) in [(7, 100), (8, 76), (8, 75)] {
+        let found = insert(&[0; 8][..len], room);
+        let wanted = match (len, room) {
+            (7, _) => Err(RewriteError::NotAHeader),
+            (_, 76) => Ok((packet(&[0, 44, 60, 43]), true)),
+            _ => Err(RewriteError::NoRoom),
+        };
+        assert_eq!(found, wanted);
+    }
+    let texts = [RewriteError::NotAHeader, RewriteError::Misplaced].map(|it| it.to_string());
+    assert_eq!(texts[0], "the bytes are no extension header for the packet");
+    assert_eq!(texts[1], "the header can't be at this place");
+}
+
+#[test]
+fn payloads() {
+    let (mut chain, covered, mut fragment) = (packet(&[0, 60]), packet(&[51]), packet(&[44]));
+    let (valid, invalid) = (Authentication::Valid, Authentication::Invalid);
+    fragment[43] = 1;
+    let longest = vec![0xd0; 65535 - 16];
+    let payloads = [(&longest[..], 70_000), (&longest[..5], 61), (&[], 56)];
+    for (payload, room) in payloads {
+        let mut wanted = packet(&[0, 60])[..56].to_vec();
+        wanted.extend(payload);
+        wanted[48] = 6;
+        wanted[4..6].copy_from_slice(&u16::try_from(16 + payload.len()).unwrap().to_be_bytes());
+        let replace = |room| {
+            let number = ip_number::TCP;
+            written_by(
+                |out| with_payload(&chain, number, payload, valid, out),
+                room,
+            )
+        };
+        assert_eq!(replace(room), Ok((wanted.clone(), false)));
+        assert_eq!(replace(wanted.len() - 1), Err(RewriteError::NoRoom));
+    }
+    for (bytes, number, error) in [
+        (&chain, 60, RewriteError::HeaderFollows),
+        (&covered, 6, RewriteError::Authenticated),
+        (&fragment, 6, RewriteError::Fragmented),
+    ] {
+        assert_eq!(replaced(bytes, number, valid), Err(error));
+    }
+    assert_eq!(
+        replaced(&covered, 17, invalid),
+        Ok((covered.clone(), false))
+    );
+    let too_long = [&longest[..], &[1]].concat();
+    let mut out = vec![0; 70_000];
+    let result = with_payload(&chain, ip_number::TCP, &too_long, valid, &mut out);
+    assert_eq!(result, Err(RewriteError::TooLong));
+    chain[48] = 6;
+    assert_eq!(replaced(&packet(&[0, 60]), 6, valid), Ok((chain, false)));
+}
+
+#[test]
+fn reserved_bits() {
+    let clear = |bytes: &[u8], authentication, room| {
+        written_by(|out| cleared(bytes, authentication, out), room)
+    };
+    let (mut fragment, mut covered) = (packet(&[60, 44]), packet(&[51]));
+    (fragment[49], fragment[51]) = (0xff, 6);
+    covered[43] = 1;
+    let (valid, invalid) = (Authentication::Valid, Authentication::Invalid);
+    let plain = Ok((packet(&[51]), true));
+    assert_eq!(clear(&fragment, valid, 60), Ok((packet(&[60, 44]), true)));
+    assert_eq!(clear(&fragment, valid, 59), Err(RewriteError::NoRoom));
+    assert_eq!(clear(&packet(&[51]), valid, 100), plain);
+    let refused = clear(&covered, valid, 100);
+    assert_eq!(refused, Err(RewriteError::Authenticated));
+    assert_eq!(clear(&covered, invalid, 100), plain);
 }

@@ -10,12 +10,16 @@ pub enum RewriteError {
     Missing,
     /// The packet is a middle or last fragment.
     LaterFragment,
+    /// The bytes aren't one extension header of the number, or it can't be in a packet of the IP version.
+    NotAHeader = 11,
     /// No header is selected.
-    NoHeader,
+    NoHeader = 4,
     /// The header is the fragment header of a fragment.
     FragmentHeader,
-    /// The header is in the part of the packet that is fragmented.
-    Fragmented,
+    /// The header can't be at the index (RFC 8200, section 4.1).
+    Misplaced = 12,
+    /// The change is in the part of the packet that is fragmented.
+    Fragmented = 6,
     /// An authentication header covers what is changed (RFC 4302, section 3.3.3).
     Authenticated,
     /// The payload would be read as an extension header.
@@ -39,6 +43,8 @@ impl RewriteError {
             8 => RewriteError::HeaderFollows,
             9 => RewriteError::TooLong,
             10 => RewriteError::NoRoom,
+            11 => RewriteError::NotAHeader,
+            12 => RewriteError::Misplaced,
             _ => RewriteError::Headers,
         }
     }
@@ -50,8 +56,10 @@ impl fmt::Display for RewriteError {
             RewriteError::Headers => "the headers of the packet are truncated or faulty",
             RewriteError::Missing => "bytes of the packet are missing",
             RewriteError::LaterFragment => "the packet is a later fragment",
+            RewriteError::NotAHeader => "the bytes are no extension header for the packet",
             RewriteError::NoHeader => "the packet has no such header",
             RewriteError::FragmentHeader => "the header is that of a fragment",
+            RewriteError::Misplaced => "the header can't be at this place",
             RewriteError::Fragmented => "the change is in the part that is fragmented",
             RewriteError::Authenticated => "an authentication header covers the change",
             RewriteError::HeaderFollows => "the payload would be read as an extension header",

@@ -10,8 +10,8 @@ IPCAP = os.environ.get("IPCAP", f"{BUILD}/ipcap")
 sys.path.append(f"{ROOT}/tests/ipcap")
 
 # An IPv6 packet with each extension header, one with a fault, an IPv4 packet, a later fragment, and no bytes.
-from captures import (LATER_FRAGMENT, TCP, UDP, authentication, capture, chain, checksum, ethernet, file_header, fragment, ipv4, ipv6,
-                      ipv6_chain, options, record, routing)
+from captures import (LATER_FRAGMENT, TCP, UDP, authentication, capture, chain, checksum, ethernet, file_header, fragment, header, ipv4,
+                      ipv6, ipv6_chain, options, record, routing)
 
 PACKETS = [ipv6_chain([0, 43, 44, 51, 60]), ipv6(60, b"\x11"), ipv4(6, TCP), LATER_FRAGMENT, b""]
 

@@ -1,18 +1,19 @@
-"""Tests of `without`. Packets without headers are made here, and by scapy."""
+"""Tests of `without`, `with_header`, `with_payload` and `cleared`. Packets with the change are made here, and by scapy."""
 
 import copy
+import itertools
 import pickle
 import unittest
 
-from support import LATER_FRAGMENT, TCP, authentication, fragment, ipv4, ipv6, ipv6_chain, options
+from support import LATER_FRAGMENT, TCP, UDP, authentication, fragment, header, ipv4, ipv6, ipv6_chain, options
 
-from wolfaren import Refusal, RewriteError, without
+from wolfaren import Refusal, RewriteError, cleared, with_header, with_payload, without
 
 
 class Rewrites(unittest.TestCase):
-    def assert_refused(self, refusal, packet, **which):
+    def assert_refused(self, refusal, packet, *change, call=without, **which):
         with self.assertRaises(RewriteError) as caught:
-            without(packet, **which)
+            call(packet, *change, **which)
         self.assertIs(caught.exception.refusal, refusal)
 
     def test_headers(self):
@@ -28,11 +29,40 @@ class Rewrites(unittest.TestCase):
             self.assertEqual(without(kind(packet), index=0).packet, ipv6_chain(numbers[1:]))
         self.assertEqual(without(ipv4(51, authentication(6) + TCP), number=51), (ipv4(6, TCP), True))
 
+    def test_inserted_header(self):
+        numbers = [0, 60, 43, 60]
+        for index, number in itertools.product(range(1, 5), (43, 44, 51, 60)):
+            wanted = ipv6_chain(numbers[:index] + [number] + numbers[index:])
+            new = header(number, 99)
+            self.assertEqual(with_header(ipv6_chain(numbers) + b"padding", number, new, index), (wanted, True))
+        self.assertEqual(with_header(ipv6_chain([60]), 0, memoryview(options(0, 2)), 0).packet, ipv6(0, options(60, 2) + options(17) + UDP))
+        self.assertEqual(with_header(ipv4(6, TCP), 51, authentication(0), 0), (ipv4(51, authentication(6) + TCP), True))
+        self.assertEqual(with_header(ipv6_chain([51]), 60, options(0), 1, may_be_invalid=True).packet, ipv6_chain([51, 60]))
+
+    def test_payload(self):
+        for numbers, number, payload in itertools.product(([], [0, 60], [43, 44]), (6, 50, 255), (b"", TCP, bytearray(99))):
+            wanted = ipv6_chain(numbers, final=number, payload=bytes(payload))
+            self.assertEqual(with_payload(ipv6_chain(numbers) + b"padding", number, payload), (wanted, False))
+        self.assertEqual(with_payload(ipv4(6, TCP), 17, UDP), (ipv4(17, UDP), False))
+        self.assertEqual(with_payload(ipv6_chain([51]), 6, TCP, may_be_invalid=True).packet, ipv6_chain([51], final=6, payload=TCP))
+
+    def test_cleared(self):
+        packet = bytearray(ipv6_chain([60, 44, 60, 44]))
+        self.assertEqual(cleared(packet + b"padding"), (bytes(packet), True))
+        packet[49], packet[51], packet[65], packet[67] = 0xff, 4, 1, 6
+        self.assertEqual(cleared(packet), (ipv6_chain([60, 44, 60, 44]), True))
+        packet = bytearray(ipv6_chain([51]))
+        self.assertEqual(cleared(packet).packet, bytes(packet))
+        packet[42] = 1
+        self.assert_refused(Refusal.AUTHENTICATED, packet, call=cleared)
+        self.assertEqual(cleared(packet, may_be_invalid=True), (ipv6_chain([51]), True))
+
     def test_checksums(self):
         packet = bytearray(ipv6_chain([43, 60]))
         packet[43] = 1
         self.assertFalse(without(packet, index=0).keeps_checksums)
         self.assertTrue(without(packet, index=1).keeps_checksums)
+        self.assertFalse(with_header(ipv6_chain([]), 43, b"\0\0\0\1\0\0\0\0", 0).keeps_checksums)
 
     def test_refusals(self):
         first = ipv6(0, options(44) + fragment(60, 0, 1) + options(17) + bytes(8))
@@ -46,6 +76,18 @@ class Rewrites(unittest.TestCase):
         self.assert_refused(Refusal.AUTHENTICATED, ipv6_chain([0, 51]), number=0)
         self.assert_refused(Refusal.HEADER_FOLLOWS, ipv4(51, authentication(51) + bytes(24)), index=0)
         self.assertEqual(without(ipv6_chain([0, 51]), number=0, may_be_invalid=True).packet, ipv6_chain([51]))
+        self.assert_refused(Refusal.NOT_A_HEADER, ipv6_chain([]), 60, options(0)[:-1], 0, call=with_header)
+        self.assert_refused(Refusal.NOT_A_HEADER, ipv6_chain([]), 17, options(0), 0, call=with_header)
+        self.assert_refused(Refusal.NOT_A_HEADER, ipv4(6, TCP), 60, options(0), 0, call=with_header)
+        self.assert_refused(Refusal.FRAGMENT_HEADER, ipv6_chain([]), 44, fragment(0, 0, 1), 0, call=with_header)
+        self.assert_refused(Refusal.MISPLACED, ipv6_chain([60]), 0, options(0), 1, call=with_header)
+        self.assert_refused(Refusal.MISPLACED, ipv6_chain([60]), 60, options(0), 2, call=with_header)
+        self.assert_refused(Refusal.FRAGMENTED, first, 60, options(0), 2, call=with_header)
+        self.assert_refused(Refusal.AUTHENTICATED, ipv6_chain([51]), 60, options(0), 0, call=with_header)
+        self.assert_refused(Refusal.FRAGMENTED, first, 17, UDP, call=with_payload)
+        self.assert_refused(Refusal.AUTHENTICATED, ipv6_chain([51]), 17, UDP, call=with_payload)
+        self.assert_refused(Refusal.HEADER_FOLLOWS, ipv6_chain([]), 60, UDP, call=with_payload)
+        self.assert_refused(Refusal.TOO_LONG, ipv6_chain([]), 17, bytes(65536), call=with_payload)
         for refusal in Refusal:
             error = RewriteError(refusal)
             self.assertTrue(str(error))
@@ -59,14 +101,32 @@ class Rewrites(unittest.TestCase):
         for which in ({"number": 256}, {"index": -1}):
             with self.assertRaises(OverflowError):
                 without(ipv6_chain([0]), **which)
+        for number, index in ((256, 0), (60, -1), (-1, 0)):
+            with self.assertRaises(OverflowError):
+                with_header(ipv6_chain([0]), number, options(0), index)
+        with self.assertRaises(OverflowError):
+            with_payload(ipv6_chain([0]), 256, b"")
+        with self.assertRaises(TypeError):
+            with_payload(ipv6_chain([0]), 17, "payload")
 
     def test_scapy(self):
+        from scapy.layers.inet import TCP as ScapyTcp
         from scapy.layers.inet import UDP as ScapyUdp
-        from scapy.layers.inet6 import IPv6, IPv6ExtHdrDestOpt, IPv6ExtHdrHopByHop
+        from scapy.layers.inet6 import IPv6, IPv6ExtHdrDestOpt, IPv6ExtHdrFragment, IPv6ExtHdrHopByHop
         upper = ScapyUdp(sport=1, dport=2) / b"data"
         packet = bytes(IPv6(dst="2001:db8::1") / IPv6ExtHdrHopByHop() / IPv6ExtHdrDestOpt() / upper)
         self.assertEqual(without(packet, number=0).packet, bytes(IPv6(dst="2001:db8::1") / IPv6ExtHdrDestOpt() / upper))
-        self.assertEqual(without(packet, number=60).packet, bytes(IPv6(dst="2001:db8::1") / IPv6ExtHdrHopByHop() / upper))
+        without_options = bytes(IPv6(dst="2001:db8::1") / IPv6ExtHdrHopByHop() / upper)
+        self.assertEqual(without(packet, number=60).packet, without_options)
+        self.assertEqual(with_header(without_options, 60, bytes(IPv6ExtHdrDestOpt()), 1), (packet, True))
+        other = IPv6(dst="2001:db8::1") / IPv6ExtHdrHopByHop() / IPv6ExtHdrDestOpt() / ScapyTcp(sport=3)
+        self.assertEqual(with_payload(packet, 6, bytes(other[ScapyTcp])).packet, bytes(other))
+        fragment_header = IPv6ExtHdrFragment(id=9)
+        reserved = fragment_header.copy()
+        reserved.res1, reserved.res2 = 255, 3
+        packets = [bytes(IPv6(dst="2001:db8::1") / it / upper) for it in (reserved, fragment_header)]
+        self.assertNotEqual(*packets)
+        self.assertEqual(cleared(packets[0]), (packets[1], True))
 
 
 if __name__ == "__main__":

@@ -1,9 +1,9 @@
-"""Writes packets with other extension headers."""
+"""Writes packets with other extension headers or another payload."""
 
 from __future__ import annotations
 
 import enum
-from typing import NamedTuple
+from typing import Any, NamedTuple
 
 from ._library import Buffer, ffi, lib
 
@@ -17,12 +17,16 @@ class Refusal(enum.IntEnum):
     """Fewer bytes are here than the IP header states."""
     LATER_FRAGMENT = lib.WOLFAREN_REFUSED_LATER_FRAGMENT
     """The packet is a middle or last fragment."""
+    NOT_A_HEADER = lib.WOLFAREN_REFUSED_NOT_A_HEADER
+    """The bytes aren't one extension header of the number, or it can't be in a packet of the IP version."""
     NO_HEADER = lib.WOLFAREN_REFUSED_NO_HEADER
     """The packet has no such header."""
     FRAGMENT_HEADER = lib.WOLFAREN_REFUSED_FRAGMENT_HEADER
     """The header is the fragment header of a fragment."""
+    MISPLACED = lib.WOLFAREN_REFUSED_MISPLACED
+    """The header can't be at the index (RFC 8200, section 4.1)."""
     FRAGMENTED = lib.WOLFAREN_REFUSED_FRAGMENTED
-    """The header is in the part of the packet that is fragmented."""
+    """The change is in the part of the packet that is fragmented."""
     AUTHENTICATED = lib.WOLFAREN_REFUSED_AUTHENTICATED
     """An authentication header covers the change (RFC 4302, section 3.3.3)."""
     HEADER_FOLLOWS = lib.WOLFAREN_REFUSED_HEADER_FOLLOWS
@@ -35,8 +39,10 @@ _TEXTS = {
     Refusal.HEADERS: "the headers of the packet are truncated or faulty",
     Refusal.MISSING: "bytes of the packet are missing",
     Refusal.LATER_FRAGMENT: "the packet is a later fragment",
+    Refusal.NOT_A_HEADER: "the bytes are no extension header for the packet",
     Refusal.NO_HEADER: "the packet has no such header",
     Refusal.FRAGMENT_HEADER: "the header is that of a fragment",
+    Refusal.MISPLACED: "the header can't be at this place",
     Refusal.FRAGMENTED: "the change is in the part that is fragmented",
     Refusal.AUTHENTICATED: "an authentication header covers the change",
     Refusal.HEADER_FOLLOWS: "the payload would be read as an extension header",
@@ -59,8 +65,18 @@ class Rewritten(NamedTuple):
 
     packet: bytes
     keeps_checksums: bool
-    """Whether transport checksums hold as before. They don't after a routing header with segments left was removed: the final
-    destination was in it (RFC 8200, section 8.1)."""
+    """Whether transport checksums hold as before. They don't with another payload, or after a routing header with segments left
+    was removed or inserted: they cover the final destination (RFC 8200, section 8.1)."""
+
+
+def _rewritten(call: Any, packet: Buffer, *change: Any, may_be_invalid: bool, added: int = 0) -> Rewritten:
+    """Makes a call that writes the packet, which becomes longer by at most `added` bytes, with a change."""
+    data = ffi.from_buffer("uint8_t[]", packet)
+    out = ffi.new("uint8_t[]", len(data) + added)
+    done = ffi.new("struct wolfaren_rewritten *")
+    if not call(data, len(data), *change, may_be_invalid, out, len(out), done):
+        raise RewriteError(Refusal(done.refusal))
+    return Rewritten(bytes(ffi.buffer(out, done.len)), bool(done.keeps_checksums))
 
 
 def without(packet: Buffer, *, number: int | None = None, index: int | None = None, may_be_invalid: bool = False) -> Rewritten:
@@ -75,10 +91,39 @@ def without(packet: Buffer, *, number: int | None = None, index: int | None = No
     """
     if (number is None) == (index is None):
         raise TypeError("either number or index must be given")
-    data = ffi.from_buffer("uint8_t[]", packet)
-    out = ffi.new("uint8_t[]", len(data))
-    done = ffi.new("struct wolfaren_rewritten *")
     call, value = (lib.wolfaren_without_index, index) if number is None else (lib.wolfaren_without_number, number)
-    if not call(data, len(data), value, may_be_invalid, out, len(out), done):
-        raise RewriteError(Refusal(done.refusal))
-    return Rewritten(bytes(ffi.buffer(out, done.len)), bool(done.keeps_checksums))
+    return _rewritten(call, packet, value, may_be_invalid=may_be_invalid)
+
+
+def with_header(packet: Buffer, number: int, header: Buffer, index: int, *, may_be_invalid: bool = False) -> Rewritten:
+    """Returns the packet at the start of the bytes with one more extension header.
+
+    The header has this number and these bytes, of which the first, its next header field, is replaced. It is inserted before
+    the header with this index, or after all of them if there are as many. All else stays as it is, as with `without`.
+
+    Raises `RewriteError` if that can't be, also for an authentication header as `without` does.
+    """
+    new = ffi.from_buffer("uint8_t[]", header)
+    return _rewritten(lib.wolfaren_with_header, packet, number, new, len(new), index, may_be_invalid=may_be_invalid, added=len(new))
+
+
+def with_payload(packet: Buffer, number: int, payload: Buffer, *, may_be_invalid: bool = False) -> Rewritten:
+    """Returns the packet at the start of the bytes with all of its extension headers and another payload of this number.
+
+    All else stays as it is, as with `without`. A checksum in the payload is the caller's.
+
+    Raises `RewriteError` if that can't be, also for an authentication header as `without` does.
+    """
+    new = ffi.from_buffer("uint8_t[]", payload)
+    return _rewritten(lib.wolfaren_with_payload, packet, number, new, len(new), may_be_invalid=may_be_invalid, added=len(new))
+
+
+def cleared(packet: Buffer, *, may_be_invalid: bool = False) -> Rewritten:
+    """Returns the packet at the start of the bytes with the reserved bits of its fragment and authentication headers set to zero.
+
+    These are defined in RFC 8200, section 4.5, and RFC 4302, section 2.3. All else stays as it is, as with `without`.
+
+    Raises `RewriteError` if that can't be. A packet with an authentication header in which one of these bits is 1 can only be
+    changed if `may_be_invalid` is true.
+    """
+    return _rewritten(lib.wolfaren_cleared, packet, may_be_invalid=may_be_invalid)

@@ -5,7 +5,6 @@
 
 #include "blocks.h"
 #include "report.h"
-#include "wolfaren.h"
 
 /* Where the captured length, the length and the frame of a packet are in its block, and in a simple packet block. */
 enum { CAPTURED_LEN_AT = 20, LEN_AT = 24, FRAME_AT = 28, SIMPLE_LEN_AT = 8, SIMPLE_FRAME_AT = 12, TRAILER_LEN = 4 };
@@ -20,33 +19,83 @@ struct span {
     size_t len;
 };
 
-/* Whether a packet has a header that is left out. */
-static bool has_header(const struct rewriter *rewriter, struct span packet)
+/* A packet that is being changed. Each result is written to one of two places of `room` bytes, which follow each other. */
+struct change {
+    struct span packet;
+    uint8_t *places;
+    size_t room;
+    bool keeps_checksums;
+};
+
+/* The number of extension headers that so many bytes have at most. */
+static size_t most_headers(size_t len)
+{
+    return len / 8 + 1;
+}
+
+/* Whether a packet has one of some headers: a bit for each number. */
+static bool has_header(uint64_t headers, struct span packet)
 {
     const struct wolfaren_filter filter = {
-        1, {{.kind = WOLFAREN_TEST_FLAGS, .number = rewriter->without, .if_met = WOLFAREN_FILTER_PASSED}}};
+        1, {{.kind = WOLFAREN_TEST_FLAGS, .number = headers, .if_met = WOLFAREN_FILTER_PASSED}}};
     return wolfaren_filter_matches(&filter, packet.bytes, packet.len);
 }
 
-/*
- * Leaves out the headers, one number after another. Each result is written to one of two places of `room` bytes, which follow
- * each other. Returns WOLFAREN_NOT_REFUSED, or why the packet is refused; it then is as it was.
- */
-static uint8_t leave_out(const struct rewriter *rewriter, struct span *packet, uint8_t *places, size_t room, bool *keeps_checksums)
+/* Whether a reserved bit of a header is 1 (RFC 8200, section 4.5; RFC 4302, section 2.3). */
+static bool is_reserved_set(const uint8_t *header, uint8_t number)
 {
-    struct span left = *packet;
+    if (number == WOLFAREN_FRAGMENT) return header[1] != 0 || (header[3] & 6) != 0;
+    return number == WOLFAREN_AUTHENTICATION && (header[2] != 0 || header[3] != 0);
+}
+
+/* Whether a packet has a header with such a bit, as far as its headers are there. */
+static bool has_reserved(const struct rewriter *rewriter, struct span packet)
+{
+    struct wolfaren_dissection dissection;
+    if (!has_header(UINT64_C(1) << WOLFAREN_FRAGMENT | UINT64_C(1) << WOLFAREN_AUTHENTICATION, packet)) return false;
+    wolfaren_dissect(packet.bytes, packet.len, rewriter->headers, most_headers(rewriter->room), &dissection);
+    for (size_t i = 0; i < dissection.headers; i++)
+        if (is_reserved_set(packet.bytes + rewriter->headers[i].offset, rewriter->headers[i].number)) return true;
+    return false;
+}
+
+/* Returns the place for the next result. */
+static uint8_t *place_for(const struct change *change)
+{
+    return change->packet.bytes == change->places ? change->places + change->room : change->places;
+}
+
+/* Goes on with the packet that was written there. */
+static void take_result(struct change *change, const struct wolfaren_rewritten *done)
+{
+    change->packet = (struct span){place_for(change), done->len};
+    change->keeps_checksums &= done->keeps_checksums;
+}
+
+/* Leaves out the headers, one number after another. Returns WOLFAREN_NOT_REFUSED, or why the packet is refused. */
+static uint8_t leave_out(const struct rewriter *rewriter, struct change *change)
+{
     struct wolfaren_rewritten done;
     for (size_t i = 0; i < sizeof order; i++) {
-        uint8_t *place = left.bytes == places ? places + room : places;
         if (!(rewriter->without >> order[i] & 1)) continue;
-        if (wolfaren_without_number(left.bytes, left.len, order[i], false, place, room, &done)) {
-            left = (struct span){place, done.len};
-            *keeps_checksums &= done.keeps_checksums;
-        } else if (done.refusal != WOLFAREN_REFUSED_NO_HEADER) {
+        if (wolfaren_without_number(change->packet.bytes, change->packet.len, order[i], rewriter->breaks_authentication,
+                                    place_for(change), change->room, &done))
+            take_result(change, &done);
+        else if (done.refusal != WOLFAREN_REFUSED_NO_HEADER)
             return done.refusal;
-        }
     }
-    *packet = left;
+    return WOLFAREN_NOT_REFUSED;
+}
+
+/* Clears the reserved bits, likewise. */
+static uint8_t clear(const struct rewriter *rewriter, struct change *change)
+{
+    struct wolfaren_rewritten done;
+    if (!rewriter->clears || !has_reserved(rewriter, change->packet)) return WOLFAREN_NOT_REFUSED;
+    if (!wolfaren_cleared(change->packet.bytes, change->packet.len, rewriter->breaks_authentication, place_for(change),
+                          change->room, &done))
+        return done.refusal;
+    take_result(change, &done);
     return WOLFAREN_NOT_REFUSED;
 }
 
@@ -71,7 +120,7 @@ static void make_block(struct packet *packet, uint8_t *block, uint32_t old_captu
     packet->block = block;
 }
 
-/* Replaces the IP packet in a frame by a shorter one. The bytes before it and after it stay. */
+/* Replaces the IP packet in a frame by one that isn't longer. The bytes before it and after it stay. */
 static void replace(struct packet *packet, uint8_t *block, struct span old, struct span new)
 {
     const uint32_t old_len = packet->header.caplen, removed = (uint32_t)(old.len - new.len);
@@ -86,16 +135,18 @@ static void replace(struct packet *packet, uint8_t *block, struct span old, stru
     packet->frame = frame;
 }
 
-/* Makes room for three times so many bytes. */
+/* Makes room for three times so many bytes, and for the headers of a packet of that length. */
 static bool reserve(struct rewriter *rewriter, size_t len)
 {
     if (rewriter->room >= len) return true;
     uint8_t *buffer = len > SIZE_MAX / 3 ? NULL : realloc(rewriter->buffer, 3 * len);
-    if (!buffer) {
+    if (buffer) rewriter->buffer = buffer;
+    struct wolfaren_header *headers = buffer ? realloc(rewriter->headers, most_headers(len) * sizeof *headers) : NULL;
+    if (!headers) {
         complain_of_memory();
         return false;
     }
-    rewriter->buffer = buffer;
+    rewriter->headers = headers;
     rewriter->room = len;
     return true;
 }
@@ -106,26 +157,40 @@ static bool has_captured_len(const struct packet *packet)
     return !packet->block || packet->frame - packet->block == FRAME_AT || !packet->is_short;
 }
 
+/* Makes all changes of a packet. Returns WOLFAREN_NOT_REFUSED, or why the packet is refused. */
+static uint8_t make_changes(const struct rewriter *rewriter, const struct packet *packet, struct change *change)
+{
+    if (!has_captured_len(packet)) return WOLFAREN_REFUSED_MISSING;
+    const uint8_t refusal = leave_out(rewriter, change);
+    return refusal != WOLFAREN_NOT_REFUSED ? refusal : clear(rewriter, change);
+}
+
 bool rewrite_packet(struct rewriter *rewriter, struct packet *packet)
 {
     struct span old = {packet->frame + packet->ip_offset, packet->header.caplen - packet->ip_offset};
-    if (!packet->is_ip || packet->is_left_out || !has_header(rewriter, old)) return true;
+    if (!packet->is_ip || packet->is_left_out) return true;
     if (!reserve(rewriter, packet->block ? packet->block_len : packet->header.caplen)) return false;
-    struct wolfaren_dissection dissection;
-    wolfaren_dissect(old.bytes, old.len, NULL, 0, &dissection);
-    struct span new = old;
-    bool keeps_checksums = true;
-    const uint8_t refusal = has_captured_len(packet)
-        ? leave_out(rewriter, &new, rewriter->buffer + rewriter->room, rewriter->room, &keeps_checksums)
-        : WOLFAREN_REFUSED_MISSING;
+    if (!has_header(rewriter->without, old) && !(rewriter->clears && has_reserved(rewriter, old))) return true;
+    struct change change = {old, rewriter->buffer + rewriter->room, rewriter->room, true};
+    const uint8_t refusal = make_changes(rewriter, packet, &change);
     if (refusal != WOLFAREN_NOT_REFUSED) {
         rewriter->refused[refusal < REFUSALS ? refusal : WOLFAREN_REFUSED_HEADERS]++;
         return true;
     }
-    rewriter->without_checksums += !keeps_checksums;
+    rewriter->without_checksums += !change.keeps_checksums;
+    rewriter->without_check_values += has_header(UINT64_C(1) << WOLFAREN_AUTHENTICATION, change.packet);
+    struct wolfaren_dissection dissection;
+    wolfaren_dissect(old.bytes, old.len, NULL, 0, &dissection);
     old.len -= dissection.padding;
-    replace(packet, rewriter->buffer, old, new);
+    replace(packet, rewriter->buffer, old, change.packet);
     return true;
+}
+
+/* Reports a number of packets, unless it is 0. */
+static void report_packets(const char *name, uint64_t count, const char *what, const char *reason)
+{
+    if (count > 0)
+        complain("%s: %llu %s %s%s", name, (unsigned long long)count, count == 1 ? "packet" : "packets", what, reason);
 }
 
 void report_rewrites(const struct rewriter *rewriter, const char *name)
@@ -142,16 +207,13 @@ void report_rewrites(const struct rewriter *rewriter, const char *name)
         [WOLFAREN_REFUSED_TOO_LONG] = "a length that the length field can't state",
         [WOLFAREN_REFUSED_NO_ROOM] = "no room",
     };
-    for (size_t i = 1; i < REFUSALS; i++)
-        if (rewriter->refused[i] > 0)
-            complain("%s: %llu %s unchanged: %s", name, (unsigned long long)rewriter->refused[i],
-                     rewriter->refused[i] == 1 ? "packet" : "packets", reasons[i]);
-    if (rewriter->without_checksums > 0)
-        complain("%s: %llu %s with a transport checksum that no longer holds", name,
-                 (unsigned long long)rewriter->without_checksums, rewriter->without_checksums == 1 ? "packet" : "packets");
+    for (size_t i = 1; i < REFUSALS; i++) report_packets(name, rewriter->refused[i], "unchanged: ", reasons[i]);
+    report_packets(name, rewriter->without_checksums, "with a transport checksum that no longer holds", "");
+    report_packets(name, rewriter->without_check_values, "with a check value of authentication that no longer holds", "");
 }
 
 void end_rewriter(struct rewriter *rewriter)
 {
     free(rewriter->buffer);
+    free(rewriter->headers);
 }

@@ -1,4 +1,4 @@
-"""Tests of `ipcap rewrite`. Packets without headers are built here, and read by tshark and scapy."""
+"""Tests of `ipcap rewrite`. Changed packets are built here and by scapy, and read by tshark."""
 
 import itertools
 import random
@@ -11,6 +11,7 @@ from captures import *
 NAMES = {0: ["hop-by-hop", "hopopt", "0", "0x0"], 43: ["routing", "route", "43", "0x2b"], 44: ["fragment", "frag", "44", "0x2C"],
          51: ["authentication", "ah", "51"], 60: ["destination-options", "dstopts", "60"]}
 COVERED = "an authentication header that covers the change"
+BROKEN = "with a check value of authentication that no longer holds"
 
 
 def frames_of(content, order="<"):
@@ -27,14 +28,32 @@ def arguments_for(numbers):
     return [word for number in numbers for word in ("--without", str(number))]
 
 
-def rewrite(harness, frames, *numbers, status=0):
+def rewrite(harness, frames, *numbers, options=()):
     """Runs `rewrite` on frames, each one second after the one before. Returns the frames that it writes, and its messages."""
     path = harness.file(capture(frames))
-    found = harness.run("rewrite", *arguments_for(numbers), path)
-    harness.equal(found[0], status, "status of rewrite", found[2])
+    found = harness.run("rewrite", *arguments_for(numbers), *options, path)
+    harness.equal(found[0], 0, "status of rewrite", found[2])
     times = [(seconds, fraction) for seconds, fraction, _, _ in frames_of(found[1])]
     harness.equal(times, [(1000 + i, 5 + i) for i in range(len(frames))], "times")
     return [it for _, _, _, it in frames_of(found[1])], found[2].replace("ipcap: %s: " % path, "")
+
+
+def message(count, text):
+    """The message about so many packets, or none."""
+    return "%d %s %s\n" % (count, "packet" if count == 1 else "packets", text) if count else ""
+
+
+def with_reserved(numbers, bits, units=0, payload=UDP):
+    """A packet of these headers. Of the reserved bits of its fragment headers (RFC 8200, section 4.5) and authentication headers (RFC
+    4302, section 2.3) those are 1 that are in a number of 16 bits. Returns it, and whether there are any."""
+    packet, at, is_set = bytearray(ipv6_chain(numbers, payload=payload, units=units)), 40, False
+    for number in numbers:
+        mask = {44: 0xff06, 51: 0xffff}.get(number, 0)
+        packet[at + (1 if number == 44 else 2)] |= (bits & mask) >> 8
+        packet[at + 3] |= bits & mask & 0xff
+        is_set |= bits & mask != 0
+        at += len(header(number, 0, units))
+    return bytes(packet), is_set
 
 
 def chains(most):
@@ -57,12 +76,63 @@ def headers(harness):
             wanted.append(frames[-1] if is_covered else ethernet(ipv6_chain(kept, units=units)))
         found = rewrite(harness, frames, *left_out)
         harness.equal(found[0], wanted, "chains without", left_out)
-        harness.equal(found[1], "%d packets unchanged: %s\n" % (covered, COVERED) if covered else "", "messages")
+        harness.equal(found[1], message(covered, "unchanged: " + COVERED), "messages")
     frame = ethernet(ipv6_chain([0, 43, 44, 60]))
     for number, names in NAMES.items():
         for name in names:
             wanted = frame if number == 51 else ethernet(ipv6_chain([it for it in [0, 43, 44, 60] if it != number]))
             harness.equal(rewrite(harness, [frame], name)[0], [wanted], name)
+
+
+def reserved_bits(harness):
+    """Reserved bits of any headers of any chain are cleared, after headers were left out, also under an authentication header."""
+    for left_out, bits, breaks in itertools.product([[], [60], [44], [51, 0]], [0, 0xffff, 0x0100, 2, 4, 0x00f9], [False, True]):
+        frames, wanted, covered, broken = [], [], 0, 0
+        for numbers in chains(3):
+            kept = [it for it in numbers if it not in left_out]
+            is_changed = kept != numbers or with_reserved(kept, bits)[1]
+            frames.append(ethernet(with_reserved(numbers, bits)[0]))
+            is_covered = is_changed and 51 in kept and not breaks
+            wanted.append(ethernet(ipv6_chain(kept)) if is_changed and not is_covered else frames[-1])
+            covered += is_covered
+            broken += is_changed and 51 in kept and breaks
+        found = rewrite(harness, frames, *left_out, options=["--clear"] + ["--break-authentication"] * breaks)
+        harness.equal(found[0], wanted, "reserved bits", bits, left_out)
+        harness.equal(found[1], message(covered, "unchanged: " + COVERED) + message(broken, BROKEN), "messages", bits, left_out)
+    frame = ethernet(ipv6_chain([0, 51]))
+    found = rewrite(harness, [frame], 0, options=["--break-authentication"])
+    harness.equal(found, ([ethernet(ipv6_chain([51]))], message(1, BROKEN)), "without --clear")
+    long = [60] * 100 + [44]
+    harness.equal(rewrite(harness, [ethernet(with_reserved(long, 1 << 15)[0])], options=["--clear"]), ([ethernet(ipv6_chain(long))], ""), "a long chain")
+
+
+def reserved_bits_refused(harness):
+    """Reserved bits that can't be cleared stay, and the packet is counted by its reason. Others of its kind without them aren't."""
+    def rows(bits):
+        later = bytearray(LATER_FRAGMENT)
+        later[41] |= bits
+        second = ipv6(44, fragment(44, 0, 1) + bytes([17, bits]) + bytes(6) + UDP)
+        covered = b"\x06\x04" + bytes([0, bits]) + authentication(0)[4:]
+        return [(bytes(later), "a later fragment"), (second, "a header in the part that is fragmented"),
+                (ipv6(44, bytes([60, bits]) + bytes(6) + b"\x11\x09" + bytes(6)), "headers that are truncated or faulty"),
+                (ipv6(44, bytes([17, bits]) + bytes(6) + UDP, 30), "bytes that are missing"),
+                (ipv4(51, covered + TCP, 0x2000), "a header in the part that is fragmented"), (ipv4(51, covered + TCP), COVERED)]
+    for refused_packet, reason in rows(1):
+        frame = ethernet(refused_packet)
+        harness.equal(rewrite(harness, [frame] * 2, options=["--clear"]), ([frame] * 2, message(2, "unchanged: " + reason)), reason)
+    frames = [ethernet(it) for it, _ in rows(0)] + [ethernet(b"\x60"), ethernet(bytes(28), (), 0x0806)]
+    harness.equal(rewrite(harness, frames, options=["--clear"]), (frames, ""), "no reserved bits")
+    first = [ethernet(ipv6(44, bytes([60, bits, 0, bits & 6 | 1, 0, 0, 0, 7]) + options(17) + bytes(8))) for bits in (0xff, 0)]
+    harness.equal(rewrite(harness, first[:1], options=["--clear"]), (first[1:], ""), "a first fragment")
+    both = ethernet(ipv6(60, options(44) + fragment(44, 0, 1) + bytes([17, 1]) + bytes(6) + UDP))
+    found = rewrite(harness, [both], 60, options=["--clear"])
+    harness.equal(found, ([both], message(1, "unchanged: a header in the part that is fragmented")), "all changes or none")
+    wrong, covered = bytearray(ethernet(ipv4(51, authentication(6) + TCP))), ethernet(ipv4(51, authentication(6) + TCP))
+    wrong[24] ^= 1
+    harness.equal(rewrite(harness, [bytes(wrong)], options=["--clear"]), ([bytes(wrong)], ""), "a wrong checksum that isn't the change's")
+    wrong[36] = 1
+    found = rewrite(harness, [bytes(wrong)], options=["--clear", "--break-authentication"])
+    harness.equal(found, ([covered], message(1, BROKEN)), "IPv4")
 
 
 def other_bytes(harness):
@@ -110,8 +180,9 @@ def refused(harness):
             ([51], ipv4(51, authentication(51) + bytes(24)), "a payload that would be read as a header")]
     for left_out, refused_packet, reason in rows:
         frame = ethernet(refused_packet)
-        harness.equal(rewrite(harness, [frame], *left_out), ([frame], "1 packet unchanged: %s\n" % reason), left_out)
-        harness.equal(rewrite(harness, [frame, frame], *left_out)[1], "2 packets unchanged: %s\n" % reason, left_out)
+        for count in (1, 2):
+            found = rewrite(harness, [frame] * count, *left_out)
+            harness.equal(found, ([frame] * count, message(count, "unchanged: " + reason)), left_out)
     frames = [ethernet(it) for left_out, it, _ in rows if 0 in left_out]
     found = rewrite(harness, frames, 0, 60)[1]
     harness.equal([line.split(" ", 1)[0] for line in found.splitlines()], ["1", "1", "1", "1", "1"], "reasons in order", found)
@@ -127,18 +198,19 @@ def refused(harness):
 def forms_of_files(harness):
     """Blocks of pcapng files keep their times, interfaces and comments."""
     comment = option(1, b"note") + struct.pack("<HH", 0, 0)
-    for order, extra in itertools.product("<>", range(4)):
-        old, new = [ethernet(ipv6_chain(numbers, payload=UDP + bytes(extra))) for numbers in ([0, 60], [60])]
+    for order, extra, words in itertools.product("<>", range(4), [["--without", "0"], ["--clear"]]):
+        data, numbers = UDP + bytes(extra), [[0, 60], [60]] if words[1:] else [[44, 60]] * 2
+        old, new = ethernet(with_reserved(numbers[0], 0x0302, payload=data)[0]), ethernet(ipv6_chain(numbers[1], payload=data))
         note = struct.pack(order + "HH4sHH", 1, 4, b"note", 0, 0)
         def blocks(frame, padding=b""):
             return (section(order) + interface(order=order) + interface(snap_len=96, order=order)
                     + packet(frame + padding, 1, 77, options=note, order=order) + packet(frame, 0, 78, order=order)
                     + obsolete(frame, 1, 79, order=order) + interface(RAW, order=order))
         for padding in (b"", b"\xee\xef"):
-            found = harness.run("rewrite", "--without", "0", content=blocks(old, padding))
+            found = harness.run("rewrite", *words, content=blocks(old, padding))
             harness.equal(found, (0, blocks(new, padding), "", None), "blocks", order, extra)
         whole = section(order) + interface(order=order)
-        found = harness.run("rewrite", "--without", "0", content=whole + simple(old, order=order))
+        found = harness.run("rewrite", *words, content=whole + simple(old, order=order))
         harness.equal(found, (0, whole + simple(new, order=order), "", None), "simple packet block", order, extra)
     old, new = [ethernet(ipv6_chain(numbers)) for numbers in ([0, 60], [60])]
     head = section() + interface(snap_len=len(old) + 2)
@@ -155,30 +227,37 @@ def forms_of_files(harness):
         harness.equal(found, (0, native, "", None), "classic form", magic, order)
 
 
-def random_packet(rng, left_out):
-    """A frame, the one that is wanted, and whether it is refused: chains of any length, some with a fragment."""
+def random_packet(rng, left_out, clears, breaks):
+    """A frame, the one that is wanted, whether it is refused, and whether its authentication is broken: chains of any length."""
     numbers = [rng.choice([43, 60, 51, 60, 44]) for _ in range(rng.randint(0, 12))]
     numbers = [0] * rng.randint(0, 1) + numbers
     units, data = rng.randint(0, 3), UDP + rng.randbytes(rng.randint(0, 30))
+    bits, padding = rng.choice([0, rng.getrandbits(16)]), bytes(rng.randint(0, 9))
     kept = [it for it in numbers if it not in left_out]
-    padding = bytes(rng.randint(0, 9))
-    old = ethernet(ipv6_chain(numbers, payload=data, units=units)) + padding
-    is_refused = kept != numbers and 51 in kept
-    return old, old if is_refused else ethernet(ipv6_chain(kept, payload=data, units=units)) + padding, is_refused
+    old = ethernet(with_reserved(numbers, bits, units, data)[0]) + padding
+    new, is_set = with_reserved(kept, bits, units, data)
+    is_changed = kept != numbers or is_set and clears
+    new = ethernet(ipv6_chain(kept, payload=data, units=units) if clears else new) + padding
+    is_covered = is_changed and 51 in kept
+    is_refused = is_covered and not breaks
+    return old, old if is_refused else new, is_refused, is_covered and breaks
 
 
 def random_packets(harness):
-    """Random chains without random headers."""
-    for seed in range(40):
+    """Random changes of random chains."""
+    for seed in range(60):
         rng = random.Random(seed)
-        left_out = rng.sample([0, 43, 44, 51, 60], rng.randint(1, 5))
-        rows = [random_packet(rng, left_out) for _ in range(200)]
-        content = capture([old for old, _, _ in rows])
-        command = harness.run if seed < 4 else lambda *words, content: harness.answer(harness.plain, words, content, None)
-        found = command("rewrite", *arguments_for(left_out), content=content)
-        harness.equal(found[1], capture([new for _, new, _ in rows]), "random chains", seed, left_out)
-        count = sum(is_refused for _, _, is_refused in rows)
-        harness.equal(found[2].split(" ")[3:4], [str(count)] if count else [], "refused", found[2])
+        clears, breaks = seed % 3 == 0, seed % 2 == 0
+        left_out = rng.sample([0, 43, 44, 51, 60], rng.randint(0 if clears else 1, 5))
+        rows = [random_packet(rng, left_out, clears, breaks) for _ in range(200)]
+        content = capture([row[0] for row in rows])
+        command = harness.run if seed < 6 else lambda *words, content: harness.answer(harness.plain, words, content, None)
+        words = arguments_for(left_out) + ["--clear"] * clears + ["--break-authentication"] * breaks
+        found = command("rewrite", *words, content=content)
+        harness.equal(found[1], capture([row[1] for row in rows]), "random chains", seed, words)
+        count, broken = [sum(row[i] for row in rows) for i in (2, 3)]
+        wanted = message(count, "unchanged: " + COVERED) + message(broken, BROKEN)
+        harness.equal(found[2].replace("ipcap: standard input: ", ""), wanted, "messages", seed)
 
 
 def packets_for_readers():
@@ -207,6 +286,17 @@ def packets_for_readers():
     return built, built_ipv4, upper
 
 
+def reserved_in_scapy(payload, octet, bits):
+    """Returns a packet whose fragment and authentication headers have reserved bits, and the packet in which they are 0."""
+    from scapy.layers.inet6 import IPv6, IPv6ExtHdrFragment
+    from scapy.layers.ipsec import AH
+    base = IPv6(src="2001:db8::1", dst="2001:db8::2")
+    plain = IPv6(bytes(base / payload))
+    return [bytes(base / IPv6ExtHdrFragment(id=77, res1=octet * it, res2=bits * it)
+                  / AH(nh=plain.nh, payloadlen=4, reserved=(octet << 8 | bits) * it, spi=9, seq=1, icv=bytes(12)) / bytes(plain.payload))
+            for it in (1, 0)]
+
+
 def scapy_agrees(harness):
     """What is written is what scapy builds without the header, checksums included."""
     built, built_ipv4, upper = packets_for_readers()
@@ -219,6 +309,8 @@ def scapy_agrees(harness):
         harness.equal(rewrite(harness, frames, left_out), (wanted, ""), "as scapy builds them without", left_out)
     frames, wanted = zip(*[[ethernet(packet_bytes) for packet_bytes in built_ipv4(it)] for it in upper[:2]])
     harness.equal(rewrite(harness, list(frames), "ah"), (list(wanted), ""), "IPv4")
+    frames, wanted = zip(*[map(ethernet, reserved_in_scapy(it, *bits)) for it in upper for bits in [(255, 3), (1, 0), (0, 1), (0, 2)]])
+    harness.equal(rewrite(harness, list(frames), options=["--clear", "--break-authentication"])[0], list(wanted), "reserved bits")
 
 
 # what differs in a packet without a header, besides the fields of the header and the next header fields of others
@@ -260,13 +352,24 @@ def tshark_agrees(harness):
     before, after = fields_of(harness, content, "ah"), fields_of(harness, written)
     harness.equal(after, before, "fields of IPv4 packets")
     harness.check(all(("ip.checksum.status", "1") in it for it in after), "checksums of IPv4 headers")
+    reserved = ["ipv6.fraghdr.reserved_octet", "ipv6.fraghdr.reserved_bits", "ah.reserved"]
+    content = capture([ethernet(reserved_in_scapy(it, 255, 3)[0]) for it in upper])
+    written = harness.run("rewrite", "--clear", "--break-authentication", content=content)[1]
+    before, after = fields_of(harness, content, *reserved), fields_of(harness, written, *reserved)
+    harness.equal(after, before, "fields but for reserved bits")
+    names = [word for name in reserved for word in ("-e", name)]
+    found = [harness.tshark(harness.file(it), "-T", "fields", *names) for it in (content, written)]
+    harness.equal([set(it.split()) for it in found], [{b"0xff", b"3", b"ff03"}, {b"0x00", b"0", b"0000"}], "reserved bits")
 
 
 def wrong_usage(harness):
     """What `rewrite` refuses."""
     path = harness.file(capture([]))
-    for arguments in [[], [path], ["--without"], ["--without", "0", "a", "b"], ["--without", "0", "-c", "1"]]:
+    for arguments in [["--without"], ["--without", "0", "a", "b"], ["--without", "0", "-c", "1"], ["--clear=0", path]]:
         harness.equal(harness.run("rewrite", *arguments)[0], 2, "status of", arguments)
+    for arguments in [[], [path], ["--break-authentication", path]]:
+        found = harness.run("rewrite", *arguments)
+        harness.check(found[0] == 2 and "--without or --clear is missing" in found[2], arguments, found)
     for name in ["", "17", "tcp", "256", "-1", "0 or ip", "0)", "esp", "h", "hop-by-hop ", " 0", "0,60", "x" * 100, "044"]:
         found = harness.run("rewrite", "--without", name, path)
         harness.equal(found[0], 2, "status of --without", name)

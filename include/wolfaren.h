@@ -18,7 +18,7 @@
  *    wolfaren_fragment_fields, wolfaren_authentication_fields.
  *  - For fragments, which make packets whole: wolfaren_defragment and wolfaren_write_whole_packet.
  *  - For packets with other extension headers or another payload: wolfaren_without_number, wolfaren_without_index,
- *    wolfaren_with_header, wolfaren_with_payload and wolfaren_cleared.
+ *    wolfaren_with_header, wolfaren_with_payload, wolfaren_cleared and wolfaren_in_order.
  *  - For new chains, or headers in another order: wolfaren_link_headers and wolfaren_write_headers.
  *
  * The header needs C99 or C++11, or a later standard.
@@ -796,6 +796,16 @@ bool wolfaren_with_payload(const uint8_t *bytes, size_t len, uint8_t number, con
 WOLFAREN_USE_RESULT
 bool wolfaren_cleared(const uint8_t *bytes, size_t len, bool may_be_invalid, uint8_t *out, size_t room,
                       struct wolfaren_rewritten *rewritten) WOLFAREN_NONNULL(6);
+
+/*
+ * Writes a packet as wolfaren_without_number does, with its extension headers in the order that RFC 8200, section 4.1,
+ * recommends: hop-by-hop options, routing headers and the destination options before any of them, fragment headers,
+ * authentication headers, other destination options. Headers of one such group keep their order. A packet with an
+ * authentication header, or a fragment, is refused only if the order changes. If `room` is `len`, it is enough.
+ */
+WOLFAREN_USE_RESULT
+bool wolfaren_in_order(const uint8_t *bytes, size_t len, bool may_be_invalid, uint8_t *out, size_t room,
+                       struct wolfaren_rewritten *rewritten) WOLFAREN_NONNULL(6);
 
 /* A buffer size, in bytes, that is large enough for any text of wolfaren_fault_text and its terminating null byte. */
 #define WOLFAREN_TEXT_ROOM 256

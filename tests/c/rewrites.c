@@ -1,7 +1,7 @@
 /*
- * Tests wolfaren_without_number, wolfaren_without_index, wolfaren_with_header, wolfaren_with_payload and wolfaren_cleared:
- * against packets that are built here with the change, by RFC 8200, section 4, and RFC 791, section 3.1; each refusal; rooms
- * of each length; and any bytes.
+ * Tests wolfaren_without_number, wolfaren_without_index, wolfaren_with_header, wolfaren_with_payload, wolfaren_cleared and
+ * wolfaren_in_order: against packets that are built here with the change, by RFC 8200, section 4, and RFC 791, section 3.1;
+ * each refusal; rooms of each length; and any bytes.
  */
 #include "wolfaren.h"
 
@@ -98,7 +98,7 @@ static struct packet built_ipv4(bool has_header)
     return packet;
 }
 
-enum call { WITHOUT_NUMBER, WITHOUT_INDEX, WITH_HEADER, WITH_PAYLOAD, CLEARED };
+enum call { WITHOUT_NUMBER, WITHOUT_INDEX, WITH_HEADER, WITH_PAYLOAD, CLEARED, IN_ORDER };
 
 /* What is changed: the number or the index of headers that are left out, or what is added, a header at an index. */
 struct change {
@@ -109,6 +109,7 @@ struct change {
 };
 
 static const struct change first = {WITHOUT_INDEX, 0, false, {0, NULL, 0}}, clearing = {CLEARED, 0, false, {0, NULL, 0}};
+static const struct change ordering = {IN_ORDER, 0, false, {0, NULL, 0}};
 
 static struct change without_number(uint8_t number, bool may_be_invalid)
 {
@@ -150,7 +151,8 @@ static bool call(const uint8_t *bytes, size_t len, struct change change, const u
     case WITHOUT_INDEX: return wolfaren_without_index(bytes, len, change.value, may, out, room, done);
     case WITH_HEADER: return wolfaren_with_header(bytes, len, part->number, added, part->len, change.value, may, out, room, done);
     case WITH_PAYLOAD: return wolfaren_with_payload(bytes, len, part->number, added, part->len, may, out, room, done);
-    default: return wolfaren_cleared(bytes, len, may, out, room, done);
+    case CLEARED: return wolfaren_cleared(bytes, len, may, out, room, done);
+    default: return wolfaren_in_order(bytes, len, may, out, room, done);
     }
 }
 
@@ -286,6 +288,36 @@ static void test_clearing(const struct extension *extensions, size_t count, uint
         expect_written(&packet, change, &wanted);
 }
 
+/* Returns where a header belongs (RFC 8200, section 4.1). Destination options before a routing header belong to it. */
+static int rank(const struct extension *extensions, size_t count, size_t index)
+{
+    switch (extensions[index].number) {
+    case WOLFAREN_HOP_BY_HOP: return 0;
+    case WOLFAREN_ROUTING: return 1;
+    case WOLFAREN_FRAGMENT: return 2;
+    case WOLFAREN_AUTHENTICATION: return 3;
+    default: return has_number(extensions + index, count - index, WOLFAREN_ROUTING) ? 1 : 4;
+    }
+}
+
+/* Compares the headers in the recommended order with the packet that is built so. */
+static void test_ordering(const struct extension *extensions, size_t count, bool may_be_invalid)
+{
+    const struct packet packet = built(extensions, count);
+    struct extension ordered[MOST_HEADERS] = {{0, 0}};
+    size_t placed = 0;
+    for (int of = 0; of <= 4; of++)
+        for (size_t i = 0; i < count; i++)
+            if (rank(extensions, count, i) == of) ordered[placed++] = extensions[i];
+    const struct packet wanted = built(ordered, count);
+    const bool is_changed = memcmp(wanted.bytes, packet.bytes, packet.len) != 0;
+    const struct change change = {IN_ORDER, 0, may_be_invalid, {0, NULL, 0}};
+    if (is_changed && has_number(extensions, count, WOLFAREN_AUTHENTICATION) && !may_be_invalid)
+        expect_refused(&packet, change, WOLFAREN_REFUSED_AUTHENTICATED, "an authentication header covers the order");
+    else
+        expect_written(&packet, change, &wanted);
+}
+
 /* Tests all changes of one chain. */
 static void test_chain(const struct extension *extensions, size_t count)
 {
@@ -296,6 +328,7 @@ static void test_chain(const struct extension *extensions, size_t count)
         for (size_t i = 0; i <= count; i++) test_selection(extensions, count, without_index(i, may));
         test_selection(extensions, count, without_index(SIZE_MAX, may));
         for (size_t i = 0; i < sizeof all_bits; i++) test_clearing(extensions, count, all_bits[i], may);
+        test_ordering(extensions, count, may);
         for (size_t i = 0; i < 6; i++) {
             const struct part payload = {i == 0 ? 6 : numbers[i], data, i == 1 ? 0 : 7};
             test_payload(extensions, count, payload, may);
@@ -353,6 +386,7 @@ static void test_more_ipv4(void)
     expect_refused(&wanted, with_payload(datagram, false), WOLFAREN_REFUSED_AUTHENTICATED, "a payload that is covered");
     expect_refused(&plain, with_payload(authentication, false), WOLFAREN_REFUSED_HEADER_FOLLOWS, "a payload that would be a header");
     expect_written(&plain, clearing, &plain);
+    expect_written(&wanted, ordering, &wanted);
     packet.bytes[24 + 3] = 1;
     expect_written(&packet, (struct change){CLEARED, 0, true, {0, NULL, 0}}, &wanted);
     expect_refused(&packet, clearing, WOLFAREN_REFUSED_AUTHENTICATED, "a reserved bit of IPv4");
@@ -416,6 +450,11 @@ static void test_more_refusals(void)
     expect(rewrite(packet.bytes, packet.len, clearing, MOST_LEN, NULL).len == packet.len, "reserved bits of the fragment header");
     packet.bytes[IPV6_LEN + 8 + 1] = 1;
     expect_refused(&packet, clearing, WOLFAREN_REFUSED_FRAGMENTED, "a reserved bit that is fragmented");
+    expect(rewrite(packet.bytes, packet.len, ordering, MOST_LEN, NULL).len == packet.len, "a first fragment in order");
+    const struct extension unordered[] = {{44, 2}, {43, 3}};
+    packet = built(unordered, 2);
+    packet.bytes[IPV6_LEN + 3] = 1;
+    expect_refused(&packet, ordering, WOLFAREN_REFUSED_FRAGMENTED, "the order of a first fragment");
     packet = built(extensions, 2);
     for (header.len = 0; header.len < 40; header.len++)
         expect_refused(&packet, with_header(header, 0, false), header.len == 24 ? WOLFAREN_NOT_REFUSED : WOLFAREN_REFUSED_NOT_A_HEADER, "a header's length");
@@ -450,12 +489,13 @@ static struct change any_change(const uint8_t *header)
     const uint8_t number = numbers[(size_t)rand() % sizeof numbers];
     const bool may = rand() % 2;
     const size_t index = (size_t)rand() % 5;
-    switch (rand() % 5) {
+    switch (rand() % 6) {
     case 0: return without_number(number, may);
     case 1: return without_index(index, may);
     case 2: return with_header((struct part){number, header, 24}, index, may);
     case 3: return with_payload(datagram, may);
-    default: return (struct change){CLEARED, 0, may, {0, NULL, 0}};
+    case 4: return (struct change){CLEARED, 0, may, {0, NULL, 0}};
+    default: return (struct change){IN_ORDER, 0, may, {0, NULL, 0}};
     }
 }
 
@@ -465,7 +505,7 @@ static void test_any_bytes(void)
     static const struct extension extensions[] = {{0, 1}, {43, 2}, {44, 3}, {60, 4}};
     struct wolfaren_dissection before, after;
     uint8_t out[MOST_LEN], header[MOST_LEN];
-    size_t counts[CLEARED + 1] = {0};
+    size_t counts[IN_ORDER + 1] = {0};
     put_header(header, (struct extension){60, 5}, 0);
     srand(1);
     for (int round = 0; round < 50000; round++) {
@@ -485,7 +525,7 @@ static void test_any_bytes(void)
                    && after.payload_number == (is_new ? UDP : before.payload_number), "payloads");
         counts[change.call]++;
     }
-    for (size_t i = 0; i <= CLEARED; i++) expect(counts[i] > 300, "packets that are written");
+    for (size_t i = 0; i <= IN_ORDER; i++) expect(counts[i] > 300, "packets that are written");
 }
 
 int main(void)

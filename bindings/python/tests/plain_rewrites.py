@@ -182,3 +182,22 @@ def cleared(data, may_be_invalid):
             new[2:4] = b"\0\0"
         headers.append((number, bytes(new)))
     return packet.written(headers, packet.number, packet.payload), True
+
+
+def in_order(data, may_be_invalid):
+    """Returns the packet with its headers in the order that RFC 8200, section 4.1, recommends, likewise."""
+    packet = Packet(data)
+    after_routing = len(packet.headers) - next((i for i, it in enumerate(reversed(packet.headers)) if it[0] == ROUTING), len(packet.headers))
+
+    def place(index):
+        number = packet.headers[index][0]
+        if number == DESTINATION_OPTIONS and index < after_routing:
+            number = ROUTING
+        return (HOP_BY_HOP, ROUTING, FRAGMENT, AUTHENTICATION, DESTINATION_OPTIONS).index(number)
+    order = sorted(range(len(packet.headers)), key=place)
+    if order != list(range(len(packet.headers))):
+        if any(is_fragmenting(it) for it in packet.headers):
+            raise Refused("FRAGMENTED")
+        if packet.is_covered(packet.headers, may_be_invalid):
+            raise Refused("AUTHENTICATED")
+    return packet.written([packet.headers[i] for i in order], packet.number, packet.payload), True

@@ -88,7 +88,7 @@ def random_insertion(rng):
 def random_change(rng):
     """Returns the names and the arguments of a change, for the package and for `plain_rewrites`."""
     may_be_invalid = rng.randrange(2) == 0
-    kind = rng.randrange(5)
+    kind = rng.randrange(6)
     if kind == 0:
         number = rng.choice([*plain.EXTENSIONS, rng.randrange(256)])
         return "without", (), {"number": number}, (lambda index, header: header[0] == number, may_be_invalid)
@@ -101,7 +101,7 @@ def random_change(rng):
     if kind == 3:
         payload = rng.choice([6, 17, 59, rng.randrange(64)]), bytes(rng.randrange(65000, 66000)) if rng.randrange(50) == 0 else random_payload(rng)
         return "with_payload", payload, {}, (*payload, may_be_invalid)
-    return "cleared", (), {}, (may_be_invalid,)
+    return "cleared" if kind == 4 else "in_order", (), {}, (may_be_invalid,)
 
 
 class RandomRewrites(unittest.TestCase):

@@ -1,4 +1,4 @@
-"""Tests of `without`, `with_header`, `with_payload` and `cleared`. Packets with the change are made here, and by scapy."""
+"""Tests of `without`, `with_header`, `with_payload`, `cleared` and `in_order`. Packets with the change are made here, and by scapy."""
 
 import copy
 import itertools
@@ -7,7 +7,7 @@ import unittest
 
 from support import LATER_FRAGMENT, TCP, UDP, authentication, fragment, header, ipv4, ipv6, ipv6_chain, options
 
-from wolfaren import Refusal, RewriteError, cleared, with_header, with_payload, without
+from wolfaren import Refusal, RewriteError, cleared, in_order, with_header, with_payload, without
 
 
 class Rewrites(unittest.TestCase):
@@ -56,6 +56,16 @@ class Rewrites(unittest.TestCase):
         packet[42] = 1
         self.assert_refused(Refusal.AUTHENTICATED, packet, call=cleared)
         self.assertEqual(cleared(packet, may_be_invalid=True), (ipv6_chain([51]), True))
+
+    def test_order(self):
+        for numbers, wanted in [([0, 60, 44, 43, 60], [0, 60, 43, 44, 60]), ([44, 43], [43, 44]), ([60, 44], [44, 60]), ([], []),
+                                ([0, 60, 43, 44, 60], [0, 60, 43, 44, 60])]:
+            self.assertEqual(in_order(ipv6_chain(numbers) + b"padding"), (ipv6_chain(wanted), True))
+        self.assert_refused(Refusal.AUTHENTICATED, ipv6_chain([60, 51]), call=in_order)
+        self.assertEqual(in_order(ipv6_chain([60, 51]), may_be_invalid=True), (ipv6_chain([51, 60]), True))
+        first = bytearray(ipv6_chain([44, 43]))
+        first[43] = 1
+        self.assert_refused(Refusal.FRAGMENTED, first, call=in_order)
 
     def test_checksums(self):
         packet = bytearray(ipv6_chain([43, 60]))
@@ -127,6 +137,9 @@ class Rewrites(unittest.TestCase):
         packets = [bytes(IPv6(dst="2001:db8::1") / it / upper) for it in (reserved, fragment_header)]
         self.assertNotEqual(*packets)
         self.assertEqual(cleared(packets[0]), (packets[1], True))
+        packets = [bytes(IPv6(dst="2001:db8::1") / one / other / upper)
+                   for one, other in itertools.permutations((IPv6ExtHdrDestOpt(), fragment_header), 2)]
+        self.assertEqual(in_order(packets[0]), (packets[1], True))
 
 
 if __name__ == "__main__":

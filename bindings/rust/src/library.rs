@@ -406,6 +406,15 @@ unsafe extern "C" {
         rewritten: *mut Rewritten,
     ) -> bool;
 
+    fn wolfaren_in_order(
+        bytes: *const u8,
+        len: usize,
+        may_be_invalid: bool,
+        out: *mut u8,
+        room: usize,
+        rewritten: *mut Rewritten,
+    ) -> bool;
+
     fn wolfaren_init_statistics(statistics: *mut Statistics);
 
     fn wolfaren_count_packet(statistics: *mut Statistics, bytes: *const u8, len: usize);
@@ -1016,6 +1025,15 @@ pub(crate) fn cleared(bytes: &[u8], may_be_invalid: bool, out: &mut [u8]) -> Rew
     // SAFETY: the bytes are a slice, which the call only reads. `out` is borrowed exclusively, so it doesn't overlap them.
     rewritten(out, |out, room, rewritten| unsafe {
         wolfaren_cleared(start, len, may_be_invalid, out, room, rewritten)
+    })
+}
+
+/// Writes the packet at the start of the bytes with its headers in the recommended order, to the start of `out`.
+pub(crate) fn in_order(bytes: &[u8], may_be_invalid: bool, out: &mut [u8]) -> Rewritten {
+    let (start, len) = (bytes.as_ptr(), bytes.len());
+    // SAFETY: the bytes are a slice, which the call only reads. `out` is borrowed exclusively, so it doesn't overlap them.
+    rewritten(out, |out, room, rewritten| unsafe {
+        wolfaren_in_order(start, len, may_be_invalid, out, room, rewritten)
     })
 }
 

@@ -134,6 +134,25 @@ pub fn cleared(
     result(&library::cleared(packet, may_be_invalid, out))
 }
 
+/// Writes a packet to the start of `out` with its extension headers in the order that RFC 8200, section 4.1, recommends:
+/// hop-by-hop options, routing headers and the destination options before any of them, fragment headers, authentication
+/// headers, other destination options. Headers of one such group keep their order. If `out` is as long as `packet`, the room
+/// is enough.
+///
+/// All else stays, as with [`without`].
+///
+/// # Errors
+///
+/// Why the packet can't be written. `out` is then unchanged.
+pub fn in_order(
+    packet: &[u8],
+    authentication: Authentication,
+    out: &mut [u8],
+) -> Result<Rewritten, RewriteError> {
+    let may_be_invalid = authentication == Authentication::Invalid;
+    result(&library::in_order(packet, may_be_invalid, out))
+}
+
 /// Returns what the library stored of a packet that was written, or why none was.
 fn result(written: &library::Rewritten) -> Result<Rewritten, RewriteError> {
     match written.refusal {

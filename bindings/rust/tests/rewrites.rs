@@ -1,10 +1,10 @@
-//! Tests `without`, `with_header`, `with_payload` and `cleared` with packets made here, by RFC 8200, section 4, and RFC 791,
-//! section 3.1.
+//! Tests `without`, `with_header`, `with_payload`, `cleared` and `in_order` with packets made here, by RFC 8200, section 4,
+//! and RFC 791, section 3.1.
 #![cfg(not(miri))]
 use wolfaren::err::RewriteError;
 use wolfaren::{
-    cleared, ip_number, with_header, with_payload, without, Authentication, IpNumber, Rewritten,
-    Which,
+    cleared, in_order, ip_number, with_header, with_payload, without, Authentication, IpNumber,
+    Rewritten, Which,
 };
 
 /// An IPv6 packet of headers with these numbers, each of 8 bytes or, for authentication, 16, and 4 bytes of payload.
@@ -273,4 +273,26 @@ fn reserved_bits() {
     let refused = clear(&covered, valid, 100);
     assert_eq!(refused, Err(RewriteError::Authenticated));
     assert_eq!(clear(&covered, invalid, 100), plain);
+}
+
+#[test]
+fn orders() {
+    let order = |bytes: &[u8], authentication, room| {
+        written_by(|out| in_order(bytes, authentication, out), room)
+    };
+    let (valid, invalid) = (Authentication::Valid, Authentication::Invalid);
+    let mixed = packet(&[0, 60, 44, 43, 60]);
+    let wanted = packet(&[0, 60, 43, 44, 60]);
+    assert_eq!(order(&mixed, valid, 84), Ok((wanted.clone(), true)));
+    assert_eq!(order(&mixed, valid, 83), Err(RewriteError::NoRoom));
+    assert_eq!(order(&wanted, valid, 84), Ok((wanted.clone(), true)));
+    let covered = packet(&[60, 51]);
+    assert_eq!(
+        order(&covered, valid, 100),
+        Err(RewriteError::Authenticated)
+    );
+    assert_eq!(order(&covered, invalid, 100), Ok((packet(&[51, 60]), true)));
+    let mut fragment = mixed;
+    fragment[59] = 1;
+    assert_eq!(order(&fragment, valid, 100), Err(RewriteError::Fragmented));
 }

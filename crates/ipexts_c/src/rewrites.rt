@@ -9,6 +9,7 @@ ghost use Rattle.ip_rewrite.specs.Without.{without, parts_without, without_fault
 ghost use Rattle.ip_rewrite.specs.Clearing.{clearing_fault};
 ghost use Rattle.ip_rewrite.specs.Payload.{payload_fault};
 ghost use Rattle.ip_rewrite.specs.Insertion.{inserted, insertion_fault};
+ghost use Rattle.ip_rewrite.specs.Order.{in_order, ordering_fault};
 ghost use Rattle.ip_rewrite.specs.declared.err.RewriteError.{RewriteError as Refusal};
 ghost use Rattle.ip_rewrite.specs.declared.which.Which.TheVariants.{Index};
 ghost use Rattle.ipexts_c.specs.Rewrites.{with_number, authentication, refusal_code, rewritten_fields, fields_without, refused_fields};
@@ -16,7 +17,8 @@ ghost use Rattle.ipexts_c.specs.Rewrites.{with_number, authentication, refusal_c
 use crate::bytes::Bytes;
 use ip_base::IpNumber;
 use ip_rewrite::{
-    Authentication, RewriteError, Rewritten, Which, cleared, with_header, with_payload, without,
+    Authentication, RewriteError, Rewritten, Which, cleared, in_order, with_header, with_payload,
+    without,
 };
 
 /// A packet that was written, or why none was, as numbers.
@@ -257,5 +259,31 @@ pub extern "C" fn wolfaren_cleared(
     ensures same { result ≡ false → out.new ≡ out.old }
 {
     let outcome = cleared(bytes.slice(), authentication(may_be_invalid), out);
+    stored(outcome, rewritten)
+}
+
+/// Calls `in_order`, as `wolfaren_without_number` calls `without`.
+#[unsafe(no_mangle)]
+pub extern "C" fn wolfaren_in_order(
+    bytes: Bytes<'_>,
+    may_be_invalid: bool,
+    out: &mut [u8],
+    rewritten: &mut RewrittenFields,
+) -> bool
+    ensures accepted { IsTrue result → ordering_fault (authentication may_be_invalid)
+        (dissected bytes.entry.slice.now) (length out.old) ≡ None }
+    ensures fields { IsTrue result → let p = dissected bytes.entry.slice.now in rewritten.new
+        ≡ rewritten_fields (rewritten_len p (in_order p.headers) p.payload) true }
+    ensures written { IsTrue result → let p = dissected bytes.entry.slice.now in out.new
+        ≡ packet_with p (in_order p.headers) p.number p.payload ++ drop rewritten.new.len out.old }
+    ensures dissects { IsTrue result → let p = dissected bytes.entry.slice.now in
+        dissected (take rewritten.new.len out.new)
+        ≡ rewritten_parts p (in_order p.headers) p.number p.payload }
+    ensures refused { result ≡ false → (e : Refusal) × (rewritten.new ≡ refused_fields e)
+        × (ordering_fault (authentication may_be_invalid)
+        (dissected bytes.entry.slice.now) (length out.old) ≡ Some e) }
+    ensures same { result ≡ false → out.new ≡ out.old }
+{
+    let outcome = in_order(bytes.slice(), authentication(may_be_invalid), out);
     stored(outcome, rewritten)
 }

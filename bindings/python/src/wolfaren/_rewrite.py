@@ -127,3 +127,15 @@ def cleared(packet: Buffer, *, may_be_invalid: bool = False) -> Rewritten:
     changed if `may_be_invalid` is true.
     """
     return _rewritten(lib.wolfaren_cleared, packet, may_be_invalid=may_be_invalid)
+
+
+def in_order(packet: Buffer, *, may_be_invalid: bool = False) -> Rewritten:
+    """Returns the packet at the start of the bytes with its extension headers in the order that RFC 8200, section 4.1, recommends.
+
+    That is hop-by-hop options, routing headers and the destination options before any of them, fragment headers, authentication
+    headers, other destination options. Headers of one such group keep their order. All else stays as it is, as with `without`.
+
+    Raises `RewriteError` if that can't be. The order of a packet with an authentication header can only be changed if
+    `may_be_invalid` is true.
+    """
+    return _rewritten(lib.wolfaren_in_order, packet, may_be_invalid=may_be_invalid)

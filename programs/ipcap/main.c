@@ -16,7 +16,7 @@ static const char usage[] =
     "       ipcap filter --help-terms\n"
     "       ipcap show [-c N] [--defrag] [--color=WHEN | --one-line | --json | --csv] [FILE]\n"
     "       ipcap defrag [--keep] [--slots N] [-w OUTPUT] [FILE]\n"
-    "       ipcap rewrite [--without HEADER] [--clear] [--break-authentication] [-w OUTPUT] [FILE]\n"
+    "       ipcap rewrite [--without HEADER] [--clear] [--in-order] [--break-authentication] [-w OUTPUT] [FILE]\n"
     "       ipcap --help | --version\n"
     "Counts, filters, draws and changes chains of IP extension headers in captures.\n"
     "See `ipcap COMMAND --help` for each command, and the manual page ipcap(1).\n";

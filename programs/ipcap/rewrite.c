@@ -12,10 +12,11 @@
 #include "rewriter.h"
 
 static const char usage[] =
-    "usage: ipcap rewrite [--without HEADER] [--clear] [--break-authentication] [-w OUTPUT] [FILE]\n"
-    "Writes the packets of FILE, or standard input, with changed extension headers. --without or --clear says how.\n"
+    "usage: ipcap rewrite [--without HEADER] [--clear] [--in-order] [--break-authentication] [-w OUTPUT] [FILE]\n"
+    "Writes the packets of FILE, or standard input, with changed extension headers. The first three options say how.\n"
     "  --without HEADER        leave out this header, such as `hop-by-hop` or 0; can be given several times\n"
     "  --clear                 set the reserved bits of fragment and authentication headers to zero\n"
+    "  --in-order              put headers in the order that RFC 8200, section 4.1, recommends\n"
     "  --break-authentication  also change packets that keep an authentication header: its check value is then wrong\n"
     "  -w OUTPUT               write to this file instead of standard output\n"
     "  --help                  print this help\n"
@@ -26,6 +27,7 @@ struct request {
     const char *output;
     uint64_t without;
     bool clears;
+    bool orders;
     bool breaks_authentication;
 };
 
@@ -33,6 +35,7 @@ static const struct option_row options[] = {
     {"w", read_text_argument, offsetof(struct request, output), "a path"},
     {"without", read_header_argument, offsetof(struct request, without), "an extension header, such as hop-by-hop or 0"},
     {"clear", set_flag, offsetof(struct request, clears), NULL},
+    {"in-order", set_flag, offsetof(struct request, orders), NULL},
     {"break-authentication", set_flag, offsetof(struct request, breaks_authentication), NULL},
 };
 
@@ -55,7 +58,11 @@ static bool rewrite_file(const struct request *request, const char *path)
     struct input input;
     struct output output = {0};
     struct rewriter rewriter = {
-        .without = request->without, .clears = request->clears, .breaks_authentication = request->breaks_authentication};
+        .without = request->without,
+        .clears = request->clears,
+        .orders = request->orders,
+        .breaks_authentication = request->breaks_authentication,
+    };
     if (!open_input(&input, path)) return false;
     if (!is_standard_stream(request->output)) allow_progress(&input);
     bool is_done = open_copy(&output, request->output, &input.capture, path, begin_output)
@@ -70,8 +77,8 @@ int run_rewrite(int count, char **arguments)
     struct request request = {0};
     int status = read_options(count, arguments, usage, options, sizeof options / sizeof *options, &request);
     if (status >= 0) return status;
-    if (request.without == 0 && !request.clears)
-        return refuse_usage(usage, "--without or --clear is missing: there is nothing to rewrite");
+    if (request.without == 0 && !request.clears && !request.orders)
+        return refuse_usage(usage, "--without, --clear or --in-order is missing: there is nothing to rewrite");
     if (count - optind > 1) return refuse_usage(usage, "rewrite reads a single file");
     if (is_standard_stream(request.output) && isatty(STDOUT_FILENO))
         return refuse_usage(usage, "refusing to write a capture to a terminal: use -w or a pipe");

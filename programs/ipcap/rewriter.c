@@ -48,15 +48,57 @@ static bool is_reserved_set(const uint8_t *header, uint8_t number)
     return number == WOLFAREN_AUTHENTICATION && (header[2] != 0 || header[3] != 0);
 }
 
-/* Whether a packet has a header with such a bit, as far as its headers are there. */
-static bool has_reserved(const struct rewriter *rewriter, struct span packet)
+/* Stores where the headers of a packet that are there begin. Returns their number. */
+static size_t find_headers(const struct rewriter *rewriter, struct span packet)
 {
     struct wolfaren_dissection dissection;
-    if (!has_header(UINT64_C(1) << WOLFAREN_FRAGMENT | UINT64_C(1) << WOLFAREN_AUTHENTICATION, packet)) return false;
     wolfaren_dissect(packet.bytes, packet.len, rewriter->headers, most_headers(rewriter->room), &dissection);
-    for (size_t i = 0; i < dissection.headers; i++)
+    return dissection.headers;
+}
+
+/* Whether a reserved bit is 1 in the headers of a packet that are there. */
+static bool has_reserved(const struct rewriter *rewriter, struct span packet)
+{
+    if (!has_header(UINT64_C(1) << WOLFAREN_FRAGMENT | UINT64_C(1) << WOLFAREN_AUTHENTICATION, packet)) return false;
+    const size_t count = find_headers(rewriter, packet);
+    for (size_t i = 0; i < count; i++)
         if (is_reserved_set(packet.bytes + rewriter->headers[i].offset, rewriter->headers[i].number)) return true;
     return false;
+}
+
+/* Returns the place of a header in the recommended order. Destination options before a routing header belong to it. */
+static int place_in_order(uint8_t number, bool is_before_routing)
+{
+    switch (number) {
+    case WOLFAREN_HOP_BY_HOP: return 0;
+    case WOLFAREN_ROUTING: return 1;
+    case WOLFAREN_FRAGMENT: return 2;
+    case WOLFAREN_AUTHENTICATION: return 3;
+    default: return is_before_routing ? 1 : 4;
+    }
+}
+
+/* Whether the headers of a packet that are there are in another order than RFC 8200, section 4.1, recommends. */
+static bool is_out_of_order(const struct rewriter *rewriter, struct span packet)
+{
+    int before = 0;
+    size_t last_routing = 0;
+    const size_t count = find_headers(rewriter, packet);
+    for (size_t i = 0; i < count; i++)
+        if (rewriter->headers[i].number == WOLFAREN_ROUTING) last_routing = i;
+    for (size_t i = 0; i < count; i++) {
+        const int place = place_in_order(rewriter->headers[i].number, i < last_routing);
+        if (place < before) return true;
+        before = place;
+    }
+    return false;
+}
+
+/* Whether there is something to change in a packet. */
+static bool is_concerned(const struct rewriter *rewriter, struct span packet)
+{
+    return has_header(rewriter->without, packet) || (rewriter->clears && has_reserved(rewriter, packet))
+        || (rewriter->orders && is_out_of_order(rewriter, packet));
 }
 
 /* Returns the place for the next result. */
@@ -87,13 +129,15 @@ static uint8_t leave_out(const struct rewriter *rewriter, struct change *change)
     return WOLFAREN_NOT_REFUSED;
 }
 
-/* Clears the reserved bits, likewise. */
-static uint8_t clear(const struct rewriter *rewriter, struct change *change)
+/* A call of the library that changes all headers of a packet. */
+typedef bool change_call(const uint8_t *bytes, size_t len, bool may_be_invalid, uint8_t *out, size_t room,
+                         struct wolfaren_rewritten *rewritten);
+
+/* Makes such a change. Returns WOLFAREN_NOT_REFUSED, or why the packet is refused. */
+static uint8_t make_change(const struct rewriter *rewriter, struct change *change, change_call *call)
 {
     struct wolfaren_rewritten done;
-    if (!rewriter->clears || !has_reserved(rewriter, change->packet)) return WOLFAREN_NOT_REFUSED;
-    if (!wolfaren_cleared(change->packet.bytes, change->packet.len, rewriter->breaks_authentication, place_for(change),
-                          change->room, &done))
+    if (!call(change->packet.bytes, change->packet.len, rewriter->breaks_authentication, place_for(change), change->room, &done))
         return done.refusal;
     take_result(change, &done);
     return WOLFAREN_NOT_REFUSED;
@@ -161,8 +205,12 @@ static bool has_captured_len(const struct packet *packet)
 static uint8_t make_changes(const struct rewriter *rewriter, const struct packet *packet, struct change *change)
 {
     if (!has_captured_len(packet)) return WOLFAREN_REFUSED_MISSING;
-    const uint8_t refusal = leave_out(rewriter, change);
-    return refusal != WOLFAREN_NOT_REFUSED ? refusal : clear(rewriter, change);
+    uint8_t refusal = leave_out(rewriter, change);
+    if (refusal == WOLFAREN_NOT_REFUSED && rewriter->clears && has_reserved(rewriter, change->packet))
+        refusal = make_change(rewriter, change, wolfaren_cleared);
+    if (refusal == WOLFAREN_NOT_REFUSED && rewriter->orders && is_out_of_order(rewriter, change->packet))
+        refusal = make_change(rewriter, change, wolfaren_in_order);
+    return refusal;
 }
 
 bool rewrite_packet(struct rewriter *rewriter, struct packet *packet)
@@ -170,7 +218,7 @@ bool rewrite_packet(struct rewriter *rewriter, struct packet *packet)
     struct span old = {packet->frame + packet->ip_offset, packet->header.caplen - packet->ip_offset};
     if (!packet->is_ip || packet->is_left_out) return true;
     if (!reserve(rewriter, packet->block ? packet->block_len : packet->header.caplen)) return false;
-    if (!has_header(rewriter->without, old) && !(rewriter->clears && has_reserved(rewriter, old))) return true;
+    if (!is_concerned(rewriter, old)) return true;
     struct change change = {old, rewriter->buffer + rewriter->room, rewriter->room, true};
     const uint8_t refusal = make_changes(rewriter, packet, &change);
     if (refusal != WOLFAREN_NOT_REFUSED) {

@@ -14,25 +14,29 @@ enum { REFUSALS = 11 };
 
 /* All zeros are one that changes nothing. */
 struct rewriter {
-    uint64_t without;               /* the extension headers that are left out: a bit for each number */
-    bool clears;                    /* reserved bits are set to zero */
-    bool breaks_authentication;     /* packets that keep an authentication header are changed, too */
-    uint64_t refused[REFUSALS];     /* number of packets that weren't changed, by the library's refusal */
-    uint64_t without_checksums;     /* number of packets that were, but whose transport checksums don't hold any more */
-    uint64_t without_check_values;  /* number of those whose authentication headers don't */
-    uint8_t *buffer;                /* of the last packet that was changed */
-    struct wolfaren_header *headers; /* of a packet */
+    uint64_t without;                /* the extension headers that are left out: a bit for each number */
+    bool clears;                     /* reserved bits are set to zero */
+    bool orders;                     /* headers are put in the recommended order */
+    bool breaks_authentication;      /* packets that keep an authentication header are changed, too */
+    uint64_t refused[REFUSALS];      /* number of packets that weren't changed, by the library's refusal */
+    uint64_t without_checksums;      /* number of packets that were, but whose transport checksums don't hold any more */
+    uint64_t without_check_values;   /* number of those whose authentication headers have a wrong check value */
+    uint8_t *buffer;                 /* of the last packet that was changed */
+    struct wolfaren_header *headers; /* of the packet */
     size_t room;
 };
 
 /*
- * Changes a packet that was read: leaves headers out, and then clears reserved bits, if it has such headers or bits. Everything
- * else in its frame and its block stays. A packet that the library refuses is as it was, and counted. What the packet refers to is valid until the next call. If memory runs out,
- * reports that and returns false.
+ * Changes a packet that was read: leaves headers out, then clears reserved bits, then orders the headers. Everything else in
+ * its frame and its block stays. A packet that the library refuses is as it was, and counted. What the packet refers to is
+ * valid until the next call. If memory runs out, reports that and returns false.
  */
 bool rewrite_packet(struct rewriter *rewriter, struct packet *packet);
 
-/* Reports how many packets of the capture were refused, by reason, and how many have checksums or check values that don't hold. */
+/*
+ * Reports how many packets of the capture were refused, by reason, and how many have checksums or check values that no longer
+ * hold.
+ */
 void report_rewrites(const struct rewriter *rewriter, const char *name);
 
 void end_rewriter(struct rewriter *rewriter);

@@ -135,6 +135,50 @@ def reserved_bits_refused(harness):
     harness.equal(found, ([covered], message(1, BROKEN)), "IPv4")
 
 
+def ordered(numbers):
+    """The numbers of headers in the order that RFC 8200, section 4.1, recommends. Destination options before a routing header
+    belong to it."""
+    places = [1 if number == 60 and 43 in numbers[i:] else [0, 43, 44, 51, 60].index(number) for i, number in enumerate(numbers)]
+    return [number for _, number in sorted(zip(places, numbers), key=lambda it: it[0])]
+
+
+def orders(harness):
+    """Any headers of any chain are put in order, after headers were left out and reserved bits cleared."""
+    for left_out, bits, breaks in itertools.product([[], [60], [51, 0]], [0, 0xffff], [False, True]):
+        frames, wanted, covered, broken = [], [], 0, 0
+        for numbers in chains(4):
+            kept = [it for it in numbers if it not in left_out]
+            is_changed = kept != numbers or ordered(kept) != kept or with_reserved(kept, bits)[1]
+            frames.append(ethernet(with_reserved(numbers, bits)[0]))
+            is_covered = is_changed and 51 in kept and not breaks
+            wanted.append(ethernet(ipv6_chain(ordered(kept))) if is_changed and not is_covered else frames[-1])
+            covered += is_covered
+            broken += is_changed and 51 in kept and breaks
+        words = ["--in-order"] + ["--clear"] * (bits != 0) + ["--break-authentication"] * breaks
+        found = rewrite(harness, frames, *left_out, options=words)
+        harness.equal(found[0], wanted, "orders", bits, left_out)
+        harness.equal(found[1], message(covered, "unchanged: " + COVERED) + message(broken, BROKEN), "messages", bits, left_out)
+    tagged = [ipv6(60, options(60) + options(60, 1) + options(44, 2) + fragment(17) + UDP),
+              ipv6(44, fragment(60) + options(60) + options(60, 1) + options(17, 2) + UDP)]
+    harness.equal(rewrite(harness, [ethernet(tagged[0])], options=["--in-order"]), ([ethernet(tagged[1])], ""), "headers of one kind")
+
+
+def orders_refused(harness):
+    """A packet whose order can't be changed is counted by its reason. Others of its kind that are in order aren't."""
+    def rows(one, other):
+        first = ipv6(one, header(one, other) + header(other, 44) + fragment(60, 0, 1) + options(17) + bytes(8))
+        later = ipv6(one, header(one, other) + header(other, 44) + LATER_FRAGMENT[40:])
+        faulty = ipv6(one, header(one, other) + header(other, 60) + b"\x11\x09" + bytes(6))
+        return [(first, "a header in the part that is fragmented"), (later, "a later fragment"),
+                (faulty, "headers that are truncated or faulty"), (ipv6(one, header(one, other) + header(other, 17), 60), "bytes that are missing"),
+                (ipv6_chain([one, other, 51]), COVERED)]
+    for refused_packet, reason in rows(44, 43):
+        frame = ethernet(refused_packet)
+        harness.equal(rewrite(harness, [frame] * 2, options=["--in-order"]), ([frame] * 2, message(2, "unchanged: " + reason)), reason)
+    frames = [ethernet(it) for it, _ in rows(43, 44)] + [ethernet(b"\x60"), ethernet(ipv4(51, authentication(6) + TCP))]
+    harness.equal(rewrite(harness, frames, options=["--in-order"]), (frames, ""), "in order")
+
+
 def other_bytes(harness):
     """All bytes but those of the header stay: of other packets, link layers, and after the packet."""
     plain, arp = ethernet(ipv6_chain([])), ethernet(bytes(28), (), 0x0806)
@@ -227,7 +271,7 @@ def forms_of_files(harness):
         harness.equal(found, (0, native, "", None), "classic form", magic, order)
 
 
-def random_packet(rng, left_out, clears, breaks):
+def random_packet(rng, left_out, clears, orders_them, breaks):
     """A frame, the one that is wanted, whether it is refused, and whether its authentication is broken: chains of any length."""
     numbers = [rng.choice([43, 60, 51, 60, 44]) for _ in range(rng.randint(0, 12))]
     numbers = [0] * rng.randint(0, 1) + numbers
@@ -235,9 +279,10 @@ def random_packet(rng, left_out, clears, breaks):
     bits, padding = rng.choice([0, rng.getrandbits(16)]), bytes(rng.randint(0, 9))
     kept = [it for it in numbers if it not in left_out]
     old = ethernet(with_reserved(numbers, bits, units, data)[0]) + padding
-    new, is_set = with_reserved(kept, bits, units, data)
-    is_changed = kept != numbers or is_set and clears
-    new = ethernet(ipv6_chain(kept, payload=data, units=units) if clears else new) + padding
+    is_set = with_reserved(kept, bits, units, data)[1]
+    new = ordered(kept) if orders_them else kept
+    is_changed = new != numbers or is_set and clears
+    new = ethernet(with_reserved(new, 0 if clears else bits, units, data)[0]) + padding
     is_covered = is_changed and 51 in kept
     is_refused = is_covered and not breaks
     return old, old if is_refused else new, is_refused, is_covered and breaks
@@ -247,12 +292,12 @@ def random_packets(harness):
     """Random changes of random chains."""
     for seed in range(60):
         rng = random.Random(seed)
-        clears, breaks = seed % 3 == 0, seed % 2 == 0
-        left_out = rng.sample([0, 43, 44, 51, 60], rng.randint(0 if clears else 1, 5))
-        rows = [random_packet(rng, left_out, clears, breaks) for _ in range(200)]
+        clears, breaks, orders_them = seed % 3 == 0, seed % 2 == 0, seed % 5 < 2
+        left_out = rng.sample([0, 43, 44, 51, 60], rng.randint(0 if clears or orders_them else 1, 5))
+        rows = [random_packet(rng, left_out, clears, orders_them, breaks) for _ in range(200)]
         content = capture([row[0] for row in rows])
         command = harness.run if seed < 6 else lambda *words, content: harness.answer(harness.plain, words, content, None)
-        words = arguments_for(left_out) + ["--clear"] * clears + ["--break-authentication"] * breaks
+        words = arguments_for(left_out) + ["--clear"] * clears + ["--in-order"] * orders_them + ["--break-authentication"] * breaks
         found = command("rewrite", *words, content=content)
         harness.equal(found[1], capture([row[1] for row in rows]), "random chains", seed, words)
         count, broken = [sum(row[i] for row in rows) for i in (2, 3)]
@@ -311,6 +356,9 @@ def scapy_agrees(harness):
     harness.equal(rewrite(harness, list(frames), "ah"), (list(wanted), ""), "IPv4")
     frames, wanted = zip(*[map(ethernet, reserved_in_scapy(it, *bits)) for it in upper for bits in [(255, 3), (1, 0), (0, 1), (0, 2)]])
     harness.equal(rewrite(harness, list(frames), options=["--clear", "--break-authentication"])[0], list(wanted), "reserved bits")
+    frames, wanted = zip(*[[ethernet(built(numbers, it)) for numbers in rows] for it in upper
+                           for rows in [([60, 43], [60, 43]), ([44, 43], [43, 44]), ([0, 44, 60, 43], [0, 60, 43, 44]), ([60, 44], [44, 60])]])
+    harness.equal(rewrite(harness, list(frames), options=["--in-order"]), (list(wanted), ""), "orders")
 
 
 # what differs in a packet without a header, besides the fields of the header and the next header fields of others
@@ -360,6 +408,14 @@ def tshark_agrees(harness):
     names = [word for name in reserved for word in ("-e", name)]
     found = [harness.tshark(harness.file(it), "-T", "fields", *names) for it in (content, written)]
     harness.equal([set(it.split()) for it in found], [{b"0xff", b"3", b"ff03"}, {b"0x00", b"0", b"0000"}], "reserved bits")
+    content = capture([ethernet(built(numbers, it)) for it in upper for numbers in [[44, 43], [0, 44, 60, 43], [60, 44]]])
+    written = harness.run("rewrite", "--in-order", content=content)[1]
+    before, after = fields_of(harness, content), fields_of(harness, written)
+    harness.equal([sorted(it) for it in after], [sorted(it) for it in before], "fields in another order")
+    protocols = harness.tshark(harness.file(written), "-T", "fields", "-e", "frame.protocols").decode().split()
+    wanted = ["ipv6.routing:ipv6.fraghdr", "ipv6.hopopts:ipv6.dstopts:ipv6.routing:ipv6.fraghdr", "ipv6.fraghdr:ipv6.dstopts"]
+    harness.check(len(protocols) == len(upper) * 3 and all(":ipv6:%s:" % it in found for it, found in zip(wanted * len(upper), protocols)),
+                  "orders as tshark finds them", protocols)
 
 
 def wrong_usage(harness):
@@ -369,7 +425,7 @@ def wrong_usage(harness):
         harness.equal(harness.run("rewrite", *arguments)[0], 2, "status of", arguments)
     for arguments in [[], [path], ["--break-authentication", path]]:
         found = harness.run("rewrite", *arguments)
-        harness.check(found[0] == 2 and "--without or --clear is missing" in found[2], arguments, found)
+        harness.check(found[0] == 2 and "--without, --clear or --in-order is missing" in found[2], arguments, found)
     for name in ["", "17", "tcp", "256", "-1", "0 or ip", "0)", "esp", "h", "hop-by-hop ", " 0", "0,60", "x" * 100, "044"]:
         found = harness.run("rewrite", "--without", name, path)
         harness.equal(found[0], 2, "status of --without", name)

@@ -210,7 +210,7 @@ def damaged_captures(harness):
         for _ in range(draw.choice([1, 2, 5, 20])):
             place = draw.randrange(0 if number % 4 == 0 else 24, len(changed))
             changed[place] = draw.choice([0, 1, 255, draw.randrange(256)])
-        command = [["stat"], ["show"], ["filter", "header 44 or fault"], ["rewrite", "--without", "0", "--without", "51", "--clear"]][number % 4]
+        command = [["stat"], ["show"], ["filter", "header 44 or fault"], ["rewrite", "--without", "0", "--without", "51", "--clear", "--in-order"]][number % 4]
         status, _, errors, _ = harness.run(*command, content=bytes(changed))
         errors = re.sub(r"ipcap: .*: \d+ packets? (unchanged:|with a transport) .*\n", "", errors)
         harness.equal(status == 0, errors == "", command, bytes(changed).hex(), errors)

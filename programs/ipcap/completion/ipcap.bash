@@ -39,7 +39,7 @@ _ipcap() {
         filter) options='-c -n -r -w --since --until --packets --defrag --show --help-terms' ;;
         show) options='-c --defrag --color= --one-line --json --csv' ;;
         defrag) options='-w --keep --slots' ;;
-        rewrite) options='-w --without --clear --break-authentication' ;;
+        rewrite) options='-w --without --clear --in-order --break-authentication' ;;
         *) return ;;
     esac
     _ipcap_argument "${COMP_WORDS[COMP_CWORD-1]}" "$word" && return

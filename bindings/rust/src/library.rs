@@ -251,7 +251,7 @@ const _: () = {
 
 /// `WOLFAREN_ABI`: the checksum of the header that this file was written for (`scripts/abi` of the repository).
 #[cfg(all(test, not(miri)))]
-pub(crate) const ABI: u32 = 0xc4da_c5d1;
+pub(crate) const ABI: u32 = 0x74a4_5a81;
 
 unsafe extern "C" {
     fn wolfaren_parse_chain(

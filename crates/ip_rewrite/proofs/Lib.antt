@@ -12,5 +12,6 @@ pub mod ClearingLemmas
 pub mod InsertionLemmas
 pub mod RestoringLemmas
 pub mod RestatedLemmas
+pub mod AcceptedLemmas
 pub mod OrderLemmas
 pub mod OrderLawLemmas

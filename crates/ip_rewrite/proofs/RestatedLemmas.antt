@@ -1,5 +1,5 @@
 -- A packet whose length and checksum are stated anew.
-use Rattle.ip_spec.proofs.Common.{◌≡◌, ◌≢◌, ℕ, ◌+◌, ◌-◌, ◌*◌, ◌/◌, ◌%◌, ◌≤◌, ◌<◌, List, ◌++◌, length, take, drop, inl, inr, subst, refl, sym, ◌∙◌, ap, arith, common_steps, Bool, true, false, false≢true, cases_Bool, eqb-true, ne_eqb, cond-false, if◌then◌else◌, ◌&&◌, ◌==◌, not, nat_lt, slice_set, slice_index, length-append, length-drop, length-take-le, length-take, get_or-take, append_assoc, Option, Some, None, is_some, AreBytes, ExtHeader, bytes_of, from_be_bytes}
+use Rattle.ip_spec.proofs.Common.{◌≡◌, ℕ, ◌+◌, ◌-◌, ◌*◌, ◌/◌, ◌%◌, ◌≤◌, ◌<◌, List, ◌++◌, length, take, drop, inl, inr, subst, refl, sym, ◌∙◌, ap, arith, common_steps, Bool, true, false, false≢true, cases_Bool, eqb-true, ne_eqb, cond-false, if◌then◌else◌, ◌&&◌, ◌==◌, not, nat_lt, slice_set, slice_index, length-append, length-drop, length-take-le, length-take, get_or-take, Option, Some, None, is_some, AreBytes, bytes_of, from_be_bytes}
 use Rattle.std.specs.Prelude.{max}
 use Rattle.std.specs.Int.{w16}
 use Rattle.std.proofs.lemmas.List.{set-get_or}
@@ -8,7 +8,7 @@ use Rattle.ip_base.specs.Ipv6Header.{payload_length, ipv6_next_header}
 use Rattle.ip_base.specs.BaseHeaderFields.{ipv4_checksum}
 use Rattle.ip_defragmenter.specs.Whole.{with_word}
 use Rattle.ip_defragmenter.specs.Checksum.{checksum_of}
-use Rattle.ip_dissect.specs.Extent.{packet_bytes, after_base, missing_of, ipv4_stated, ipv6_stated, ipv4_chain, ipv6_chain}
+use Rattle.ip_dissect.specs.Extent.{packet_bytes, missing_of, ipv4_stated, ipv6_stated, ipv4_chain, ipv6_chain}
 use Rattle.ip_dissect.specs.End.{has_error, is_too_short}
 use Rattle.ip_dissect.specs.Dissection.{DissectedParts, ipv4_dissected, ipv6_dissected, dissected}
 use Rattle.ip_dissect.specs.declared.end.End.{End}
@@ -21,7 +21,7 @@ use Rattle.ip_rewrite.specs.Rewritten.{rewritten_field, restated}
 use Rattle.ip_rewrite.specs.Without.{packet_fault}
 use Rattle.ip_rewrite.proofs.FieldLemmas.{word_bytes}
 use Rattle.ip_rewrite.proofs.RestoringLemmas.{word_word}
-use Rattle.ip_rewrite.proofs.DissectLemmas.{IsWhole, whole_packet}
+use Rattle.ip_rewrite.proofs.DissectLemmas.{whole_packet}
 
 -- a word that is stored where it was
 word_value : (b : List ℕ) (i : ℕ) → from_be_bytes w16 (take 2 (drop i b)) ≡ 256 * slice_index b i + slice_index b (i + 1)

@@ -62,7 +62,7 @@ twice v b k n u t = elim (cases_Bool (v == 4)) [
 ]
 
 -- Headers that differ in nothing but to which number they lead.
-abbrev Alike : List ExtHeader → List ExtHeader → Type 0
+abbrev pub Alike : List ExtHeader → List ExtHeader → Type 0
 Alike [] [] = Unit {0}
 Alike [] (h ∷ d) = ⊥
 Alike (g ∷ c) [] = ⊥
@@ -115,16 +115,16 @@ kept_index i j (suc n) h (g ∷ c) at within =
 
 -- the packet without the header
 module _ (i : ℕ) (h : ExtHeader) (p : DissectedParts) (chain : IsWholeChain p) (within : i ≤ length p.headers) where
-  abbrev new : DissectedParts
+  abbrev pub new : DissectedParts
   new = rewritten_parts p (inserted i h p.headers) p.number p.payload
 
-  abbrev left : List ExtHeader
+  abbrev pub left : List ExtHeader
   left = kept (Index i) new.headers
 
   abbrev byte : ℕ
   byte = slice_index p.base (number_offset p.version)
 
-  alike : Alike left p.headers
+  pub alike : Alike left p.headers
   alike = subst (Alike left) (kept_index i 0 i h p.headers (omega arith) within) (kept_alike i 0 new.headers (inserted i h p.headers) (linked_alike p.number (inserted i h p.headers)))
 
   links : linked_headers p.number left ≡ p.headers
@@ -133,13 +133,13 @@ module _ (i : ℕ) (h : ExtHeader) (p : DissectedParts) (chain : IsWholeChain p)
   first : number_of_first left p.number ≡ byte
   first = alike_first p.number left p.headers alike ∙ (ap (number_of_first p.headers) chain.number ∙ first_is byte p.headers chain.chain.links)
 
-  size : length (bytes_of left) ≡ length (bytes_of p.headers)
+  pub size : length (bytes_of left) ≡ length (bytes_of p.headers)
   size = sym (joined_len left p.number) ∙ ap (λ c. length (bytes_of c)) links
 
-  base_size : length new.base ≡ length p.base
+  pub base_size : length new.base ≡ length p.base
   base_size = stating_len p.version (slice_set p.base (number_offset p.version) (number_of_first (inserted i h p.headers) p.number)) (rewritten_field p (inserted i h p.headers) p.payload) ∙ length-set p.base (number_offset p.version) (number_of_first (inserted i h p.headers) p.number)
 
-  field : is_unstated new ≡ is_unstated p → rewritten_field new left p.payload ≡ rewritten_field p p.headers p.payload
+  pub field : is_unstated new ≡ is_unstated p → rewritten_field new left p.payload ≡ rewritten_field p p.headers p.payload
   field same = field_same p.version (is_unstated new) (is_unstated p) new.base p.base (length (bytes_of left) + length p.payload) (length (bytes_of p.headers) + length p.payload) same base_size (omega (arith, size))
     where
       field_same : (v : ℕ) (x y : Bool) (b d : List ℕ) (n k : ℕ) → x ≡ y → length b ≡ length d → n ≡ k → length_field v x b n ≡ length_field v y d k
@@ -180,11 +180,11 @@ insertable a i h p room e =
     record { whole = first.0; header = is_one a i h p second.0; small = field_fits p (inserted i h p.headers) p.payload room second.1 }
 
 module _ (a : Authentication) (i : ℕ) (h : ExtHeader) (room : ℕ) where
-  abbrev Restores : DissectedParts → Type 0
-  Restores p = insertion_fault a i h p room ≡ None → IsWholeChain p → without (Index i) (rewritten_parts p (inserted i h p.headers) p.number p.payload) ≡ restated p
+  abbrev StatesAsBefore : DissectedParts → Type 0
+  StatesAsBefore p = insertion_fault a i h p room ≡ None → is_unstated (rewritten_parts p (inserted i h p.headers) p.number p.payload) ≡ is_unstated p
 
-  restores6 : (s b : List ℕ) → BeginIpv6 s b → Restores (ipv6_dissected b s)
-  restores6 s b v e chain =
+  states6 : (s b : List ℕ) → BeginIpv6 s b → StatesAsBefore (ipv6_dissected b s)
+  states6 s b v e =
       let p : DissectedParts = ipv6_dissected b s in
       let c : List ExtHeader = inserted i h p.headers in
       let new : IsInsertable a i h p room = insertable a i h p room e in
@@ -192,12 +192,11 @@ module _ (a : Authentication) (i : ℕ) (h : ExtHeader) (room : ℕ) where
       let stated : payload_length (base_for p c p.number p.payload) ≡ t = stated6 b v.header c p.number t p.payload new.small in
       let some : 0 < length (bytes_of c) = inserted_some i h p.headers new.header in
       let size : length (bytes_of (linked_headers p.number c)) ≡ length (bytes_of c) = joined_len c p.number in
-      restored i h p chain (index_within a i h p room e)
-      (unstated_is (is_unstated p) t (length (bytes_of c) + length p.payload) (40 + t) (length (bytes_of (linked_headers p.number c)) + length p.payload) (rewritten_parts p c p.number p.payload).stated refl (omega (arith, some))
-      (ap (λ (n : ℕ). let o : Option ℕ = if n == 0 then None else Some (40 + n) in o) stated) (omega (arith, some, size)))
+      unstated_is (is_unstated p) t (length (bytes_of c) + length p.payload) (40 + t) (length (bytes_of (linked_headers p.number c)) + length p.payload) (rewritten_parts p c p.number p.payload).stated refl (omega (arith, some))
+      (ap (λ (n : ℕ). let o : Option ℕ = if n == 0 then None else Some (40 + n) in o) stated) (omega (arith, some, size))
 
-  restores4 : (s b : List ℕ) → BeginIpv4 s b → Restores (ipv4_dissected b s)
-  restores4 s b v e chain =
+  states4 : (s b : List ℕ) → BeginIpv4 s b → StatesAsBefore (ipv4_dissected b s)
+  states4 s b v e =
       let p : DissectedParts = ipv4_dissected b s in
       let c : List ExtHeader = inserted i h p.headers in
       let new : IsInsertable a i h p room = insertable a i h p room e in
@@ -205,9 +204,8 @@ module _ (a : Authentication) (i : ℕ) (h : ExtHeader) (room : ℕ) where
       let stated : total_len (base_for p c p.number p.payload) ≡ t = stated4 b v.header c p.number t p.payload new.small in
       let some : 0 < length (bytes_of c) = inserted_some i h p.headers new.header in
       let size : length (bytes_of (linked_headers p.number c)) ≡ length (bytes_of c) = joined_len c p.number in
-      restored i h p chain (index_within a i h p room e)
-      (unstated_is (is_unstated p) t (length b + (length (bytes_of c) + length p.payload)) t (length (bytes_of (linked_headers p.number c)) + length p.payload) (rewritten_parts p c p.number p.payload).stated refl (omega (arith, some))
-      (ap (λ (n : ℕ). let o : Option ℕ = if n == 0 then None else Some n in o) stated) (omega (arith, some, size)))
+      unstated_is (is_unstated p) t (length b + (length (bytes_of c) + length p.payload)) t (length (bytes_of (linked_headers p.number c)) + length p.payload) (rewritten_parts p c p.number p.payload).stated refl (omega (arith, some))
+      (ap (λ (n : ℕ). let o : Option ℕ = if n == 0 then None else Some n in o) stated) (omega (arith, some, size))
 
   -- by the version
   version4 : (s : List ℕ) → base_end s ≡ None → version s ≡ 4 → (dissected s).version ≡ 4
@@ -218,25 +216,33 @@ module _ (a : Authentication) (i : ℕ) (h : ExtHeader) (room : ℕ) where
   unfolding dissected
   version6 s none six = rw (none, six) refl
 
-  abbrev Restored : List ℕ → Type 0
-  Restored s = without (Index i) (rewritten_parts (dissected s) (inserted i h (dissected s).headers) (dissected s).number (dissected s).payload) ≡ restated (dissected s)
+  -- what is known of the packet
+  pub record IsKnown (s : List ℕ) : Type 0 where
+    pub chain : IsWholeChain (dissected s)
+    pub states : is_unstated (rewritten_parts (dissected s) (inserted i h (dissected s).headers) (dissected s).number (dissected s).payload) ≡ is_unstated (dissected s)
 
-  restores_based : (s : List ℕ) → base_end s ≡ None → insertion_fault a i h (dissected s) room ≡ None → Restored s
-  restores_based s none e =
+  known_based : (s : List ℕ) → base_end s ≡ None → insertion_fault a i h (dissected s) room ≡ None → IsKnown s
+  known_based s none e =
       let whole : packet_fault (dissected s) ≡ None = (insertable a i h (dissected s) room e).whole in
       elim (cases_Bool (version s == 4)) [
         | inl four ↦
             let v = begin_ipv4 s (version4 s none (eqb-true (version s) 4 four)) in
-            subst Restores (sym v.is) (restores4 s (take (ipv4_header_len s) s) v) e (whole_chain4 s (take (ipv4_header_len s) s) v whole)
+            record { chain = whole_chain4 s (take (ipv4_header_len s) s) v whole; states = subst StatesAsBefore (sym v.is) (states4 s (take (ipv4_header_len s) s) v) e }
         | inr other ↦
             let six : version s ≡ 6 = (base6 s none (λ four. false≢true (sym other ∙ eq-eqb (version s) 4 four))).0 in
             let v = begin_ipv6 s (version6 s none six) in
-            subst Restores (sym v.is) (restores6 s (take 40 s) v) e (whole_chain6 s (take 40 s) v whole)
+            record { chain = whole_chain6 s (take 40 s) v whole; states = subst StatesAsBefore (sym v.is) (states6 s (take 40 s) v) e }
       ]
 
-  restores_by : (s : List ℕ) (o : Option End) → base_end s ≡ o → insertion_fault a i h (dissected s) room ≡ None → Restored s
-  restores_by s None none e = restores_based s none e
-  restores_by s (Some x) some e = absurd (no_base s (base_none s (λ none. cc)) (insertable a i h (dissected s) room e).whole)
+  known_by : (s : List ℕ) (o : Option End) → base_end s ≡ o → insertion_fault a i h (dissected s) room ≡ None → IsKnown s
+  known_by s None none e = known_based s none e
+  known_by s (Some x) some e = absurd (no_base s (base_none s (λ none. cc)) (insertable a i h (dissected s) room e).whole)
 
-  pub restores : (s : List ℕ) → insertion_fault a i h (dissected s) room ≡ None → Restored s
-  restores s e = restores_by s (base_end s) refl e
+  pub known : (s : List ℕ) → insertion_fault a i h (dissected s) room ≡ None → IsKnown s
+  known s e = known_by s (base_end s) refl e
+
+  pub restores : (s : List ℕ) → insertion_fault a i h (dissected s) room ≡ None
+      → without (Index i) (rewritten_parts (dissected s) (inserted i h (dissected s).headers) (dissected s).number (dissected s).payload) ≡ restated (dissected s)
+  restores s e =
+      let k : IsKnown s = known s e in
+      restored i h (dissected s) k.chain (index_within a i h (dissected s) room e) k.states

@@ -7,18 +7,23 @@ ghost use Rattle.ip_defragmenter.specs.Checksum.{checksum_of};
 ghost use Rattle.ip_defragmenter.specs.Whole.{with_word};
 ghost use Rattle.ip_dissect.specs.Dissection.{dissected};
 ghost use Rattle.ip_rewrite.specs.Rewritten.{rewritten_parts, restated};
-ghost use Rattle.ip_rewrite.specs.Without.{packet_fault, without};
+ghost use Rattle.ip_rewrite.specs.Without.{packet_fault, without, without_fault};
 ghost use Rattle.ip_rewrite.specs.Insertion.{inserted, insertion_fault};
 ghost use Rattle.ip_rewrite.specs.declared.which.Which.TheVariants.{Index};
 ghost use Rattle.ip_rewrite.specs.declared.which.Authentication.{Authentication};
 
-/// Proves that `without` writes the old packet if it leaves out the header that `with_header` inserted: without padding,
+/// Proves that `without` can leave out the header that `with_header` inserted, and writes the old packet: without padding,
 /// and with the length and IPv4's checksum stated anew. That is the old packet byte by byte in IPv6, and in IPv4 if its
 /// length was stated and its checksum was right.
 pub fn what_was_inserted_can_be_left_out()
-    ensures left_out { (s : List ℕ) (a : Authentication) (i room : ℕ) (h : ExtHeader) → let p = dissected s in
-        insertion_fault a i h p room ≡ None
-        → without (Index i) (rewritten_parts p (inserted i h p.headers) p.number p.payload) ≡ restated p }
+    ensures accepted { (s : List ℕ) (authentication : Authentication) (index room : ℕ) (h : ExtHeader)
+        → let p = dissected s in insertion_fault authentication index h p room ≡ None
+        → without_fault (Index index) authentication
+        (rewritten_parts p (inserted index h p.headers) p.number p.payload) room ≡ None }
+    ensures left_out { (s : List ℕ) (authentication : Authentication) (index room : ℕ) (h : ExtHeader)
+        → let p = dissected s in insertion_fault authentication index h p room ≡ None
+        → without (Index index) (rewritten_parts p (inserted index h p.headers) p.number p.payload)
+        ≡ restated p }
     ensures ipv6 { (s : List ℕ) → let p = dissected s in AreBytes s → packet_fault p ≡ None → p.version ≡ 6
         → restated p ++ p.padding ≡ s }
     ensures ipv4 { (s : List ℕ) → let p = dissected s in AreBytes s → packet_fault p ≡ None → p.version ≡ 4

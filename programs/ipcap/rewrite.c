@@ -17,7 +17,7 @@ static const char usage[] =
     "  --without HEADER        leave out this header, such as `hop-by-hop` or 0; can be given several times\n"
     "  --clear                 set the reserved bits of fragment and authentication headers to zero\n"
     "  --in-order              put headers in the order that RFC 8200, section 4.1, recommends\n"
-    "  --break-authentication  also change packets that keep an authentication header: its check value is then wrong\n"
+    "  --break-authentication  also change packets that keep an authentication header: its integrity check then fails\n"
     "  -w OUTPUT               write to this file instead of standard output\n"
     "  --help                  print this help\n"
     "  --version               print the version\n";

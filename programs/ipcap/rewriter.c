@@ -257,7 +257,7 @@ void report_rewrites(const struct rewriter *rewriter, const char *name)
     };
     for (size_t i = 1; i < REFUSALS; i++) report_packets(name, rewriter->refused[i], "unchanged: ", reasons[i]);
     report_packets(name, rewriter->without_checksums, "with a transport checksum that no longer holds", "");
-    report_packets(name, rewriter->without_check_values, "with a check value of authentication that no longer holds", "");
+    report_packets(name, rewriter->without_check_values, "with an integrity check value that no longer holds", "");
 }
 
 void end_rewriter(struct rewriter *rewriter)

@@ -20,7 +20,7 @@ struct rewriter {
     bool breaks_authentication;      /* packets that keep an authentication header are changed, too */
     uint64_t refused[REFUSALS];      /* number of packets that weren't changed, by the library's refusal */
     uint64_t without_checksums;      /* number of packets that were, but whose transport checksums don't hold any more */
-    uint64_t without_check_values;   /* number of those whose authentication headers have a wrong check value */
+    uint64_t without_check_values;   /* number of those whose authentication headers have a wrong integrity check value */
     uint8_t *buffer;                 /* of the last packet that was changed */
     struct wolfaren_header *headers; /* of the packet */
     size_t room;

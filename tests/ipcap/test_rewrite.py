@@ -11,7 +11,7 @@ from captures import *
 NAMES = {0: ["hop-by-hop", "hopopt", "0", "0x0"], 43: ["routing", "route", "43", "0x2b"], 44: ["fragment", "frag", "44", "0x2C"],
          51: ["authentication", "ah", "51"], 60: ["destination-options", "dstopts", "60"]}
 COVERED = "an authentication header that covers the change"
-BROKEN = "with a check value of authentication that no longer holds"
+BROKEN = "with an integrity check value that no longer holds"
 
 
 def frames_of(content, order="<"):

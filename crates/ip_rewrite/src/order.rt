@@ -293,7 +293,8 @@ fn write_ordered(packet: &Packet<'_>, last_routing: usize, field: u16, out: &mut
 }
 
 /// Writes a packet to the front of `out` with the same extension headers in the order that RFC 8200, section 4.1,
-/// recommends. Destination options never pass a routing header.
+/// recommends. Headers of one kind keep their order, and destination options never pass a routing header. A packet in
+/// this order is written as it is; the order of a fragment can't change.
 #[tactic(auto, using(crate::proofs::OrderLemmas::ordered_len))]
 pub fn in_order(
     packet: &[u8],

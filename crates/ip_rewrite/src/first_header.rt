@@ -60,6 +60,29 @@ fn bytes_after<'a>(packet: &Packet<'a>, len: usize) -> &'a [u8]
     &packet.bytes[start..end]
 }
 
+/// Copies bytes, of which there are `len`, to the front of a buffer.
+#[inline(always)]
+fn put_front(out: &mut [u8], bytes: &[u8], len: usize)
+    requires len { length bytes.now ≡ len }
+    requires fits { length bytes.now ≤ length out.old }
+    ensures { out.new ≡ bytes.now ++ drop (length bytes.now) out.old }
+{
+    out[..len].copy_from_slice(&bytes[..len]);
+}
+
+/// Copies a base header to the front of a buffer: that of IPv6, of 40 bytes, without a call.
+#[inline(always)]
+fn put_base(out: &mut [u8], base: &[u8])
+    requires { length base.now ≤ length out.old }
+    ensures { out.new ≡ base.now ++ drop (length base.now) out.old }
+{
+    if base.len() == 40 {
+        put_front(out, base, 40);
+    } else {
+        put_front(out, base, base.len());
+    }
+}
+
 /// Writes the packet without its first header, which has `len` bytes; `field` is the number for the length field.
 #[inline(always)]
 pub(crate) fn write_after_first(
@@ -83,7 +106,7 @@ pub(crate) fn write_after_first(
     let outline = &packet.outline;
     let base = base_of(packet);
     let (first, _) = packet.extensions().split_at(len);
-    put(out, 0, base);
+    put_base(out, base);
     set(out, number_offset(outline.version), next_number(first));
     put(out, base.len(), bytes_after(packet, len));
     state_length(outline, field, out);

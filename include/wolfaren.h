@@ -18,7 +18,8 @@
  *    wolfaren_fragment_fields, wolfaren_authentication_fields.
  *  - For fragments, which make packets whole: wolfaren_defragment and wolfaren_write_whole_packet.
  *  - For packets with other extension headers or another payload: wolfaren_without_number, wolfaren_without_index,
- *    wolfaren_with_header, wolfaren_with_payload, wolfaren_cleared and wolfaren_in_order.
+ *    wolfaren_with_header (at any index, such as wolfaren_recommended_index), wolfaren_with_payload, wolfaren_cleared and
+ *    wolfaren_in_order.
  *  - For new chains, or headers in another order: wolfaren_link_headers and wolfaren_write_headers.
  *
  * The header needs C99 or C++11, or a later standard.
@@ -57,7 +58,7 @@
 #define WOLFAREN_VERSION (10000 * WOLFAREN_VERSION_MAJOR + 100 * WOLFAREN_VERSION_MINOR + WOLFAREN_VERSION_PATCH)
 
 /* A checksum of the structs, numbers and calls in this header, made by scripts/abi of the repository. */
-#define WOLFAREN_ABI 0x74a45a81u
+#define WOLFAREN_ABI 0x991997b3u
 
 #if !(defined(__x86_64__) && !defined(__ILP32__)) && !defined(_M_X64) && !defined(__aarch64__) && !defined(_M_ARM64)
 #error "libwolfaren needs a 64-bit machine: x86-64 or ARM64"
@@ -777,6 +778,14 @@ WOLFAREN_USE_RESULT
 bool wolfaren_with_header(const uint8_t *bytes, size_t len, uint8_t number, const uint8_t *header, size_t header_len,
                           size_t index, bool may_be_invalid, uint8_t *out, size_t room, struct wolfaren_rewritten *rewritten)
     WOLFAREN_NONNULL(10);
+
+/*
+ * Returns the index at which wolfaren_with_header inserts an extension header of this number into the packet in the order that
+ * RFC 8200, section 4.1, recommends: before the first header that comes later in this order, or after all. Destination options
+ * come last.
+ */
+WOLFAREN_USE_RESULT
+size_t wolfaren_recommended_index(const uint8_t *bytes, size_t len, uint8_t number);
 
 /*
  * Writes a packet as wolfaren_without_number does, with all of its extension headers and another payload, the `payload_len`

@@ -1,7 +1,7 @@
 /*
- * Tests wolfaren_without_number, wolfaren_without_index, wolfaren_with_header, wolfaren_with_payload, wolfaren_cleared and
- * wolfaren_in_order: against packets that are built here with the change, by RFC 8200, section 4, and RFC 791, section 3.1;
- * each refusal; rooms of each length; and any bytes.
+ * Tests wolfaren_without_number, wolfaren_without_index, wolfaren_with_header, wolfaren_recommended_index,
+ * wolfaren_with_payload, wolfaren_cleared and wolfaren_in_order: against packets that are built here with the change, by RFC
+ * 8200, section 4, and RFC 791, section 3.1; each refusal; rooms of each length; and any bytes.
  */
 #include "wolfaren.h"
 
@@ -528,6 +528,22 @@ static void test_any_bytes(void)
     for (size_t i = 0; i <= IN_ORDER; i++) expect(counts[i] > 300, "packets that are written");
 }
 
+/* The recommended index of a header of a number in chains of headers by these numbers: hop-by-hop options first, routing and
+ * what precedes it, fragment, authentication, destination options (RFC 8200, section 4.1). */
+static void test_recommended_index(void)
+{
+    static const uint8_t chain[] = {0, 60, 43, 44, 51, 60}, numbers[] = {0, 43, 44, 51, 60, 17};
+    static const size_t wanted[] = {1, 3, 4, 5, 6, 6};
+    struct extension extensions[6];
+    for (size_t i = 0; i < 6; i++) extensions[i] = (struct extension){chain[i], 1};
+    const struct packet packet = built(extensions, 6), empty = built(extensions, 0);
+    for (size_t i = 0; i < 6; i++) {
+        expect(wolfaren_recommended_index(packet.bytes, packet.len, numbers[i]) == wanted[i], "the recommended index");
+        expect(wolfaren_recommended_index(empty.bytes, empty.len, numbers[i]) == 0, "the only index");
+    }
+    expect(wolfaren_recommended_index(NULL, 0, 0) == 0, "no packet");
+}
+
 int main(void)
 {
     struct extension extensions[MOST_HEADERS];
@@ -538,6 +554,7 @@ int main(void)
     test_more_refusals();
     test_fields();
     test_longest();
+    test_recommended_index();
     test_any_bytes();
     return 0;
 }

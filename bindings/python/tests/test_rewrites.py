@@ -39,6 +39,15 @@ class Rewrites(unittest.TestCase):
         self.assertEqual(with_header(ipv4(6, TCP), 51, authentication(0), 0), (ipv4(51, authentication(6) + TCP), True))
         self.assertEqual(with_header(ipv6_chain([51]), 60, options(0), 1, may_be_invalid=True).packet, ipv6_chain([51, 60]))
 
+    def test_recommended_index(self):
+        rows = [([], 0, [0]), ([60], 0, [0, 60]), ([0, 60], 43, [0, 43, 60]), ([60, 43, 51], 44, [60, 43, 44, 51]),
+                ([0, 43, 60], 51, [0, 43, 51, 60]), ([0, 43], 60, [0, 43, 60])]
+        for numbers, number, wanted in rows:
+            self.assertEqual(with_header(ipv6_chain(numbers), number, header(number, 99), may_be_invalid=True).packet, ipv6_chain(wanted))
+        self.assertEqual(with_header(ipv4(6, TCP), 51, authentication(0)).packet, ipv4(51, authentication(6) + TCP))
+        with self.assertRaises(OverflowError):
+            with_header(ipv6_chain([]), 256, options(0))
+
     def test_payload(self):
         for numbers, number, payload in itertools.product(([], [0, 60], [43, 44]), (6, 50, 255), (b"", TCP, bytearray(99))):
             wanted = ipv6_chain(numbers, final=number, payload=bytes(payload))

@@ -85,7 +85,7 @@
 //!
 //! Only here: `Dissection`, `BaseHeader`, `Fragment`, `FragmentKind`, `End`, `Filter`, `Statistics`, `FaultKind`,
 //! `HeaderOptions`, `HeaderOption`, `UnknownOption`, `RoutingAddresses`, `RoutingAddress`, `PacketSpan`, `Defragmenter`,
-//! `Added`, `Outcome`, `DropReason`, `Loss`, `without`, `with_header`, `with_payload`, `cleared`, `in_order`, `Which`,
+//! `Added`, `Outcome`, `DropReason`, `Loss`, `without`, `with_header`, `with_payload`, `cleared`, `in_order`, `recommended_index`, `Which`,
 //! `Authentication`, `Rewritten`, `Ipv6ExtensionsBuilder`, `err::BuildError`, `err::FilterError`, `err::Expected`,
 //! `err::SpanError`, `err::RewriteError`.
 //!
@@ -174,7 +174,8 @@ pub use ipv6_slice::Ipv6Slice;
 pub use len_source::LenSource;
 pub use packet_span::PacketSpan;
 pub use rewrite::{
-    cleared, in_order, with_header, with_payload, without, Authentication, Rewritten, Which,
+    cleared, in_order, recommended_index, with_header, with_payload, without, Authentication,
+    Rewritten, Which,
 };
 pub use routing_addresses::{RoutingAddress, RoutingAddresses};
 pub use statistics::{FaultKind, Statistics};

@@ -251,7 +251,7 @@ const _: () = {
 
 /// `WOLFAREN_ABI`: the checksum of the header that this file was written for (`scripts/abi` of the repository).
 #[cfg(all(test, not(miri)))]
-pub(crate) const ABI: u32 = 0x74a4_5a81;
+pub(crate) const ABI: u32 = 0x9919_97b3;
 
 unsafe extern "C" {
     fn wolfaren_parse_chain(
@@ -405,6 +405,8 @@ unsafe extern "C" {
         room: usize,
         rewritten: *mut Rewritten,
     ) -> bool;
+
+    fn wolfaren_recommended_index(bytes: *const u8, len: usize, number: u8) -> usize;
 
     fn wolfaren_in_order(
         bytes: *const u8,
@@ -1026,6 +1028,12 @@ pub(crate) fn cleared(bytes: &[u8], may_be_invalid: bool, out: &mut [u8]) -> Rew
     rewritten(out, |out, room, rewritten| unsafe {
         wolfaren_cleared(start, len, may_be_invalid, out, room, rewritten)
     })
+}
+
+/// Returns the recommended index for a header of this number.
+pub(crate) fn recommended_index(bytes: &[u8], number: u8) -> usize {
+    // SAFETY: the bytes are a slice, which the call only reads.
+    unsafe { wolfaren_recommended_index(bytes.as_ptr(), bytes.len(), number) }
 }
 
 /// Writes the packet at the start of the bytes with its headers in the recommended order, to the start of `out`.

@@ -92,6 +92,14 @@ pub fn with_header(
     ))
 }
 
+/// Returns the index at which [`with_header`] inserts an extension header of this number into the packet at the start of the
+/// bytes in the order that RFC 8200, section 4.1, recommends: before the first header that comes later in this order, or after
+/// all. Destination options come last.
+#[must_use]
+pub fn recommended_index(packet: &[u8], number: IpNumber) -> usize {
+    library::recommended_index(packet, number.0)
+}
+
 /// Writes a packet with all of its extension headers and another payload of this number to the start of `out`. If `out` is
 /// as long as `packet` and `payload` together, the room is enough. A checksum in the payload is the caller's.
 ///

@@ -3,8 +3,8 @@
 #![cfg(not(miri))]
 use wolfaren::err::RewriteError;
 use wolfaren::{
-    cleared, in_order, ip_number, with_header, with_payload, without, Authentication, IpNumber,
-    Rewritten, Which,
+    cleared, in_order, ip_number, recommended_index, with_header, with_payload, without,
+    Authentication, IpNumber, Rewritten, Which,
 };
 
 /// An IPv6 packet of headers with these numbers, each of 8 bytes or, for authentication, 16, and 4 bytes of payload.
@@ -295,4 +295,14 @@ fn orders() {
     let mut fragment = mixed;
     fragment[59] = 1;
     assert_eq!(order(&fragment, valid, 100), Err(RewriteError::Fragmented));
+}
+
+#[test]
+fn recommended_indices() {
+    let chain = packet(&[0, 60, 43, 44, 51, 60]);
+    for (number, index) in [(0, 1), (43, 3), (44, 4), (51, 5), (60, 6)] {
+        assert_eq!(recommended_index(&chain, IpNumber(number)), index);
+        assert_eq!(recommended_index(&packet(&[]), IpNumber(number)), 0);
+    }
+    assert_eq!(recommended_index(&[], IpNumber(0)), 0);
 }

@@ -9,7 +9,7 @@ ghost use Rattle.ip_rewrite.specs.Without.{without, parts_without, without_fault
 ghost use Rattle.ip_rewrite.specs.Clearing.{clearing_fault};
 ghost use Rattle.ip_rewrite.specs.Payload.{payload_fault};
 ghost use Rattle.ip_rewrite.specs.Insertion.{inserted, insertion_fault};
-ghost use Rattle.ip_rewrite.specs.Order.{in_order, ordering_fault};
+ghost use Rattle.ip_rewrite.specs.Order.{in_order, ordering_fault, recommended_index};
 ghost use Rattle.ip_rewrite.specs.declared.err.RewriteError.{RewriteError as Refusal};
 ghost use Rattle.ip_rewrite.specs.declared.which.Which.TheVariants.{Index};
 ghost use Rattle.ipexts_c.specs.Rewrites.{with_number, authentication, refusal_code, rewritten_fields, fields_without, refused_fields};
@@ -17,8 +17,8 @@ ghost use Rattle.ipexts_c.specs.Rewrites.{with_number, authentication, refusal_c
 use crate::bytes::Bytes;
 use ip_base::IpNumber;
 use ip_rewrite::{
-    Authentication, RewriteError, Rewritten, Which, cleared, in_order, with_header, with_payload,
-    without,
+    Authentication, RewriteError, Rewritten, Which, cleared, in_order, recommended_index,
+    with_header, with_payload, without,
 };
 
 /// A packet that was written, or why none was, as numbers.
@@ -203,6 +203,14 @@ pub extern "C" fn wolfaren_with_header(
     let (number, header) = (IpNumber(number), header.slice());
     let outcome = with_header(bytes.slice(), number, header, index, authentication, out);
     stored(outcome, rewritten)
+}
+
+/// Calls `recommended_index`.
+#[unsafe(no_mangle)]
+pub extern "C" fn wolfaren_recommended_index(bytes: Bytes<'_>, number: u8) -> usize
+    ensures { result ≡ recommended_index number (dissected bytes.entry.slice.now).headers }
+{
+    recommended_index(bytes.slice(), IpNumber(number))
 }
 
 /// Calls `with_payload`, as `wolfaren_without_number` calls `without`.

@@ -95,15 +95,19 @@ def without(packet: Buffer, *, number: int | None = None, index: int | None = No
     return _rewritten(call, packet, value, may_be_invalid=may_be_invalid)
 
 
-def with_header(packet: Buffer, number: int, header: Buffer, index: int, *, may_be_invalid: bool = False) -> Rewritten:
+def with_header(packet: Buffer, number: int, header: Buffer, index: int | None = None, *, may_be_invalid: bool = False) -> Rewritten:
     """Returns the packet at the start of the bytes with one more extension header.
 
     The header has this number and these bytes, of which the first, its next header field, is replaced. It is inserted before
-    the header with this index, or after all of them if there are as many. All else stays as it is, as with `without`.
+    the header with this index, or after all of them if there are as many. Without an index, it is inserted where RFC 8200,
+    section 4.1, recommends it, destination options last. All else stays as it is, as with `without`.
 
     Raises `RewriteError` if that can't be, also for an authentication header as `without` does.
     """
     new = ffi.from_buffer("uint8_t[]", header)
+    if index is None:
+        data = ffi.from_buffer("uint8_t[]", packet)
+        index = lib.wolfaren_recommended_index(data, len(data), number)
     return _rewritten(lib.wolfaren_with_header, packet, number, new, len(new), index, may_be_invalid=may_be_invalid, added=len(new))
 
 

@@ -111,6 +111,30 @@ fn stored(outcome: Result<Rewritten, RewriteError>, rewritten: &mut RewrittenFie
     }
 }
 
+/// Calls `without`, as `wolfaren_without_number` does. With one caller `without` is inlined, and its result isn't moved.
+fn write_without(
+    bytes: &[u8],
+    which: Which,
+    may_be_invalid: bool,
+    out: &mut [u8],
+    rewritten: &mut RewrittenFields,
+) -> bool
+    ensures accepted { IsTrue result
+        → without_fault which (authentication may_be_invalid) (dissected bytes.now) (length out.old) ≡ None }
+    ensures fields { IsTrue result → rewritten.new ≡ fields_without which (dissected bytes.now) }
+    ensures written { IsTrue result
+        → out.new ≡ without which (dissected bytes.now) ++ drop rewritten.new.len out.old }
+    ensures dissects { IsTrue result
+        → dissected (take rewritten.new.len out.new) ≡ parts_without which (dissected bytes.now) }
+    ensures refused { result ≡ false → (e : Refusal) × (rewritten.new ≡ refused_fields e)
+        × (without_fault which (authentication may_be_invalid) (dissected bytes.now) (length out.old)
+        ≡ Some e) }
+    ensures same { result ≡ false → out.new ≡ out.old }
+{
+    let outcome = without(bytes, which, authentication(may_be_invalid), out);
+    stored(outcome, rewritten)
+}
+
 /// Calls `without` for all headers with a number. Returns whether the packet was written, and stores its length or why it
 /// wasn't written in `rewritten`.
 #[unsafe(no_mangle)]
@@ -135,8 +159,7 @@ pub extern "C" fn wolfaren_without_number(
     ensures same { result ≡ false → out.new ≡ out.old }
 {
     let which = Which::Number(IpNumber(number));
-    let outcome = without(bytes.slice(), which, authentication(may_be_invalid), out);
-    stored(outcome, rewritten)
+    write_without(bytes.slice(), which, may_be_invalid, out, rewritten)
 }
 
 /// Calls `without` for the header with an index, as `wolfaren_without_number` does for those with a number.
@@ -162,8 +185,7 @@ pub extern "C" fn wolfaren_without_index(
     ensures same { result ≡ false → out.new ≡ out.old }
 {
     let which = Which::Index(index);
-    let outcome = without(bytes.slice(), which, authentication(may_be_invalid), out);
-    stored(outcome, rewritten)
+    write_without(bytes.slice(), which, may_be_invalid, out, rewritten)
 }
 
 /// Calls `with_header`, as `wolfaren_without_number` calls `without`.

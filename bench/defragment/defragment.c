@@ -70,7 +70,7 @@ static void make_fragments(void)
     }
 }
 
-/* The same of IPv4, without checksums. */
+/* Fragments of IPv4 packets in the same order, without checksums. */
 static void make_ipv4_fragments(void)
 {
     for (unsigned i = 0; i < FRAGMENTS; i++) {

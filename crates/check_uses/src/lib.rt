@@ -20,6 +20,7 @@ pub mod places;
 pub mod read_outcomes;
 pub mod readers;
 pub mod reassembly;
+pub mod rewriting;
 pub mod runs;
 pub mod spans;
 pub mod statistics;

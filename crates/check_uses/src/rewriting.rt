@@ -1,0 +1,58 @@
+//! Callers of the calls that write packets with other extension headers.
+ghost use Rattle.std.specs.Prelude.{◌≡◌, take, IfSome, IfNone};
+ghost use Rattle.ip_dissect.specs.Dissection.{dissected};
+
+use ip_base::ip_number;
+use ip_rewrite::{
+    Authentication, Which, cleared, in_order, recommended_index, with_header, without,
+};
+
+/// Writes the packet without its first extension header to `out`, unless an authentication header covers it, and returns its
+/// length in bytes. What follows the headers is the same.
+pub fn without_first(packet: &[u8], out: &mut [u8]) -> Option<usize>
+    ensures number { IfSome result (λ len. (dissected (take len out.new)).number ≡ (dissected packet.now).number) }
+    ensures payload { IfSome result (λ len. (dissected (take len out.new)).payload ≡ (dissected packet.now).payload) }
+    ensures stays { IfNone result (out.new ≡ out.old) }
+{
+    match without(packet, Which::Index(0), Authentication::Valid, out) {
+        Ok(written) => Some(written.len),
+        Err(_) => None,
+    }
+}
+
+/// Writes the packet with reserved bits zero to `out`, and returns its length in bytes. Its payload is the same.
+pub fn with_zero_bits(packet: &[u8], out: &mut [u8]) -> Option<usize>
+    ensures payload { IfSome result (λ len. (dissected (take len out.new)).payload ≡ (dissected packet.now).payload) }
+    ensures stays { IfNone result (out.new ≡ out.old) }
+{
+    match cleared(packet, Authentication::Valid, out) {
+        Ok(written) => Some(written.len),
+        Err(_) => None,
+    }
+}
+
+/// Writes the packet with destination options, at the place that RFC 8200, section 4.1, recommends, to `out`, and returns its
+/// length in bytes. Its payload is the same, and transport checksums hold as before.
+pub fn with_options(packet: &[u8], options: &[u8], out: &mut [u8]) -> Option<usize>
+    ensures payload { IfSome result (λ len. (dissected (take len out.new)).payload ≡ (dissected packet.now).payload) }
+    ensures stays { IfNone result (out.new ≡ out.old) }
+{
+    let number = ip_number::IPV6_DEST_OPTIONS;
+    let index = recommended_index(packet, number);
+    match with_header(packet, number, options, index, Authentication::Valid, out) {
+        Ok(written) => Some(written.len),
+        Err(_) => None,
+    }
+}
+
+/// Writes the packet with its headers in the recommended order to `out`, and returns its length in bytes, which is that of the
+/// packet. Its payload is the same.
+pub fn ordered(packet: &[u8], out: &mut [u8]) -> Option<usize>
+    ensures payload { IfSome result (λ len. (dissected (take len out.new)).payload ≡ (dissected packet.now).payload) }
+    ensures stays { IfNone result (out.new ≡ out.old) }
+{
+    match in_order(packet, Authentication::Valid, out) {
+        Ok(written) => Some(written.len),
+        Err(_) => None,
+    }
+}

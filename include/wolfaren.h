@@ -687,10 +687,10 @@ struct wolfaren_added {
  * WOLFAREN_UNALIGNED to WOLFAREN_HEADERS_TOO_LONG, `added->slot` is the slot of the fragment's packet. The remaining outcomes
  * have no slot.
  *
- * A packet that isn't whole 60 seconds after its first fragment is given up when its next fragment arrives, or another packet
- * needs its slot. Of more than 8 slots, 8 are for packets with the same hash. If all of them are in use, the packet with the
- * oldest first fragment is given up; wolfaren_give_up does it earlier. The hash depends on `factor`, which should be a random
- * number that senders don't know, and the same at each call.
+ * A packet that isn't whole 60 seconds after its first fragment is given up when its next fragment arrives, when another packet
+ * needs its slot, or by wolfaren_give_up. Of more than 8 slots, 8 are for packets with the same hash. If all of them are in use,
+ * the packet with the oldest first fragment is given up. The hash depends on `factor`, which should be a random number that
+ * senders don't know, and the same at each call.
  *
  * Returns false, and changes nothing, if there aren't as many memories as slots. A memory has 77,872 bytes. The memories
  * may lie in fresh pages of zeros; a page is used when the first packet needs it.
@@ -721,7 +721,8 @@ WOLFAREN_USE_RESULT
 bool wolfaren_write_whole_packet(const struct wolfaren_packet_memory *memory, uint8_t *out, size_t room, size_t *written)
     WOLFAREN_NONNULL(1, 4);
 
-/* Why a packet wasn't rewritten: values of `refusal` in struct wolfaren_rewritten. The first in this list that applies is stored. */
+/* Why a packet wasn't rewritten: values of `refusal` in struct wolfaren_rewritten. The first in this list that applies is
+ * stored. */
 enum wolfaren_refusal {
     WOLFAREN_NOT_REFUSED = 0,
     WOLFAREN_REFUSED_HEADERS = 1,         /* no IP header, or its headers are truncated or faulty: wolfaren_dissect says why */

@@ -1,6 +1,7 @@
 pub mod FrontLemmas
 pub mod SurveyLemmas
 pub mod BaseLemmas
+pub mod ResultLemmas
 pub mod ChainLemmas
 pub mod FieldLemmas
 pub mod Ipv6Lemmas

@@ -1,5 +1,4 @@
-use Rattle.ip_spec.proofs.Common.{◌≡◌, ◌≤◌, length, refl, false, sym, ◌∙◌, ap, arith, List, Option, None, option_or, cleared_chain, ExtHeader, bytes_of, Result, Ok, Err}
-use Rattle.std.specs.Prelude.{OnOk, IfOk}
+use Rattle.ip_spec.proofs.Common.{◌≡◌, ◌≤◌, length, false, sym, ◌∙◌, ap, arith, List, None, cleared_chain, ExtHeader, bytes_of}
 use Rattle.ip_dissect.specs.Dissection.{DissectedParts, dissected}
 use Rattle.ip_dissect.specs.End.{has_error}
 use Rattle.ip_dissect.specs.declared.outline.Outline.{Outline}
@@ -8,6 +7,7 @@ use Rattle.ip_rewrite.specs.Rewritten.{rewritten_field, rewritten_len, room_faul
 use Rattle.ip_rewrite.specs.Without.{packet_fault}
 use Rattle.ip_rewrite.specs.Clearing.{reserved_fault}
 use Rattle.ip_rewrite.proofs.BaseLemmas.{base_there}
+use Rattle.ip_rewrite.proofs.ResultLemmas.{weaker, on_ok, both_none}
 use Rattle.ip_rewrite.proofs.ClearingLemmas.{cleared_len}
 use Rattle.ip_rewrite.proofs.clearing.test.Goals as goal
 
@@ -20,17 +20,6 @@ pub test_room-requires-clause-old : goal.test_room-requires-clause-old
 test_room-requires-clause-old c =
     let all = outline_fits c.args.packet.now.bytes.now c.args.packet.now.base c.args.packet.now.outline c.args.packet.now.base_is c.args.packet.now.outline_is in
     omega (arith, all, c.requires.small)
-
-weaker : {X E : Type 0} (P Q : X → Type 0) (r : Result X E) → ((x : X) → P x → Q x) → IfOk r P → IfOk r Q
-weaker P Q (Ok x) f p = f x p
-weaker P Q (Err e) f p = tt
-
-on_ok : {X E : Type 0} {P : Type 0} (r : Result X E) → P → OnOk r P
-on_ok (Ok x) p = p
-on_ok (Err e) p = tt
-
-both_none : {E : Type 0} (a b r : Option E) → a ≡ None → b ≡ None → option_or a (option_or b r) ≡ r
-both_none a b r none also = rw (none, also) refl
 
 pub returns-clause-fault : goal.returns-clause-fault
 returns-clause-fault c =

@@ -1,5 +1,4 @@
-use Rattle.ip_spec.proofs.Common.{◌≡◌, ◌+◌, length, false, sym, ◌∙◌, ap, arith, bytes_of, Result, Ok, Err}
-use Rattle.std.specs.Prelude.{OnOk}
+use Rattle.ip_spec.proofs.Common.{◌≡◌, ◌+◌, length, false, sym, ◌∙◌, ap, arith, bytes_of}
 use Rattle.ip_dissect.specs.Dissection.{DissectedParts, dissected}
 use Rattle.ip_dissect.specs.End.{has_error}
 use Rattle.ip_dissect.specs.declared.outline.Outline.{Outline}
@@ -8,6 +7,7 @@ use Rattle.ip_rewrite.specs.Selection.{kept}
 use Rattle.ip_rewrite.specs.declared.survey.Survey.{Survey}
 use Rattle.ip_rewrite.proofs.SurveyLemmas.{kept_less}
 use Rattle.ip_rewrite.proofs.BaseLemmas.{base_there}
+use Rattle.ip_rewrite.proofs.ResultLemmas.{on_ok}
 use Rattle.ip_rewrite.proofs.removal.test.Goals as goal
 
 pub test_room-requires-clause-new : goal.test_room-requires-clause-new
@@ -22,10 +22,6 @@ pub test_room-requires-clause-old : goal.test_room-requires-clause-old
 test_room-requires-clause-old c =
     let all = outline_fits c.args.packet.now.bytes.now c.args.packet.now.base c.args.packet.now.outline c.args.packet.now.base_is c.args.packet.now.outline_is in
     omega (arith, all, c.requires.small)
-
-on_ok : {X E : Type 0} {P : Type 0} (r : Result X E) → P → OnOk r P
-on_ok (Ok x) p = p
-on_ok (Err e) p = tt
 
 pub returns-clause-base : goal.returns-clause-base
 returns-clause-base c =

@@ -10,19 +10,11 @@ ghost use Rattle.ip_filter.specs.Truth.{has_base, has_source, has_destination};
 
 use crate::flags::Flags;
 use crate::meets::kind;
+use crate::run::PASSED;
 use crate::{Network, Test};
 use ip_dissect::{BaseHeader, Packet};
 
 impl Test {
-    /// Returns whether the test is an early one.
-    #[inline(always)]
-    pub(crate) fn is_early(&self) -> bool {
-        matches!(
-            self.kind,
-            kind::FLAGS | kind::LEADS_TO | kind::SOURCE | kind::DESTINATION | kind::EITHER,
-        )
-    }
-
     /// Returns whether the test is one of flags or of the protocol number.
     #[inline(always)]
     pub(crate) fn is_of_numbers(&self) -> bool
@@ -43,6 +35,17 @@ impl Test {
             kind::FLAGS => flags.has_one_of(self.number),
             _ => self.leads_to(packet),
         }
+    }
+
+    /// Returns whether a packet passes that meets this only test or doesn't. One of two results is selected: a branch on
+    /// `is_met` would often be mispredicted.
+    #[inline(always)]
+    pub(crate) fn has_passed(&self, is_met: bool) -> bool
+        ensures { result ≡ ((if is_met then self.now.if_met else self.now.if_not) == 64) }
+    {
+        let if_met = usize::from(self.if_met) == PASSED;
+        let if_not = usize::from(self.if_not) == PASSED;
+        (is_met & if_met) | (!is_met & if_not)
     }
 
     /// Returns the index to which the test leads a packet without an error, if it is an early one.

@@ -22,6 +22,7 @@ mod numbers;
 mod parse;
 mod parse_error;
 mod parse_term;
+mod plain;
 mod quantity;
 mod run;
 mod steps;

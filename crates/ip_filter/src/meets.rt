@@ -103,7 +103,7 @@ impl Test {
 
     /// Returns whether the first bytes of the packet's payload meet the test.
     #[inline(always)]
-    fn is_met_in_payload(&self, facts: &Facts<'_>) -> bool
+    pub(crate) fn is_met_in_payload(&self, facts: &Facts<'_>) -> bool
         ensures { result ≡ meets_in_payload self.now (dissected facts.now.packet.bytes.now) }
     {
         match self.kind {
@@ -123,7 +123,7 @@ impl Test {
 
     /// Returns whether the packet has the quantity, and it compares as the test asks.
     #[inline(always)]
-    fn compares(&self, quantity: Quantity, facts: &Facts<'_>) -> bool
+    pub(crate) fn compares(&self, quantity: Quantity, facts: &Facts<'_>) -> bool
         ensures { result ≡ compared self.now quantity (dissected facts.now.packet.bytes.now) }
     {
         let Some(comparison) = comparison_of(self.comparison) else {

@@ -2,7 +2,6 @@
 ghost use Rattle.std.specs.Prelude.{◌≡◌, ◌≤◌, ◌==◌, ◌||◌, ◌∷◌, [], length, true, false, if◌then◌else◌};
 ghost use Rattle.ip_dissect.specs.Dissection.{dissected};
 ghost use Rattle.ip_dissect.specs.End.{has_error};
-ghost use Rattle.ip_dissect.specs.Outline.{is_plain};
 ghost use Rattle.ip_filter.specs.Flags.{AreKnown};
 ghost use Rattle.ip_filter.specs.Reached.{IsLedTo, IsReached};
 ghost use Rattle.ip_filter.specs.Tests.{meets, frame_meets};
@@ -11,6 +10,7 @@ ghost use Rattle.ip_filter.specs.Frames.{frame_of};
 
 use crate::facts::Facts;
 use crate::flags::Flags;
+use crate::plain::run_plain;
 use crate::{Filter, Test};
 use ip_dissect::{Packet, PacketStart, PacketVisitor, Visited};
 
@@ -53,7 +53,7 @@ pub(crate) enum Reached {
 }
 
 /// Returns whether the packet at the start of `bytes` passes the tests. One test of flags or of the protocol number has its
-/// own path, on which a plain packet's other parts need not be known; so have tests of which the first is not an early one.
+/// own path, on which a plain packet's other parts need not be known.
 #[inline(always)]
 pub(crate) fn run_on(tests: &[Test], bytes: &[u8]) -> bool
     requires { length tests.now ≤ 64 }
@@ -62,10 +62,7 @@ pub(crate) fn run_on(tests: &[Test], bytes: &[u8]) -> bool
     if tests.len() == 1 && tests[0].is_of_numbers() {
         return run_one(tests, &tests[0], bytes);
     }
-    if !tests.is_empty() && tests[0].is_early() {
-        return run_early_first(tests, bytes);
-    }
-    run_late(tests, bytes)
+    run_all(tests, bytes)
 }
 
 /// Returns whether the packet passes the only test, which is one of flags or of the protocol number.
@@ -75,51 +72,26 @@ fn run_one(tests: &[Test], test: &Test, bytes: &[u8]) -> bool
     requires kind { ((test.now.kind == 1) || (test.now.kind == 2)) ≡ true }
     ensures { result ≡ passes tests.now (λ x. meets x (dissected bytes.now)) }
 {
-    match Packet::visit(bytes, &mut Tester { tests }) {
-        Visited::Plain(packet) => {
-            let is_met = test.is_met_by_numbers(&packet, Flags::none().of(&packet));
-            test.next_index(is_met) == PASSED
-        }
+    match Packet::visit(bytes, &mut OneTester { tests, test }) {
+        Visited::Plain(passed) => passed,
         Visited::Slow(passed) => passed,
     }
 }
 
-/// Returns whether the packet passes the tests, of which the first is an early one. Plain packets of both versions are tested
-/// in one place: most of their flags are known at compile time.
+/// Returns whether the packet passes the tests. Plain packets of both versions are tested in one place: most of their flags
+/// are known at compile time.
 #[inline(never)]
-fn run_early_first(tests: &[Test], bytes: &[u8]) -> bool
-    requires { length tests.now ≤ 64 }
-    ensures { result ≡ passes tests.now (λ x. meets x (dissected bytes.now)) }
-{
-    match Packet::visit(bytes, &mut Tester { tests }) {
-        Visited::Plain(packet) => run_on_plain(tests, packet),
-        Visited::Slow(passed) => passed,
-    }
-}
-
-/// Returns whether the packet passes the tests, of which the first is not an early one.
-#[inline(never)]
-fn run_late(tests: &[Test], bytes: &[u8]) -> bool
+fn run_all(tests: &[Test], bytes: &[u8]) -> bool
     requires { length tests.now ≤ 64 }
     ensures { result ≡ passes tests.now (λ x. meets x (dissected bytes.now)) }
 {
     match Packet::visit(bytes, &mut Tester { tests }) {
         Visited::Plain(packet) => {
             let flags = Flags::none().of(&packet);
-            run_stored(tests, 0, &Facts { packet, flags })
+            run_plain(tests, &Facts { packet, flags })
         }
         Visited::Slow(passed) => passed,
     }
-}
-
-/// Returns whether a plain packet passes.
-#[inline(always)]
-fn run_on_plain(tests: &[Test], packet: Packet<'_>) -> bool
-    requires few { length tests.now ≤ 64 }
-    requires plain { is_plain (dissected packet.bytes.now) ≡ true }
-    ensures { result ≡ passes tests.now (λ x. meets x (dissected packet.entry.bytes.now)) }
-{
-    run_on_packet(tests, packet, Flags::none().of(&packet))
 }
 
 /// Returns whether a packet passes that has these flags. Early tests come first, if there is no error: they need no part of
@@ -159,6 +131,48 @@ fn run_early(tests: &[Test], packet: &Packet<'_>, flags: Flags) -> Reached
         next = after;
     }
     Reached::End(next == PASSED)
+}
+
+/// A visitor that runs the only test, which is one of flags or of the protocol number. A plain packet of each version is
+/// tested in a place of its own, where fewer of its parts are computed.
+#[derive(Clone, Copy, Debug)]
+struct OneTester<'t> {
+    tests: &'t [Test],
+    test: &'t Test,
+    ghost one: { tests.now ≡ test.now ∷ [] },
+    ghost kind: { ((test.now.kind == 1) || (test.now.kind == 2)) ≡ true },
+}
+
+impl<'a> PacketVisitor<'a> for OneTester<'_> {
+    type Plain = bool;
+
+    type Slow = bool;
+
+    ghost plain = { λ old s new passed.
+        passed ≡ passes old.tests.now (λ x. meets x (dissected s)) };
+
+    ghost slow = { λ old s new passed.
+        passed ≡ passes old.tests.now (λ x. meets x (dissected s)) };
+
+    #[inline(always)]
+    fn visit_plain(&mut self, packet: Packet<'a>) -> bool {
+        let flags = Flags::none().of(&packet);
+        self.test
+            .has_passed(self.test.is_met_by_numbers(&packet, flags))
+    }
+
+    #[inline(always)]
+    fn visit_slow(&mut self, start: PacketStart<'a>) -> bool {
+        let mut flags = Flags::none();
+        let packet = start.walk(&mut flags);
+        let flags = flags.of(&packet);
+        if !packet.outline.has_error {
+            return self
+                .test
+                .has_passed(self.test.is_met_by_numbers(&packet, flags));
+        }
+        run_stored(self.tests, 0, &Facts { packet, flags })
+    }
 }
 
 /// A visitor that runs tests on packets that aren't plain.

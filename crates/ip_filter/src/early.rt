@@ -8,6 +8,7 @@ ghost use Rattle.ip_filter.specs.Flags.{AreKnown};
 ghost use Rattle.ip_filter.specs.Tests.{meets, network_in};
 ghost use Rattle.ip_filter.specs.Truth.{has_base, has_source, has_destination};
 
+use crate::facts::Facts;
 use crate::flags::Flags;
 use crate::meets::kind;
 use crate::run::PASSED;
@@ -34,6 +35,18 @@ impl Test {
         match self.kind {
             kind::FLAGS => flags.has_one_of(self.number),
             _ => self.leads_to(packet),
+        }
+    }
+
+    /// Returns whether a packet, with an error or without one, meets the test, which is one of flags or of the protocol number.
+    #[inline(never)]
+    pub(crate) fn is_met_by_facts(&self, facts: &Facts<'_>) -> bool
+        requires { ((self.now.kind == 1) || (self.now.kind == 2)) ≡ true }
+        ensures { result ≡ meets self.now (dissected facts.now.packet.bytes.now) }
+    {
+        match self.kind {
+            kind::FLAGS => facts.has_one_of(self.number),
+            _ => self.leads_to(&facts.packet),
         }
     }
 

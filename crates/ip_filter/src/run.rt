@@ -60,19 +60,18 @@ pub(crate) fn run_on(tests: &[Test], bytes: &[u8]) -> bool
     ensures { result ≡ passes tests.now (λ x. meets x (dissected bytes.now)) }
 {
     if tests.len() == 1 && tests[0].is_of_numbers() {
-        return run_one(tests, &tests[0], bytes);
+        return run_one(&tests[0], bytes);
     }
     run_all(tests, bytes)
 }
 
-/// Returns whether the packet passes the only test, which is one of flags or of the protocol number.
+/// Returns whether the packet passes this only test, which is one of flags or of the protocol number.
 #[inline(always)]
-fn run_one(tests: &[Test], test: &Test, bytes: &[u8]) -> bool
-    requires one { tests.now ≡ test.now ∷ [] }
-    requires kind { ((test.now.kind == 1) || (test.now.kind == 2)) ≡ true }
-    ensures { result ≡ passes tests.now (λ x. meets x (dissected bytes.now)) }
+fn run_one(test: &Test, bytes: &[u8]) -> bool
+    requires { ((test.now.kind == 1) || (test.now.kind == 2)) ≡ true }
+    ensures { result ≡ passes (test.now ∷ []) (λ x. meets x (dissected bytes.now)) }
 {
-    match Packet::visit(bytes, &mut OneTester { tests, test }) {
+    match Packet::visit(bytes, &mut OneTester { test }) {
         Visited::Plain(passed) => passed,
         Visited::Slow(passed) => passed,
     }
@@ -137,9 +136,7 @@ fn run_early(tests: &[Test], packet: &Packet<'_>, flags: Flags) -> Reached
 /// tested in a place of its own, where fewer of its parts are computed.
 #[derive(Clone, Copy, Debug)]
 struct OneTester<'t> {
-    tests: &'t [Test],
     test: &'t Test,
-    ghost one: { tests.now ≡ test.now ∷ [] },
     ghost kind: { ((test.now.kind == 1) || (test.now.kind == 2)) ≡ true },
 }
 
@@ -149,10 +146,12 @@ impl<'a> PacketVisitor<'a> for OneTester<'_> {
     type Slow = bool;
 
     ghost plain = { λ old s new passed.
-        passed ≡ passes old.tests.now (λ x. meets x (dissected s)) };
+        passed ≡ ((if meets old.test.now (dissected s) then old.test.now.if_met else old.test.now.if_not)
+        == 64) };
 
     ghost slow = { λ old s new passed.
-        passed ≡ passes old.tests.now (λ x. meets x (dissected s)) };
+        passed ≡ ((if meets old.test.now (dissected s) then old.test.now.if_met else old.test.now.if_not)
+        == 64) };
 
     #[inline(always)]
     fn visit_plain(&mut self, packet: Packet<'a>) -> bool {
@@ -171,7 +170,8 @@ impl<'a> PacketVisitor<'a> for OneTester<'_> {
                 .test
                 .has_passed(self.test.is_met_by_numbers(&packet, flags));
         }
-        run_stored(self.tests, 0, &Facts { packet, flags })
+        let facts = Facts { packet, flags };
+        self.test.has_passed(self.test.is_met_by_facts(&facts))
     }
 }
 

@@ -26,5 +26,5 @@ abbrev pub matches_of : Filter → List (List ℕ) → List ℕ
 matches_of filter packets = map (λ s. one_if (passes (tests_of filter) (λ x. meets x (dissected s)))) packets
 
 -- the parts of each packet
-abbrev pub parts_of : List (List ℕ) → List DissectionParts
-parts_of packets = map (λ s. dissection_parts (dissected s)) packets
+abbrev pub all_parts : List (List ℕ) → List DissectionParts
+all_parts packets = map (λ s. dissection_parts (dissected s)) packets

@@ -14,7 +14,7 @@ use Rattle.ip_filter.specs.Compiled.{terms_of}
 use Rattle.ip_filter.specs.Grammar.{Conjunction, Disjunction, filter_words, formula_of, IsFilter}
 use Rattle.ip_filter.specs.Reading.{IsEnd, IsPlace, IsFirstWord}
 use Rattle.ip_filter.specs.Parsing.{State, before, after, nothing, Moves, may_follow, LeadsTo, ends, goes_on, or_joined, HasRoom, state_words, Fits, Holds, IsFinished, ReadsOn, RefusesFrom, IsDue, IsWhole}
-use Rattle.ip_filter.specs.Parsed.{IsParsed, IsFirstError, IsExpected}
+use Rattle.ip_filter.specs.Parsed.{IsParsedFilter, IsFirstError, IsExpected}
 use Rattle.ip_filter.proofs.PlaceLemmas.{whole, end_of_end, place_in_end, from_place}
 use Rattle.ip_filter.proofs.WordLemmas.{no_words, words_short}
 use Rattle.ip_filter.proofs.LeadLemmas.{start_leads, lead_filter, can_end, due_is_expected}
@@ -142,7 +142,7 @@ no_first [] e = refl
 no_first (w ∷ ws) e = cc
 
 pub parsed : (text rest : List ℕ) (b : Builder) (x : Steps) (filter : Filter) (g : Going text rest b) → length text < 2 ^ 63 → words rest ≡ [] → ((s : State) → Holds s b → Fits s → IsFinished s x)
-    → ((f : Formula) → read_after [] (steps_of x) ≡ f ∷ [] → terms_of f ≤ 64 → (frame : Option (List ℕ)) → passes (tests_of filter) (frame_meets frame) ≡ truth f (frame_holds frame)) → IsParsed text filter
+    → ((f : Formula) → read_after [] (steps_of x) ≡ f ∷ [] → terms_of f ≤ 64 → (frame : Option (List ℕ)) → passes (tests_of filter) (frame_meets frame) ≡ truth f (frame_holds frame)) → IsParsedFilter text filter
 parsed text rest b x filter g short none finish compiled =
     let f = finish g.state g.holds (fits text rest b g short) in
     let d = or_joined f.or_left f.last in

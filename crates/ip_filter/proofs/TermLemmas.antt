@@ -22,7 +22,7 @@ use Rattle.ip_filter.specs.declared.term.FaultKind.{FaultKind}
 use Rattle.ip_filter.specs.declared.network.Network.{Network}
 use Rattle.ip_filter.specs.declared.words.Word.{Word as FirstWord}
 use Rattle.ip_filter.specs.Words.{Word, words}
-use Rattle.ip_filter.specs.Numbers.{version_of, header_of, protocol_of, number_up_to, ports_of, tcp_flags_of, names_in, comparison_of, fault_kind_of, layer_of, IsNetworkText, IsHostText}
+use Rattle.ip_filter.specs.Numbers.{version_named, header_named, protocol_of, number_up_to, ports_of, tcp_flags_of, names_in, comparison_of, fault_kind_of, layer_named, IsNetworkText, IsHostText}
 use Rattle.ip_filter.specs.Grammar.{AreArguments, IsOne, Finds, Make, AreCompared, AreSide, source, destination, is_and, is_or}
 use Rattle.ip_filter.specs.Reading.{IsFirstWord, BeginsOtherwise, ReadsArgument, RefusesArgument, ReadsArguments, RefusesArguments, ReadsTerm, RefusesTerm, WantsArgument, IsKeyword, IsCountKeyword, IsNumberKeyword, IsByteKeyword, IsSideKeyword, ends_term}
 use Rattle.ip_filter.proofs.NetworkTextLemmas.{one_network, some_network, some_host}
@@ -151,8 +151,8 @@ module _ {A : Type 0} (find : Word → Option A) (no_and : find (codes "and") �
 kind_goes_on : (w : Word) (ws : List Word) (kind : FaultKind) → fault_kind_of w ≡ Some kind → IsTrue (ends_term (w ∷ ws)) → ⊥
 kind_goes_on = goes_on fault_kind_of refl refl refl refl refl
 
-layer_goes_on : (w : Word) (ws : List Word) (l : Layer) → layer_of w ≡ Some l → IsTrue (ends_term (w ∷ ws)) → ⊥
-layer_goes_on = goes_on layer_of refl refl refl refl refl
+layer_goes_on : (w : Word) (ws : List Word) (l : Layer) → layer_named w ≡ Some l → IsTrue (ends_term (w ∷ ws)) → ⊥
+layer_goes_on = goes_on layer_named refl refl refl refl refl
 
 no_word : {A : Type 0} (find : Word → Option A) (text : List ℕ) → words text ≡ [] → BeginsOtherwise find text
 no_word find text e w one = absurd (cc (ap (take 1) (sym e) ∙ one))
@@ -160,15 +160,15 @@ no_word find text e w one = absurd (cc (ap (take 1) (sym e) ∙ one))
 other_word : {A : Type 0} (find : Word → Option A) (text : List ℕ) (w : FirstWord) → IsFirstWord text w → None ≡ find w.bytes.now → BeginsOtherwise find text
 other_word find text w is none v one = let same : v ≡ w.bytes.now = cc (sym one ∙ ap (take 1) is.begins) in ap find same ∙ sym none
 
-pub no_word_is_no_layer : (text : List ℕ) → words text ≡ [] → BeginsOtherwise layer_of text
-no_word_is_no_layer text e = no_word layer_of text e
+pub no_word_is_no_layer : (text : List ℕ) → words text ≡ [] → BeginsOtherwise layer_named text
+no_word_is_no_layer text e = no_word layer_named text e
 
-pub other_is_no_layer : (text : List ℕ) (w : FirstWord) → IsFirstWord text w → None ≡ layer_of w.bytes.now → BeginsOtherwise layer_of text
-other_is_no_layer text w is none = other_word layer_of text w is none
+pub other_is_no_layer : (text : List ℕ) (w : FirstWord) → IsFirstWord text w → None ≡ layer_named w.bytes.now → BeginsOtherwise layer_named text
+other_is_no_layer text w is none = other_word layer_named text w is none
 
 -- ---- `truncated`, which a layer may follow
 
-pub truncated_at : (text rest : List ℕ) (l : Layer) → ReadsArgument (Finds layer_of) text l rest → ReadsTerm keyword.Truncated text (term.TruncatedAt l) rest
+pub truncated_at : (text rest : List ℕ) (l : Layer) → ReadsArgument (Finds layer_named) text l rest → ReadsTerm keyword.Truncated text (term.TruncatedAt l) rest
 truncated_at text rest l r = record {
   args = r.word ∷ [];
   begins = r.begins;
@@ -180,12 +180,12 @@ truncated_at text rest l r = record {
         absurd (layer_goes_on r.word ws l r.writes (subst (λ x. IsTrue (ends_term x)) all ends))
     | inr f ↦
         let head : f.1.0 ≡ r.word = cc (sym (ap (λ x. x ++ more) f.1.1) ∙ same) in
-        let again : f.0 ≡ l = found_once layer_of r.word f.0 l (subst (λ x. Finds layer_of x f.0) head f.1.2) r.writes in
+        let again : f.0 ≡ l = found_once layer_named r.word f.0 l (subst (λ x. Finds layer_named x f.0) head f.1.2) r.writes in
         (f.2 ∙ ap term.TruncatedAt again, f.1.1 ∙ ap (λ x. x ∷ []) head)
   ];
 }
 
-pub plain_truncated : (text : List ℕ) → BeginsOtherwise layer_of text → ReadsTerm keyword.Truncated text term.Truncated text
+pub plain_truncated : (text : List ℕ) → BeginsOtherwise layer_named text → ReadsTerm keyword.Truncated text term.Truncated text
 plain_truncated text none = record {
   args = [];
   begins = refl;
@@ -208,7 +208,7 @@ module _ (text : List ℕ) (w : FirstWord) (kind : FaultKind) (is : IsFirstWord 
   same_kind : (v : Word) (k : FaultKind) → v ≡ w.bytes.now → fault_kind_of v ≡ Some k → k ≡ kind
   same_kind v k head finds = found_once fault_kind_of w.bytes.now k kind (subst (λ x. Finds fault_kind_of x k) head finds) (sym found)
 
-  pub fault_of : BeginsOtherwise layer_of w.rest.now → ReadsTerm keyword.Fault text (term.FaultOf kind) w.rest.now
+  pub fault_of : BeginsOtherwise layer_named w.rest.now → ReadsTerm keyword.Fault text (term.FaultOf kind) w.rest.now
   fault_of none = record {
     args = w.bytes.now ∷ [];
     begins = is.begins;
@@ -228,7 +228,7 @@ module _ (text : List ℕ) (w : FirstWord) (kind : FaultKind) (is : IsFirstWord 
     ];
   }
 
-  pub fault_at : (rest : List ℕ) (l : Layer) → ReadsArgument (Finds layer_of) w.rest.now l rest → ReadsTerm keyword.Fault text (term.FaultAt kind l) rest
+  pub fault_at : (rest : List ℕ) (l : Layer) → ReadsArgument (Finds layer_named) w.rest.now l rest → ReadsTerm keyword.Fault text (term.FaultAt kind l) rest
   fault_at rest l r = record {
     args = w.bytes.now ∷ r.word ∷ [];
     begins = is.begins ∙ ap (λ ws. w.bytes.now ∷ ws) r.begins;
@@ -245,7 +245,7 @@ module _ (text : List ℕ) (w : FirstWord) (kind : FaultKind) (is : IsFirstWord 
             let all : g.1.0 ∷ g.1.1 ∷ more ≡ w.bytes.now ∷ r.word ∷ ws = sym (ap (λ x. x ++ more) g.1.2) ∙ same in
             let head : g.1.0 ≡ w.bytes.now = cc all in
             let second : g.1.1 ≡ r.word = cc all in
-            let again : g.0.1 ≡ l = found_once layer_of r.word g.0.1 l (subst (λ x. Finds layer_of x g.0.1) second g.1.4) r.writes in (
+            let again : g.0.1 ≡ l = found_once layer_named r.word g.0.1 l (subst (λ x. Finds layer_named x g.0.1) second g.1.4) r.writes in (
               g.2 ∙ ap (λ k. term.FaultAt k g.0.1) (same_kind g.1.0 g.0.0 head g.1.3) ∙ ap (term.FaultAt kind) again,
               g.1.2 ∙ ap (λ x. x ∷ g.1.1 ∷ []) head ∙ ap (λ x. w.bytes.now ∷ x ∷ []) second,
             )
@@ -286,17 +286,17 @@ module _ (text : List ℕ) where
     only = λ u us ws more au ends same next. (au.1, au.0);
   }
 
-  pub version_read : (rest : List ℕ) (a : ℕ) → ReadsArgument (Finds version_of) text a rest → ReadsTerm (keyword.Number number.Version) text (term.Version a) rest
-  version_read rest a r = is_read (keyword.Number number.Version) (IsOne (Finds version_of)) term.Version (λ us t m. m) (λ us t m. m) text rest a (one (Finds version_of) (found_once version_of) text rest a r)
+  pub version_read : (rest : List ℕ) (a : ℕ) → ReadsArgument (Finds version_named) text a rest → ReadsTerm (keyword.Number number.Version) text (term.Version a) rest
+  version_read rest a r = is_read (keyword.Number number.Version) (IsOne (Finds version_named)) term.Version (λ us t m. m) (λ us t m. m) text rest a (one (Finds version_named) (found_once version_named) text rest a r)
 
-  pub version_refused : (left : ℕ) (e : Expected) → RefusesArgument (Finds version_of) text left × (e ≡ expects.Version) → RefusesTerm (keyword.Number number.Version) text left e
-  version_refused left e r = is_refused (keyword.Number number.Version) (IsOne (Finds version_of)) term.Version (λ us t m. m) (λ us t m. m) (IsKeyword (keyword.Number number.Version)) (λ w i. i) text left e (not_one (Finds version_of) (found_once version_of) (codes "4", 4, refl) (IsKeyword (keyword.Number number.Version)) expects.Version (λ w i. ([], w, refl, i)) text left e r)
+  pub version_refused : (left : ℕ) (e : Expected) → RefusesArgument (Finds version_named) text left × (e ≡ expects.Version) → RefusesTerm (keyword.Number number.Version) text left e
+  version_refused left e r = is_refused (keyword.Number number.Version) (IsOne (Finds version_named)) term.Version (λ us t m. m) (λ us t m. m) (IsKeyword (keyword.Number number.Version)) (λ w i. i) text left e (not_one (Finds version_named) (found_once version_named) (codes "4", 4, refl) (IsKeyword (keyword.Number number.Version)) expects.Version (λ w i. ([], w, refl, i)) text left e r)
 
-  pub header_read : (rest : List ℕ) (a : ℕ) → ReadsArgument (Finds header_of) text a rest → ReadsTerm (keyword.Number number.Header) text (term.Header a) rest
-  header_read rest a r = is_read (keyword.Number number.Header) (IsOne (Finds header_of)) term.Header (λ us t m. m) (λ us t m. m) text rest a (one (Finds header_of) (found_once header_of) text rest a r)
+  pub header_read : (rest : List ℕ) (a : ℕ) → ReadsArgument (Finds header_named) text a rest → ReadsTerm (keyword.Number number.Header) text (term.Header a) rest
+  header_read rest a r = is_read (keyword.Number number.Header) (IsOne (Finds header_named)) term.Header (λ us t m. m) (λ us t m. m) text rest a (one (Finds header_named) (found_once header_named) text rest a r)
 
-  pub header_refused : (left : ℕ) (e : Expected) → RefusesArgument (Finds header_of) text left × (e ≡ expects.Header) → RefusesTerm (keyword.Number number.Header) text left e
-  header_refused left e r = is_refused (keyword.Number number.Header) (IsOne (Finds header_of)) term.Header (λ us t m. m) (λ us t m. m) (IsKeyword (keyword.Number number.Header)) (λ w i. i) text left e (not_one (Finds header_of) (found_once header_of) (codes "0", 0, refl) (IsKeyword (keyword.Number number.Header)) expects.Header (λ w i. ([], w, refl, i)) text left e r)
+  pub header_refused : (left : ℕ) (e : Expected) → RefusesArgument (Finds header_named) text left × (e ≡ expects.Header) → RefusesTerm (keyword.Number number.Header) text left e
+  header_refused left e r = is_refused (keyword.Number number.Header) (IsOne (Finds header_named)) term.Header (λ us t m. m) (λ us t m. m) (IsKeyword (keyword.Number number.Header)) (λ w i. i) text left e (not_one (Finds header_named) (found_once header_named) (codes "0", 0, refl) (IsKeyword (keyword.Number number.Header)) expects.Header (λ w i. ([], w, refl, i)) text left e r)
 
   pub leads_to_read : (rest : List ℕ) (a : ℕ) → ReadsArgument (Finds protocol_of) text a rest → ReadsTerm (keyword.Number number.LeadsTo) text (term.LeadsTo a) rest
   leads_to_read rest a r = is_read (keyword.Number number.LeadsTo) (IsOne (Finds protocol_of)) term.LeadsTo (λ us t m. m) (λ us t m. m) text rest a (one (Finds protocol_of) (found_once protocol_of) text rest a r)

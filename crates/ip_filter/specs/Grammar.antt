@@ -18,7 +18,7 @@ use Rattle.ip_filter.specs.declared.keyword.AddressKeyword.TheVariants as addres
 use Rattle.ip_filter.specs.declared.parse_term.Side.{Side}
 use Rattle.ip_filter.specs.declared.parse_term.Side.TheVariants as side
 use Rattle.ip_filter.specs.Words.{Word}
-use Rattle.ip_filter.specs.Numbers.{version_of, header_of, upper_layer_of, protocol_of, number_up_to, ports_of, tcp_flags_of, comparison_of, fault_kind_of, layer_of, IsNetworkText, IsHostText}
+use Rattle.ip_filter.specs.Numbers.{version_named, header_named, upper_layer_of, protocol_of, number_up_to, ports_of, tcp_flags_of, comparison_of, fault_kind_of, layer_named, IsNetworkText, IsHostText}
 use Rattle.ip_filter.specs.Formula.{Formula, single, negation, both, either}
 
 -- ---- keywords
@@ -98,7 +98,7 @@ AreCompared args c =
 
 -- a kind of fault and a layer
 abbrev pub AreFaultAt : List Word → FaultKind × Layer → Type 0
-AreFaultAt args f = (w : Word) × (v : Word) × (args ≡ w ∷ v ∷ []) × (fault_kind_of w ≡ Some f.0) × (layer_of v ≡ Some f.1)
+AreFaultAt args f = (w : Word) × (v : Word) × (args ≡ w ∷ v ∷ []) × (fault_kind_of w ≡ Some f.0) × (layer_named v ≡ Some f.1)
 
 -- a network, or `port` and ports
 abbrev pub AreSide : List Word → Side → Type 0
@@ -119,8 +119,8 @@ Make {A} Write make args t = (a : A) × Write args a × (t ≡ make a)
 
 -- the words after a keyword, which write the term t with it
 abbrev pub AreNumberArguments : NumberKeyword → List Word → Term → Type 0
-AreNumberArguments number.Version args t = Make (IsOne (Finds version_of)) term.Version args t
-AreNumberArguments number.Header args t = Make (IsOne (Finds header_of)) term.Header args t
+AreNumberArguments number.Version args t = Make (IsOne (Finds version_named)) term.Version args t
+AreNumberArguments number.Header args t = Make (IsOne (Finds header_named)) term.Header args t
 AreNumberArguments number.LeadsTo args t = Make (IsOne (Finds protocol_of)) term.LeadsTo args t
 AreNumberArguments number.SecurityParameters args t = Make (IsOne (Finds (number_up_to 4294967295))) term.SecurityParameters args t
 AreNumberArguments number.Identification args t = Make (IsOne (Finds (number_up_to 4294967295))) term.Identification args t
@@ -139,7 +139,7 @@ AreAddressArguments address.Port args t = Make (IsOne (Finds ports_of)) term.Por
 
 abbrev pub AreArguments : Keyword → List Word → Term → Type 0
 AreArguments (keyword.Alone u) args t = (args ≡ []) × (t ≡ u)
-AreArguments keyword.Truncated args t = ((args ≡ []) × (t ≡ term.Truncated)) ⊎ Make (IsOne (Finds layer_of)) term.TruncatedAt args t
+AreArguments keyword.Truncated args t = ((args ≡ []) × (t ≡ term.Truncated)) ⊎ Make (IsOne (Finds layer_named)) term.TruncatedAt args t
 AreArguments keyword.Fault args t =
     ((args ≡ []) × (t ≡ term.Fault))
     ⊎ (Make (IsOne (Finds fault_kind_of)) term.FaultOf args t ⊎ Make AreFaultAt (λ f. term.FaultAt f.0 f.1) args t)

@@ -47,12 +47,12 @@ limited most (Some n) = if nat_le n most then Some n else None
 abbrev pub number_up_to : ℕ → Word → Option ℕ
 number_up_to most w = limited most (number_of w)
 
-abbrev pub version_of : Word → Option ℕ
-version_of w = if bytes_eq w (codes "4") then Some 4 else if bytes_eq w (codes "6") then Some 6 else None
+abbrev pub version_named : Word → Option ℕ
+version_named w = if bytes_eq w (codes "4") then Some 4 else if bytes_eq w (codes "6") then Some 6 else None
 
 -- an extension header, by its name, the short form of that, or its number
-abbrev pub header_of : Word → Option ℕ
-header_of w =
+abbrev pub header_named : Word → Option ℕ
+header_named w =
     if bytes_eq w (codes "hop-by-hop") || bytes_eq w (codes "hopopt") then Some 0
     else if bytes_eq w (codes "routing") || bytes_eq w (codes "route") then Some 43
     else if bytes_eq w (codes "fragment") || bytes_eq w (codes "frag") then Some 44
@@ -77,7 +77,7 @@ upper_layer_of w =
 
 -- what follows the headers, by its name or number
 abbrev pub protocol_of : Word → Option ℕ
-protocol_of w = option_or (upper_layer_of w) (header_of w)
+protocol_of w = option_or (upper_layer_of w) (header_named w)
 
 abbrev pub comparison_of : Word → Option Comparison
 comparison_of w =
@@ -99,8 +99,8 @@ fault_kind_of w =
     else None
 
 -- the layer of a header that may be truncated or faulty
-abbrev pub layer_of : Word → Option Layer
-layer_of w =
+abbrev pub layer_named : Word → Option Layer
+layer_named w =
     if bytes_eq w (codes "IP-header") then Some layer.IpHeader
     else if bytes_eq w (codes "IPv4-header") then Some layer.Ipv4Header
     else if bytes_eq w (codes "IPv4-packet") then Some layer.Ipv4Packet

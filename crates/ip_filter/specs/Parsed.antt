@@ -11,7 +11,7 @@ use Rattle.ip_filter.specs.Grammar.{Disjunction, filter_words, formula_of, IsFil
 use Rattle.ip_filter.specs.Reading.{IsPlace, WantsArgument, IsOperator}
 
 -- The words of the text are a filter, in one way, and x lets those frames pass of which its formula holds.
-pub record IsParsed (text : List ℕ) (x : Filter) : Type 0 where
+pub record IsParsedFilter (text : List ℕ) (x : Filter) : Type 0 where
   pub written : Disjunction
   pub filter : IsFilter written
   pub words_of : filter_words written ≡ words text

@@ -4,7 +4,7 @@
 ghost use Rattle.std.specs.Prelude.{◌≡◌, [], IfOk, IfErr};
 ghost use Rattle.ip_filter.specs.declared.parse_error.Expected.TheVariants as expects;
 ghost use Rattle.ip_filter.specs.Words.{words};
-ghost use Rattle.ip_filter.specs.Numbers.{number_up_to, version_of, header_of, protocol_of, comparison_of, ports_of, tcp_flags_of, IsNetworkText, IsHostText};
+ghost use Rattle.ip_filter.specs.Numbers.{number_up_to, version_named, header_named, protocol_of, comparison_of, ports_of, tcp_flags_of, IsNetworkText, IsHostText};
 ghost use Rattle.ip_filter.specs.Grammar.{Finds};
 ghost use Rattle.ip_filter.specs.Reading.{IsPlace, IsFirstWord, ReadsArgument, RefusesArgument};
 
@@ -51,8 +51,8 @@ pub(crate) fn argument(text: &[u8], expected: Expected) -> Result<Word<'_>, Unex
 
 /// Reads an IP version.
 pub(crate) fn read_version(text: &[u8]) -> Result<(u8, &[u8]), Unexpected>
-    ensures ok { IfOk result (λ r. ReadsArgument (Finds version_of) text.now r.0 r.1.now) }
-    ensures err { IfErr result (λ e. RefusesArgument (Finds version_of) text.now e.left
+    ensures ok { IfOk result (λ r. ReadsArgument (Finds version_named) text.now r.0 r.1.now) }
+    ensures err { IfErr result (λ e. RefusesArgument (Finds version_named) text.now e.left
         × (e.expected ≡ expects.Version)) }
 {
     let word = argument(text, Expected::Version)?;
@@ -64,8 +64,8 @@ pub(crate) fn read_version(text: &[u8]) -> Result<(u8, &[u8]), Unexpected>
 
 /// Reads the name or number of an extension header.
 pub(crate) fn read_header(text: &[u8]) -> Result<(u8, &[u8]), Unexpected>
-    ensures ok { IfOk result (λ r. ReadsArgument (Finds header_of) text.now r.0 r.1.now) }
-    ensures err { IfErr result (λ e. RefusesArgument (Finds header_of) text.now e.left
+    ensures ok { IfOk result (λ r. ReadsArgument (Finds header_named) text.now r.0 r.1.now) }
+    ensures err { IfErr result (λ e. RefusesArgument (Finds header_named) text.now e.left
         × (e.expected ≡ expects.Header)) }
 {
     let word = argument(text, Expected::Header)?;

@@ -1,6 +1,6 @@
 //! The layers of headers that are truncated or faulty.
 ghost use Rattle.std.specs.Prelude.{◌≡◌};
-ghost use Rattle.ip_filter.specs.Numbers.{layer_of};
+ghost use Rattle.ip_filter.specs.Numbers.{layer_named};
 ghost use Rattle.ip_filter.specs.Truth.{is_in_layer};
 
 use ip_base::err::Layer;
@@ -9,7 +9,7 @@ use ip_dissect::End;
 
 /// Returns the layer that the word names.
 pub(crate) fn parse_layer(word: &[u8]) -> Option<Layer>
-    ensures { result ≡ layer_of word.now }
+    ensures { result ≡ layer_named word.now }
 {
     if word == b"IP-header".as_slice() {
         return Some(Layer::IpHeader);

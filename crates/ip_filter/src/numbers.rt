@@ -1,6 +1,6 @@
 //! Numbers, names and ports, as a filter's text writes them.
 ghost use Rattle.std.specs.Prelude.{◌≡◌, ◌≤◌, ◌-◌, ◌^◌, length, true};
-ghost use Rattle.ip_filter.specs.Numbers.{numeral, limited, number_up_to, version_of, header_of, upper_layer_of, protocol_of, ports_of, comparison_of, fault_kind_of, index_of};
+ghost use Rattle.ip_filter.specs.Numbers.{numeral, limited, number_up_to, version_named, header_named, upper_layer_of, protocol_of, ports_of, comparison_of, fault_kind_of, index_of};
 
 use crate::{Comparison, FaultKind, Ports};
 
@@ -38,7 +38,7 @@ pub(crate) fn parse_number(word: &[u8], most: u64) -> Option<u64>
 
 /// Returns the IP version that the word writes.
 pub(crate) fn parse_version(word: &[u8]) -> Option<u8>
-    ensures { result ≡ version_of word.now }
+    ensures { result ≡ version_named word.now }
 {
     if word == b"4".as_slice() {
         return Some(4);
@@ -51,7 +51,7 @@ pub(crate) fn parse_version(word: &[u8]) -> Option<u8>
 
 /// Returns the number of the extension header that the word names, or the number that it writes.
 pub(crate) fn parse_header(word: &[u8]) -> Option<u8>
-    ensures { result ≡ header_of word.now }
+    ensures { result ≡ header_named word.now }
 {
     if word == b"hop-by-hop".as_slice() || word == b"hopopt".as_slice() {
         return Some(0);

@@ -1,6 +1,6 @@
 //! Parses the text of a filter.
 ghost use Rattle.std.specs.Prelude.{◌≡◌, IfOk, IfErr};
-ghost use Rattle.ip_filter.specs.Parsed.{IsParsed, IsFirstError};
+ghost use Rattle.ip_filter.specs.Parsed.{IsParsedFilter, IsFirstError};
 
 use crate::builder::Builder;
 use crate::words::first_word;
@@ -14,7 +14,7 @@ impl Filter {
     /// levels of parentheses are accepted. The error is at the first word that can't continue a filter, and says what
     /// was expected there.
     pub fn parse(text: &[u8]) -> Result<Filter, ParseError>
-        ensures ok { IfOk result (IsParsed text.now) }
+        ensures ok { IfOk result (IsParsedFilter text.now) }
         ensures err { IfErr result (λ e. IsFirstError text.now e.offset e.expected) }
     {
         let mut builder = Builder::new();

@@ -2,7 +2,7 @@
 ghost use Rattle.std.specs.Prelude.{◌≡◌, IfOk, IfErr, IfSome, IfNone};
 ghost use Rattle.ip_filter.specs.declared.keyword.Keyword.TheVariants as is;
 ghost use Rattle.ip_filter.specs.Grammar.{Finds, AreCompared, AreSide, source, destination};
-ghost use Rattle.ip_filter.specs.Numbers.{layer_of};
+ghost use Rattle.ip_filter.specs.Numbers.{layer_named};
 ghost use Rattle.ip_filter.specs.Reading.{IsCountKeyword, IsSideKeyword, BeginsOtherwise, ReadsTerm, RefusesTerm, ReadsArgument, ReadsArguments, RefusesArguments};
 
 use crate::arguments::{
@@ -62,8 +62,8 @@ fn read_truncated(text: &[u8]) -> (Term, &[u8])
 /// Reads a layer, if the text begins with one.
 #[tactic(auto, using(crate::proofs::ArgumentLemmas::this_word, crate::proofs::TermLemmas::no_word_is_no_layer, crate::proofs::TermLemmas::other_is_no_layer))]
 fn read_layer(text: &[u8]) -> Option<(Layer, &[u8])>
-    ensures some { IfSome result (λ r. ReadsArgument (Finds layer_of) text.now r.0 r.1.now) }
-    ensures none { IfNone result (BeginsOtherwise layer_of text.now) }
+    ensures some { IfSome result (λ r. ReadsArgument (Finds layer_named) text.now r.0 r.1.now) }
+    ensures none { IfNone result (BeginsOtherwise layer_named text.now) }
 {
     match first_word(text) {
         Some(word) => match parse_layer(word.bytes) {

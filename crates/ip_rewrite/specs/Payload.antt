@@ -11,14 +11,14 @@ use Rattle.ip_rewrite.specs.declared.err.RewriteError.{RewriteError}
 use Rattle.ip_rewrite.specs.declared.err.RewriteError.TheVariants as err
 
 -- the packet is a fragment, but not a whole packet with a fragment header (RFC 6946)
-abbrev pub is_fragmented : DissectedParts → Bool
-is_fragmented p = option_map_or (λ x. not (is_atomic x)) p.fragment false
+abbrev pub is_non_atomic : DissectedParts → Bool
+is_non_atomic p = option_map_or (λ x. not (is_atomic x)) p.fragment false
 
 -- why no other payload, whose number is m, can follow the headers: the packet is a fragment; an authentication header
 -- covers the payload (RFC 4302, section 3.3.3); or the payload would be read as one more header
 abbrev pub replacement_fault : Authentication → ℕ → DissectedParts → Option RewriteError
 replacement_fault a m p =
-    if is_fragmented p then Some err.Fragmented
+    if is_non_atomic p then Some err.Fragmented
     else if list_any is_authentication p.headers && not (may_be_invalid a) then Some err.Authenticated
     else if is_read_on p.version p.headers m then Some err.HeaderFollows
     else None

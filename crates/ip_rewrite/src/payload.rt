@@ -8,7 +8,7 @@ ghost use Rattle.ip_dissect.specs.Dissection.{DissectedParts, dissected};
 ghost use Rattle.ip_dissect.specs.Outline.{outline_of};
 ghost use Rattle.ip_rewrite.specs.Rewritten.{is_extension, is_read_on, rewritten, rewritten_len, rewritten_field, rewritten_parts};
 ghost use Rattle.ip_rewrite.specs.Without.{is_authentication, packet_fault};
-ghost use Rattle.ip_rewrite.specs.Payload.{is_fragmented, replacement_fault, payload_fault};
+ghost use Rattle.ip_rewrite.specs.Payload.{is_non_atomic, replacement_fault, payload_fault};
 ghost use Rattle.ip_rewrite.specs.Writing.{link_of};
 
 use crate::removal::test_packet;
@@ -44,7 +44,7 @@ impl HeaderVisitor for Seen {
 /// Returns whether a packet is a fragment, but not a whole packet with a fragment header.
 #[inline(always)]
 fn is_fragmented(outline: &Outline) -> bool
-    ensures { (p : DissectedParts) → outline.now ≡ outline_of p → result ≡ is_fragmented p }
+    ensures { (p : DissectedParts) → outline.now ≡ outline_of p → result ≡ is_non_atomic p }
 {
     match outline.fragment {
         Some(fragment) => !matches!(fragment.kind, FragmentKind::Atomic),

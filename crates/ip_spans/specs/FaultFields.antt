@@ -56,9 +56,9 @@ no_fault = content_fields 0 NO_FAULT 0 0
 abbrev pub auth_error_fields : ℕ → ℕ → AuthError → FaultFields
 auth_error_fields header k ZeroPayloadLen = content_fields header ZERO_PAYLOAD_LEN k 0
 
-abbrev pub auth_fields : ℕ → ℕ → AuthSliceError → FaultFields
-auth_fields header k (auth.Len e) = len_fields header e
-auth_fields header k (auth.Content e) = auth_error_fields header k e
+abbrev pub auth_fault_fields : ℕ → ℕ → AuthSliceError → FaultFields
+auth_fault_fields header k (auth.Len e) = len_fields header e
+auth_fault_fields header k (auth.Content e) = auth_error_fields header k e
 
 -- an error in an IPv6 chain, in a header at offset k
 abbrev pub exts_error_fields : ℕ → ℕ → ExtsError → FaultFields
@@ -76,7 +76,7 @@ chain_fault_fields k (Some (e, header)) = exts_fields (layer_code header) k e
 
 abbrev pub ipv4_chain_fault_fields : ℕ → Option AuthSliceError → FaultFields
 ipv4_chain_fault_fields k None = no_fault
-ipv4_chain_fault_fields k (Some e) = auth_fields (layer_code IpAuthHeader) k e
+ipv4_chain_fault_fields k (Some e) = auth_fault_fields (layer_code IpAuthHeader) k e
 
 -- an error in a base header
 abbrev pub base_error_fields : HeaderError → FaultFields

@@ -45,12 +45,12 @@ payload_span version p = record {
 }
 
 -- the error for bytes s that don't start with a packet; the offset of a faulty extension header is 0
-abbrev pub packet_fault : List ℕ → Option FaultFields
-packet_fault s = option_map (packet_fault_fields 0) (ip_fault s)
+abbrev pub ip_fault_fields : List ℕ → Option FaultFields
+ip_fault_fields s = option_map (packet_fault_fields 0) (ip_fault s)
 
 -- the error if an IPv6 packet may be truncated
-abbrev pub lax_packet_fault : List ℕ → Option FaultFields
-lax_packet_fault s = if version s == 6 then option_map ipv6_fault_fields (ipv6_lax_fault s) else packet_fault s
+abbrev pub lax_ip_fault_fields : List ℕ → Option FaultFields
+lax_ip_fault_fields s = if version s == 6 then option_map ipv6_fault_fields (ipv6_lax_fault s) else ip_fault_fields s
 
 -- the parts of the packet at the start of s
 abbrev pub parts_in : List ℕ → Parts

@@ -1,6 +1,6 @@
 //! The links between the headers that spans refer to.
 ghost use Rattle.std.specs.Prelude.{◌≡◌};
-ghost use Rattle.ip_spans.specs.LinkedSpans.{first_number, linked_spans};
+ghost use Rattle.ip_spans.specs.LinkedSpans.{number_of_first_span, linked_spans};
 
 use crate::header_span::HeaderSpan;
 
@@ -8,7 +8,7 @@ use crate::header_span::HeaderSpan;
 /// there is none. Only the headers' `next_header` changes.
 pub fn link_headers(spans: &mut [HeaderSpan], last: u8) -> u8
     ensures links { spans.new ≡ linked_spans last spans.old }
-    ensures first { result ≡ first_number last spans.old }
+    ensures first { result ≡ number_of_first_span last spans.old }
 {
     let mut next = last;
     let mut left = spans.len();

@@ -5,7 +5,7 @@ ghost use Rattle.etherparse_ip.specs.Ipv4Slice.{ipv4_parts};
 ghost use Rattle.etherparse_ip.specs.Ipv6Slice.{ipv6_parts};
 ghost use Rattle.ip_spans.specs.HeaderSpan.{filled};
 ghost use Rattle.ip_spans.specs.ChainParts.{flag};
-ghost use Rattle.ip_spans.specs.PacketParts.{IsPacketParts, packet_parts, packet_spans, packet_fault, lax_packet_fault};
+ghost use Rattle.ip_spans.specs.PacketParts.{IsPacketParts, packet_parts, packet_spans, ip_fault_fields, lax_ip_fault_fields};
 ghost use Rattle.ip_codes.specs.Codes.{len_source_code};
 
 use crate::fault_fields::FaultFields;
@@ -44,7 +44,7 @@ pub struct PacketParts {
 pub fn parse_packet(bytes: &[u8], spans: &mut [HeaderSpan]) -> Result<PacketParts, FaultFields>
     ensures packet { IfOk result (λ parts. IsPacketParts bytes.now spans.old parts spans.new) }
     ensures within { IfOk result (λ parts. parts.payload_offset + parts.payload_len ≤ length bytes.now) }
-    ensures fault { result_err result ≡ packet_fault bytes.now }
+    ensures fault { result_err result ≡ ip_fault_fields bytes.now }
     ensures same { IfErr result (λ _. spans.new ≡ spans.old) }
 {
     match IpSlice::from_slice(bytes) {
@@ -61,7 +61,7 @@ pub fn parse_packet(bytes: &[u8], spans: &mut [HeaderSpan]) -> Result<PacketPart
 pub fn parse_packet_lax(bytes: &[u8], spans: &mut [HeaderSpan]) -> Result<PacketParts, FaultFields>
     ensures packet { IfOk result (λ parts. IsPacketParts bytes.now spans.old parts spans.new) }
     ensures within { IfOk result (λ parts. parts.payload_offset + parts.payload_len ≤ length bytes.now) }
-    ensures fault { result_err result ≡ lax_packet_fault bytes.now }
+    ensures fault { result_err result ≡ lax_ip_fault_fields bytes.now }
     ensures same { IfErr result (λ _. spans.new ≡ spans.old) }
 {
     if bytes.is_empty() || bytes[0] >> 4 != 6 {

@@ -5,7 +5,7 @@ ghost use Rattle.ip_base.specs.Ipv4Header.{version};
 ghost use Rattle.etherparse_ip.specs.Ipv4Slice.{ipv4_parts};
 ghost use Rattle.etherparse_ip.specs.Ipv6Slice.{ipv6_parts};
 ghost use Rattle.ip_spans.specs.ChainParts.{flag};
-ghost use Rattle.ip_spans.specs.PacketParts.{payload_span, parts_in, packet_fault, lax_packet_fault};
+ghost use Rattle.ip_spans.specs.PacketParts.{payload_span, parts_in, ip_fault_fields, lax_ip_fault_fields};
 ghost use Rattle.ip_codes.specs.Codes.{len_source_code};
 
 use crate::fault_fields::FaultFields;
@@ -39,7 +39,7 @@ pub struct PayloadSpan {
 pub fn find_payload(bytes: &[u8]) -> Result<PayloadSpan, FaultFields>
     ensures payload { IfOk result (λ span. span ≡ payload_span (version bytes.now) (parts_in bytes.now)) }
     ensures within { IfOk result (λ span. span.offset + span.len ≤ length bytes.now) }
-    ensures fault { result_err result ≡ packet_fault bytes.now }
+    ensures fault { result_err result ≡ ip_fault_fields bytes.now }
 {
     match IpSlice::from_slice(bytes) {
         Ok(IpSlice::Ipv4(packet)) => Ok(PayloadSpan::of_ipv4(&packet)),
@@ -53,7 +53,7 @@ pub fn find_payload(bytes: &[u8]) -> Result<PayloadSpan, FaultFields>
 pub fn find_payload_lax(bytes: &[u8]) -> Result<PayloadSpan, FaultFields>
     ensures payload { IfOk result (λ span. span ≡ payload_span (version bytes.now) (parts_in bytes.now)) }
     ensures within { IfOk result (λ span. span.offset + span.len ≤ length bytes.now) }
-    ensures fault { result_err result ≡ lax_packet_fault bytes.now }
+    ensures fault { result_err result ≡ lax_ip_fault_fields bytes.now }
 {
     if bytes.is_empty() || bytes[0] >> 4 != 6 {
         return find_payload(bytes);

@@ -3,7 +3,7 @@ ghost use Rattle.std.specs.Prelude.{◌≡◌, ◌≤◌, ◌<◌, ◌+◌, drop
 ghost use Rattle.ip_dissect.specs.Dissection.{dissected};
 ghost use Rattle.ip_filter.specs.Tests.{meets};
 ghost use Rattle.ip_filter.specs.Program.{tests_of, passes};
-ghost use Rattle.ip_filter.specs.Parsed.{IsParsed, IsFirstError};
+ghost use Rattle.ip_filter.specs.Parsed.{IsParsedFilter, IsFirstError};
 ghost use Rattle.ip_filter.specs.declared.parse_error.Expected.{Expected as WasExpected};
 ghost use Rattle.ip_spans.specs.FilterError.{expected_code};
 ghost use Rattle.ip_spans.specs.HeaderSpan.{filled};
@@ -22,7 +22,7 @@ pub extern "C" fn wolfaren_parse_filter(
     filter: &mut Filter,
     error: &mut FilterError,
 ) -> bool
-    ensures filter { IsTrue result → IsParsed text.now filter.new }
+    ensures filter { IsTrue result → IsParsedFilter text.now filter.new }
     ensures no_error { IsTrue result → error.new ≡ error.old }
     ensures error { result ≡ false → (x : WasExpected) × (error.new.expected ≡ expected_code x)
         × IsFirstError text.now error.new.offset x }

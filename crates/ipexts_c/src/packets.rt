@@ -4,8 +4,8 @@ ghost use Rattle.ip_base.specs.Ipv4Header.{version};
 ghost use Rattle.ip_dissect.specs.Dissection.{dissected};
 ghost use Rattle.ip_spans.specs.HeaderSpan.{filled};
 ghost use Rattle.ip_spans.specs.DissectionParts.{dissection_parts, dissected_spans};
-ghost use Rattle.ip_spans.specs.PacketParts.{IsPacketParts, payload_span, parts_in, packet_fault, lax_packet_fault};
-ghost use Rattle.ip_batches.specs.Batch.{packets_at, first_outside, parts_of};
+ghost use Rattle.ip_spans.specs.PacketParts.{IsPacketParts, payload_span, parts_in, ip_fault_fields, lax_ip_fault_fields};
+ghost use Rattle.ip_batches.specs.Batch.{packets_at, first_outside, all_parts};
 
 use crate::bytes::Bytes;
 use crate::results::put_result;
@@ -28,8 +28,8 @@ pub extern "C" fn wolfaren_parse_packet(
     ensures within { IsTrue result
         → packet.new.payload_offset + packet.new.payload_len ≤ length bytes.entry.slice.now }
     ensures no_fault { IsTrue result
-        → (packet_fault bytes.entry.slice.now ≡ None) × (fault.new ≡ fault.old) }
-    ensures fault { result ≡ false → packet_fault bytes.entry.slice.now ≡ Some fault.new }
+        → (ip_fault_fields bytes.entry.slice.now ≡ None) × (fault.new ≡ fault.old) }
+    ensures fault { result ≡ false → ip_fault_fields bytes.entry.slice.now ≡ Some fault.new }
     ensures same { result ≡ false → (packet.new ≡ packet.old) × (spans.new ≡ spans.old) }
 {
     put_result(parse_packet(bytes.slice(), spans), packet, fault)
@@ -47,8 +47,8 @@ pub extern "C" fn wolfaren_parse_packet_lax(
     ensures within { IsTrue result
         → packet.new.payload_offset + packet.new.payload_len ≤ length bytes.entry.slice.now }
     ensures no_fault { IsTrue result
-        → (lax_packet_fault bytes.entry.slice.now ≡ None) × (fault.new ≡ fault.old) }
-    ensures fault { result ≡ false → lax_packet_fault bytes.entry.slice.now ≡ Some fault.new }
+        → (lax_ip_fault_fields bytes.entry.slice.now ≡ None) × (fault.new ≡ fault.old) }
+    ensures fault { result ≡ false → lax_ip_fault_fields bytes.entry.slice.now ≡ Some fault.new }
     ensures same { result ≡ false → (packet.new ≡ packet.old) × (spans.new ≡ spans.old) }
 {
     put_result(parse_packet_lax(bytes.slice(), spans), packet, fault)
@@ -67,9 +67,9 @@ pub extern "C" fn wolfaren_find_payload(
     ensures within { IsTrue result
         → payload.new.offset + payload.new.len ≤ length bytes.entry.slice.now }
     ensures no_fault { IsTrue result
-        → (packet_fault bytes.entry.slice.now ≡ None) × (fault.new ≡ fault.old) }
+        → (ip_fault_fields bytes.entry.slice.now ≡ None) × (fault.new ≡ fault.old) }
     ensures fault { result ≡ false
-        → (packet_fault bytes.entry.slice.now ≡ Some fault.new) × (payload.new ≡ payload.old) }
+        → (ip_fault_fields bytes.entry.slice.now ≡ Some fault.new) × (payload.new ≡ payload.old) }
 {
     put_result(find_payload(bytes.slice()), payload, fault)
 }
@@ -86,9 +86,9 @@ pub extern "C" fn wolfaren_find_payload_lax(
     ensures within { IsTrue result
         → payload.new.offset + payload.new.len ≤ length bytes.entry.slice.now }
     ensures no_fault { IsTrue result
-        → (lax_packet_fault bytes.entry.slice.now ≡ None) × (fault.new ≡ fault.old) }
+        → (lax_ip_fault_fields bytes.entry.slice.now ≡ None) × (fault.new ≡ fault.old) }
     ensures fault { result ≡ false
-        → (lax_packet_fault bytes.entry.slice.now ≡ Some fault.new) × (payload.new ≡ payload.old) }
+        → (lax_ip_fault_fields bytes.entry.slice.now ≡ Some fault.new) × (payload.new ≡ payload.old) }
 {
     put_result(find_payload_lax(bytes.slice()), payload, fault)
 }
@@ -119,7 +119,7 @@ pub extern "C" fn wolfaren_dissect_packets(
     outside: &mut usize,
 ) -> bool
     ensures parts { IsTrue result → parts.new ≡ filled
-        (parts_of (packets_at bytes.entry.slice.now spans.now)) parts.old }
+        (all_parts (packets_at bytes.entry.slice.now spans.now)) parts.old }
     ensures within { IsTrue result → (first_outside bytes.entry.slice.now spans.now ≡ None)
         × (outside.new ≡ outside.old) }
     ensures outside { result ≡ false

@@ -1,7 +1,7 @@
 //! Headers linked and written.
 ghost use Rattle.std.specs.Prelude.{◌≡◌, ◌≤◌, ◌<◌, ◌^◌, ℕ, length, false, IsTrue};
 ghost use Rattle.ip_spec.specs.Chain.{IsChain};
-ghost use Rattle.ip_spans.specs.LinkedSpans.{first_number, linked_spans};
+ghost use Rattle.ip_spans.specs.LinkedSpans.{number_of_first_span, linked_spans};
 ghost use Rattle.ip_spans.specs.Written.{AllLieIn, written_spans, written_chain, begun_with, AreChainSpans};
 
 use ip_spans::{HeaderSpan, link_headers, write_headers};
@@ -10,7 +10,7 @@ use ip_spans::{HeaderSpan, link_headers, write_headers};
 #[unsafe(no_mangle)]
 pub extern "C" fn wolfaren_link_headers(spans: &mut [HeaderSpan], last: u8) -> u8
     ensures links { spans.new ≡ linked_spans last spans.old }
-    ensures first { result ≡ first_number last spans.old }
+    ensures first { result ≡ number_of_first_span last spans.old }
 {
     link_headers(spans, last)
 }

@@ -58,7 +58,7 @@
 #define WOLFAREN_VERSION (10000 * WOLFAREN_VERSION_MAJOR + 100 * WOLFAREN_VERSION_MINOR + WOLFAREN_VERSION_PATCH)
 
 /* A checksum of the structs, numbers and calls in this header, made by scripts/abi of the repository. */
-#define WOLFAREN_ABI 0x991997b3u
+#define WOLFAREN_ABI 0xf1243696u
 
 #if !(defined(__x86_64__) && !defined(__ILP32__)) && !defined(_M_X64) && !defined(__aarch64__) && !defined(_M_ARM64)
 #error "libwolfaren needs a 64-bit machine: x86-64 or ARM64"
@@ -645,7 +645,7 @@ struct wolfaren_reassembly {
     uint8_t ended;       /* not 0 if a last fragment has arrived */
     uint8_t abandoned;   /* not 0 if the packet was abandoned */
     uint8_t kept;        /* not 0 if a conflict doesn't abandon the packet */
-    uint8_t marks[8192]; /* a mark for each unit of 8 bytes */
+    uint8_t marks[2048]; /* a mark of two bits for each unit of 8 bytes */
 };
 
 /*
@@ -692,7 +692,7 @@ struct wolfaren_added {
  * the packet with the oldest first fragment is given up. The hash depends on `factor`, which should be a random number that
  * senders don't know, and the same at each call.
  *
- * Returns false, and changes nothing, if there aren't as many memories as slots. A memory has 77,872 bytes. The memories
+ * Returns false, and changes nothing, if there aren't as many memories as slots. A memory has 71,728 bytes. The memories
  * may lie in fresh pages of zeros; a page is used when the first packet needs it.
  */
 WOLFAREN_USE_RESULT
@@ -1102,8 +1102,8 @@ WOLFAREN_LAYOUT(wolfaren_option_cursor, 16, end, 8);
 WOLFAREN_LAYOUT(wolfaren_option, 32, may_change, 26);
 WOLFAREN_LAYOUT(wolfaren_routing, 40, next_header, 34);
 WOLFAREN_LAYOUT(wolfaren_slot, 48, version, 45);
-WOLFAREN_LAYOUT(wolfaren_reassembly, 8216, marks, 19);
-WOLFAREN_LAYOUT(wolfaren_packet_memory, 77872, payload, 12336);
+WOLFAREN_LAYOUT(wolfaren_reassembly, 2072, marks, 19);
+WOLFAREN_LAYOUT(wolfaren_packet_memory, 71728, payload, 6192);
 WOLFAREN_LAYOUT(wolfaren_defragmenter_counts, 128, losses, 104);
 WOLFAREN_LAYOUT(wolfaren_added, 16, loss, 9);
 WOLFAREN_LAYOUT(wolfaren_rewritten, 16, keeps_checksums, 9);

@@ -71,7 +71,7 @@ struct Reassembly {
     ended: u8,
     abandoned: u8,
     kept: u8,
-    marks: [u8; 8192],
+    marks: [u8; 2048],
 }
 
 /// `struct wolfaren_defragmenter_counts`: counts of packets by what became of them.
@@ -251,7 +251,7 @@ const _: () = {
 
 /// `WOLFAREN_ABI`: the checksum of the header that this file was written for (`scripts/abi` of the repository).
 #[cfg(all(test, not(miri)))]
-pub(crate) const ABI: u32 = 0x9919_97b3;
+pub(crate) const ABI: u32 = 0xf124_3696;
 
 unsafe extern "C" {
     fn wolfaren_parse_chain(

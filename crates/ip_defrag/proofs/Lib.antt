@@ -1,6 +1,7 @@
 pub mod Common
 pub mod FragmentLemmas
 pub mod MemberLemmas
+pub mod ByteMarkLemmas
 pub mod MarkLemmas
 pub mod PayloadLemmas
 pub mod ReceivedLemmas

@@ -1,9 +1,10 @@
 -- What a reassembly has received, its fields, and a fragment.
-use Rattle.ip_defrag.proofs.Common.{◌≡◌, ℕ, ◌+◌, ◌-◌, ◌*◌, ◌/◌, ◌%◌, ◌≤◌, ◌<◌, max, min, Bool, true, false, not, ◌&&◌, ◌||◌, List, ◌∷◌, take, replicate, length, get_or, Option, Some, None, is_some, refl, sym, ap, ◌∙◌, subst, inl, inr, arith, cond, cond-true, cond-false, leb, ltb, eqb, eqb-true, lt-ltb, le-ltb, le-leb, lt-leb, eq-eqb, ne_eqb, cases_eq, cases_lt, cases_Bool, and_parts, and_from, or_right, false_from_ne_true, true_from_ne_false, both_ways, list_any, bytes_eq, Fragment, fragment_at, end_of, is_in, is_same, overlaps, has_two_ends, is_unaligned, byte_at, first_bytes, first_mark, mark_at, reach_of, is_ended, count_of, IsSound, AreConsistent}
-use Rattle.std.specs.Prelude.{slice_range}
+use Rattle.ip_defrag.proofs.Common.{◌≡◌, ℕ, ◌+◌, ◌-◌, ◌*◌, ◌/◌, ◌%◌, ◌≤◌, ◌<◌, max, min, Bool, true, false, not, ◌&&◌, ◌||◌, List, ◌∷◌, take, replicate, length, get_or, Option, Some, None, is_some, refl, sym, ap, ◌∙◌, subst, inl, inr, arith, cond, cond-true, cond-false, leb, ltb, eqb, eqb-true, lt-ltb, le-ltb, le-leb, lt-leb, eq-eqb, ne_eqb, cases_eq, cases_lt, cases_Bool, and_parts, and_from, or_right, false_from_ne_true, true_from_ne_false, both_ways, list_any, bytes_eq, Fragment, fragment_at, end_of, is_in, is_same, overlaps, has_two_ends, is_unaligned, byte_at, first_bytes, first_mark, mark_of, mark_at, reach_of, is_ended, count_of, IsSound, AreConsistent}
+use Rattle.std.specs.Prelude.{◌^◌, slice_range}
 use Rattle.std.proofs.lemmas.Slice.Eq.{bytes_eq-Decides}
 use Rattle.std.proofs.lemmas.Option.{same_Some, none-some}
 use Rattle.std.proofs.Math.Bool.{or_comm}
+use Rattle.std.proofs.Math.Nat.{zero-div}
 use Rattle.std.proofs.lemmas.Bool.{and_left, and_right, not_from_true}
 use Rattle.std.proofs.lemmas.List.{ext_get_or}
 use Rattle.std.proofs.lemmas.Bool.Decides.{same_from_decides}
@@ -51,11 +52,11 @@ not_refused s f n = elim (cases_Bool (list_any (is_same f) s.fragments)) [
 ]
 
 -- Units are free exactly if the fragment overlaps no other.
-pub free_units : (r : Fields) (s : Received) (first next : ℕ) (more : Bool) (bytes : List ℕ) → AreReceived r s → next ≡ (8 * first + length bytes) / 8 + min 1 ((8 * first + length bytes) % 8) → ((i : ℕ) → first ≤ i → i < next → get_or r.marks i 0 ≡ 0) → list_any (overlaps (fragment_at first more bytes)) s.fragments ≡ false
+pub free_units : (r : Fields) (s : Received) (first next : ℕ) (more : Bool) (bytes : List ℕ) → AreReceived r s → next ≡ (8 * first + length bytes) / 8 + min 1 ((8 * first + length bytes) % 8) → ((i : ℕ) → first ≤ i → i < next → mark_of r.marks i ≡ 0) → list_any (overlaps (fragment_at first more bytes)) s.fragments ≡ false
 free_units r s first next more bytes h n free =
     none_overlaps s.limit s.fragments (fragment_at first more bytes) h.consistent (omega arith) (λ i low high. sym (h.marks i) ∙ free i (omega (arith, low)) (omega (arith, high, n)))
 
-pub occupied_units : (r : Fields) (s : Received) (first next : ℕ) (more : Bool) (bytes : List ℕ) → AreReceived r s → next ≡ (8 * first + length bytes) / 8 + min 1 ((8 * first + length bytes) % 8) → (((i : ℕ) → first ≤ i → i < next → get_or r.marks i 0 ≡ 0) → ⊥) → list_any (overlaps (fragment_at first more bytes)) s.fragments ≡ true
+pub occupied_units : (r : Fields) (s : Received) (first next : ℕ) (more : Bool) (bytes : List ℕ) → AreReceived r s → next ≡ (8 * first + length bytes) / 8 + min 1 ((8 * first + length bytes) % 8) → (((i : ℕ) → first ≤ i → i < next → mark_of r.marks i ≡ 0) → ⊥) → list_any (overlaps (fragment_at first more bytes)) s.fragments ≡ true
 occupied_units r s first next more bytes h n occupied = true_from_ne_false (list_any (overlaps (fragment_at first more bytes)) s.fragments) (λ none.
     occupied (λ i low high. h.marks i ∙ unmarked s.fragments (fragment_at first more bytes) i none (omega (arith, low)) (omega (arith, high, n))))
 
@@ -64,7 +65,7 @@ pub same_overlaps : (fs : List Fragment) (f : Fragment) → list_any (is_same f)
 same_overlaps fs f among positive = any_from_member (overlaps f) fs f among (overlaps_at f f f.offset (omega arith) (omega (arith, positive)) (omega arith) (omega (arith, positive)))
 
 -- A fragment that is there has the units of one fragment.
-pub repeated_units : (r : Fields) (s : Received) (first next : ℕ) (more : Bool) (bytes : List ℕ) → AreReceived r s → IsSound s.limit (fragment_at first more bytes) → 0 < length bytes → next ≡ (8 * first + length bytes) / 8 + min 1 ((8 * first + length bytes) % 8) → ((get_or r.marks first 0 ≡ first_mark more) × ((i : ℕ) → first + 1 ≤ i → i < next → get_or r.marks i 0 ≡ 3) × (get_or r.marks next 0 ≡ 3 → ⊥) → ⊥) → list_any (is_same (fragment_at first more bytes)) s.fragments ≡ false
+pub repeated_units : (r : Fields) (s : Received) (first next : ℕ) (more : Bool) (bytes : List ℕ) → AreReceived r s → IsSound s.limit (fragment_at first more bytes) → 0 < length bytes → next ≡ (8 * first + length bytes) / 8 + min 1 ((8 * first + length bytes) % 8) → ((mark_of r.marks first ≡ first_mark more) × ((i : ℕ) → first + 1 ≤ i → i < next → mark_of r.marks i ≡ 3) × (mark_of r.marks next ≡ 3 → ⊥) → ⊥) → list_any (is_same (fragment_at first more bytes)) s.fragments ≡ false
 repeated_units r s first next more bytes h sound positive n other = false_from_ne_true (list_any (is_same (fragment_at first more bytes)) s.fragments) (λ among.
     let f : Fragment = fragment_at first more bytes in
     other (
@@ -91,12 +92,12 @@ member_slice r s f h among =
     ∙ ap (λ (i : ℕ). get_or f.bytes i 0) at))
 
 -- The marks of a fragment's units are those of one that is there.
-units_marked : (r : Fields) (s : Received) (first next : ℕ) (more : Bool) (bytes : List ℕ) → AreReceived r s → next ≡ (8 * first + length bytes) / 8 + min 1 ((8 * first + length bytes) % 8) → (get_or r.marks first 0 ≡ first_mark more) × ((i : ℕ) → first + 1 ≤ i → i < next → get_or r.marks i 0 ≡ 3) × (get_or r.marks next 0 ≡ 3 → ⊥) → IsMarked s.fragments (fragment_at first more bytes)
+units_marked : (r : Fields) (s : Received) (first next : ℕ) (more : Bool) (bytes : List ℕ) → AreReceived r s → next ≡ (8 * first + length bytes) / 8 + min 1 ((8 * first + length bytes) % 8) → (mark_of r.marks first ≡ first_mark more) × ((i : ℕ) → first + 1 ≤ i → i < next → mark_of r.marks i ≡ 3) × (mark_of r.marks next ≡ 3 → ⊥) → IsMarked s.fragments (fragment_at first more bytes)
 units_marked r s first next more bytes h n units =
     let f : Fragment = fragment_at first more bytes in
     record {
       marks = λ i low high. sym (h.marks i) ∙ elim (cases_eq i first) [
-        | inl e ↦ ap (λ (k : ℕ). get_or r.marks k 0) e ∙ (units.0 ∙ sym (first_mark_in f i (omega (arith, e))))
+        | inl e ↦ ap (λ (k : ℕ). mark_of r.marks k) e ∙ (units.0 ∙ sym (first_mark_in f i (omega (arith, e))))
         | inr other ↦ units.1 i (omega (arith, other, low)) (omega (arith, high, n)) ∙ sym (later_mark_in f i (λ e. other (omega (arith, e))))
       ];
       ends = λ e. units.2 (h.marks next ∙ (ap (mark_at s.fragments) (let at : next ≡ (end_of f + 7) / 8 = omega (arith, n) in at) ∙ e));
@@ -118,7 +119,7 @@ same_bytes r s f g h among offset flag end =
     (bytes_eq-Decides (slice_range r.buffer f.offset (end_of f)) f.bytes)
     ((λ there. member_slice r s f h there), λ same. same_among s.fragments g f among offset flag (sym stored ∙ same))
 
-pub repeated_bytes : (r : Fields) (s : Received) (first next : ℕ) (more : Bool) (bytes : List ℕ) → AreReceived r s → IsSound s.limit (fragment_at first more bytes) → 0 < length bytes → next ≡ (8 * first + length bytes) / 8 + min 1 ((8 * first + length bytes) % 8) → (get_or r.marks first 0 ≡ first_mark more) × ((i : ℕ) → first + 1 ≤ i → i < next → get_or r.marks i 0 ≡ 3) × (get_or r.marks next 0 ≡ 3 → ⊥) → (more ≡ false → 8 * first + length bytes ≡ r.reach) → bytes_eq (slice_range r.buffer (8 * first) (8 * first + length bytes)) bytes ≡ list_any (is_same (fragment_at first more bytes)) s.fragments
+pub repeated_bytes : (r : Fields) (s : Received) (first next : ℕ) (more : Bool) (bytes : List ℕ) → AreReceived r s → IsSound s.limit (fragment_at first more bytes) → 0 < length bytes → next ≡ (8 * first + length bytes) / 8 + min 1 ((8 * first + length bytes) % 8) → (mark_of r.marks first ≡ first_mark more) × ((i : ℕ) → first + 1 ≤ i → i < next → mark_of r.marks i ≡ 3) × (mark_of r.marks next ≡ 3 → ⊥) → (more ≡ false → 8 * first + length bytes ≡ r.reach) → bytes_eq (slice_range r.buffer (8 * first) (8 * first + length bytes)) bytes ≡ list_any (is_same (fragment_at first more bytes)) s.fragments
 repeated_bytes r s first next more bytes h sound positive n units ends =
     with_shape (has_shape s.limit s.fragments (fragment_at first more bytes) first refl h.consistent positive (units_marked r s first next more bytes h n units)) where
       with_shape : HasShape s.fragments (fragment_at first more bytes) → bytes_eq (slice_range r.buffer (8 * first) (8 * first + length bytes)) bytes ≡ list_any (is_same (fragment_at first more bytes)) s.fragments
@@ -156,7 +157,7 @@ pub record IsStored (r q : Fields) (first next : ℕ) (more : Bool) (bytes : Lis
   pub next_unit : next ≡ (8 * first + length bytes) / 8 + min 1 ((8 * first + length bytes) % 8)
   pub buffer : (i : ℕ) → get_or q.buffer i 0 ≡ cond (leb (8 * first) i && ltb i (8 * first + length bytes)) (get_or bytes (i - 8 * first) 0) (get_or r.buffer i 0)
   pub room : length q.buffer ≡ length r.buffer
-  pub marks : (i : ℕ) → get_or q.marks i 0 ≡ cond (leb first i && ltb i next) (cond (eqb i first) (first_mark more) 3) (get_or r.marks i 0)
+  pub marks : (i : ℕ) → mark_of q.marks i ≡ cond (leb first i && ltb i next) (cond (eqb i first) (first_mark more) 3) (mark_of r.marks i)
   pub reach : q.reach ≡ max r.reach (8 * first + length bytes)
   pub count : r.count + length bytes ≤ 65535 → q.count ≡ r.count + length bytes
   pub ended : q.is_ended ≡ (r.is_ended || not more)
@@ -174,17 +175,17 @@ units_in first next more bytes i n = elim (cases_Bool (is_in (fragment_at first 
   ]
 ]
 
-stored_marks : (r q : Fields) (s : Received) (first next : ℕ) (more : Bool) (bytes : List ℕ) (i : ℕ) → AreReceived r s → IsStored r q first next more bytes → get_or q.marks i 0 ≡ mark_at (fragment_at first more bytes ∷ s.fragments) i
+stored_marks : (r q : Fields) (s : Received) (first next : ℕ) (more : Bool) (bytes : List ℕ) (i : ℕ) → AreReceived r s → IsStored r q first next more bytes → mark_of q.marks i ≡ mark_at (fragment_at first more bytes ∷ s.fragments) i
 stored_marks r q s first next more bytes i h k =
     let f : Fragment = fragment_at first more bytes in
     k.marks i ∙ elim (cases_Bool (is_in f (8 * i))) [
-      | inl inside ↦ cond-true (leb first i && ltb i next) (cond (eqb i first) (first_mark more) 3) (get_or r.marks i 0) (units_in first next more bytes i k.next_unit ∙ inside)
+      | inl inside ↦ cond-true (leb first i && ltb i next) (cond (eqb i first) (first_mark more) 3) (mark_of r.marks i) (units_in first next more bytes i k.next_unit ∙ inside)
           ∙ (elim (cases_eq i first) [
             | inl e ↦ cond-true (eqb i first) (first_mark more) 3 (eq-eqb i first e) ∙ sym (first_mark_in f i (omega (arith, e)))
             | inr other ↦ cond-false (eqb i first) (first_mark more) 3 (ne_eqb i first other) ∙ sym (later_mark_in f i (λ e. other (omega (arith, e))))
           ]
           ∙ sym (mark_at_in f s.fragments i inside))
-      | inr outside ↦ cond-false (leb first i && ltb i next) (cond (eqb i first) (first_mark more) 3) (get_or r.marks i 0) (units_in first next more bytes i k.next_unit ∙ outside)
+      | inr outside ↦ cond-false (leb first i && ltb i next) (cond (eqb i first) (first_mark more) 3) (mark_of r.marks i) (units_in first next more bytes i k.next_unit ∙ outside)
           ∙ (h.marks i ∙ sym (mark_at_out f s.fragments i outside))
     ]
 
@@ -274,7 +275,7 @@ not_not true = refl
 not_not false = refl
 
 -- Nothing has been received.
-pub has_nothing : (r : Fields) (abandons : Bool) → ((i : ℕ) → get_or r.marks i 0 ≡ 0) → r.reach ≡ 0 → r.count ≡ 0 → r.is_ended ≡ false → r.is_abandoned ≡ false → r.abandons ≡ abandons → AreReceived r (received_nothing (min (length r.buffer) 65535) abandons)
+pub has_nothing : (r : Fields) (abandons : Bool) → ((i : ℕ) → mark_of r.marks i ≡ 0) → r.reach ≡ 0 → r.count ≡ 0 → r.is_ended ≡ false → r.is_abandoned ≡ false → r.abandons ≡ abandons → AreReceived r (received_nothing (min (length r.buffer) 65535) abandons)
 has_nothing r abandons marks reach count ended abandoned same = record {
   limit = refl;
   abandons = same;
@@ -287,11 +288,15 @@ has_nothing r abandons marks reach count ended abandoned same = record {
   count = count;
 }
 
-pub zeros : (n i : ℕ) → ◌≡◌ {A = ℕ} (get_or (replicate n 0) i 0) 0
+zeros : (n i : ℕ) → ◌≡◌ {A = ℕ} (get_or (replicate n 0) i 0) 0
 zeros n i = elim (cases_lt i n) [
   | inl below ↦ get_or-replicate n i 0 0 below
   | inr past ↦ get_or_past (replicate n 0) i 0 (omega (arith, length-replicate n (let zero : ℕ = 0 in zero), past))
 ]
+
+-- Bytes of 0 have no marks.
+pub no_marks : (n i : ℕ) → mark_of (replicate n 0) i ≡ 0
+no_marks n i = ap (λ (b : ℕ). b / 2 ^ (2 * (i % 4)) % 4) (zeros n (i / 4)) ∙ ap (λ (b : ℕ). b % 4) (zero-div (2 ^ (2 * (i % 4))))
 
 -- The state of the fields says whether the payload is whole.
 pub whole_is : (r : Fields) (s : Received) → AreReceived r s → (r.is_ended && eqb r.count r.reach) ≡ is_some (payload_of s.fragments)
@@ -306,7 +311,7 @@ pub no_payload : (r : Fields) (s : Received) → AreReceived r s → (r.is_ended
 no_payload r s h less = not_whole r s h (λ ended all. both_ways (r.is_ended && eqb r.count r.reach) less (and_from r.is_ended (eqb r.count r.reach) ended (eq-eqb r.count r.reach all)))
 
 -- The verdicts of the tests.
-pub tested_overlap : (r : Fields) (s : Received) (first next : ℕ) (more : Bool) (bytes : List ℕ) → AreReceived r s → IsSound s.limit (fragment_at first more bytes) → next ≡ (8 * first + length bytes) / 8 + min 1 ((8 * first + length bytes) % 8) → (((i : ℕ) → first ≤ i → i < next → get_or r.marks i 0 ≡ 0) → ⊥) → (IsSound s.limit (fragment_at first more bytes) → list_any (is_same (fragment_at first more bytes)) s.fragments ≡ false) → refusal s.limit s.fragments (fragment_at first more bytes) ≡ Some Overlap
+pub tested_overlap : (r : Fields) (s : Received) (first next : ℕ) (more : Bool) (bytes : List ℕ) → AreReceived r s → IsSound s.limit (fragment_at first more bytes) → next ≡ (8 * first + length bytes) / 8 + min 1 ((8 * first + length bytes) % 8) → (((i : ℕ) → first ≤ i → i < next → mark_of r.marks i ≡ 0) → ⊥) → (IsSound s.limit (fragment_at first more bytes) → list_any (is_same (fragment_at first more bytes)) s.fragments ≡ false) → refusal s.limit s.fragments (fragment_at first more bytes) ≡ Some Overlap
 tested_overlap r s first next more bytes h sound n occupied other =
     refused_overlap s.limit s.fragments (fragment_at first more bytes) sound.aligned sound.within (other sound) (occupied_units r s first next more bytes h n occupied)
 
@@ -316,7 +321,7 @@ ends_by_fields r s f b h e =
     subst (λ (m : ℕ). ((is_ended s.fragments && ltb m (end_of f)) || (not f.more && ltb (end_of f) m)) ≡ b) h.reach
     (subst (λ (l : Bool). ((l && ltb r.reach (end_of f)) || (not f.more && ltb (end_of f) r.reach)) ≡ b) h.ended e)
 
-pub tested_two_ends : (r : Fields) (s : Received) (first next : ℕ) (more : Bool) (bytes : List ℕ) → AreReceived r s → IsSound s.limit (fragment_at first more bytes) → next ≡ (8 * first + length bytes) / 8 + min 1 ((8 * first + length bytes) % 8) → ((i : ℕ) → first ≤ i → i < next → get_or r.marks i 0 ≡ 0) → ((r.is_ended && ltb r.reach (8 * first + length bytes)) || (not more && ltb (8 * first + length bytes) r.reach)) ≡ true → refusal s.limit s.fragments (fragment_at first more bytes) ≡ Some TwoEnds
+pub tested_two_ends : (r : Fields) (s : Received) (first next : ℕ) (more : Bool) (bytes : List ℕ) → AreReceived r s → IsSound s.limit (fragment_at first more bytes) → next ≡ (8 * first + length bytes) / 8 + min 1 ((8 * first + length bytes) % 8) → ((i : ℕ) → first ≤ i → i < next → mark_of r.marks i ≡ 0) → ((r.is_ended && ltb r.reach (8 * first + length bytes)) || (not more && ltb (8 * first + length bytes) r.reach)) ≡ true → refusal s.limit s.fragments (fragment_at first more bytes) ≡ Some TwoEnds
 tested_two_ends r s first next more bytes h sound n free ends =
     let f : Fragment = fragment_at first more bytes in
     let two : list_any (has_two_ends f) s.fragments ≡ true = two_ends_from s.fragments f (ends_by_fields r s f true h ends) in
@@ -324,7 +329,7 @@ tested_two_ends r s first next more bytes h sound n free ends =
     (false_from_ne_true (list_any (is_same f) s.fragments) (λ same. both_ways (list_any (has_two_ends f) s.fragments) (member_one_end s.limit s.fragments f h.consistent same) two))
     (free_units r s first next more bytes h n free) two
 
-pub tested_new : (r : Fields) (s : Received) (first next : ℕ) (more : Bool) (bytes : List ℕ) → AreReceived r s → IsSound s.limit (fragment_at first more bytes) → next ≡ (8 * first + length bytes) / 8 + min 1 ((8 * first + length bytes) % 8) → ((i : ℕ) → first ≤ i → i < next → get_or r.marks i 0 ≡ 0) → ((r.is_ended && ltb r.reach (8 * first + length bytes)) || (not more && ltb (8 * first + length bytes) r.reach)) ≡ false → IsNew s (fragment_at first more bytes)
+pub tested_new : (r : Fields) (s : Received) (first next : ℕ) (more : Bool) (bytes : List ℕ) → AreReceived r s → IsSound s.limit (fragment_at first more bytes) → next ≡ (8 * first + length bytes) / 8 + min 1 ((8 * first + length bytes) % 8) → ((i : ℕ) → first ≤ i → i < next → mark_of r.marks i ≡ 0) → ((r.is_ended && ltb r.reach (8 * first + length bytes)) || (not more && ltb (8 * first + length bytes) r.reach)) ≡ false → IsNew s (fragment_at first more bytes)
 tested_new r s first next more bytes h sound n free ends =
     let f : Fragment = fragment_at first more bytes in
     record {
@@ -352,11 +357,11 @@ received_refused r s a b e h = record {
 }
 
 -- Nothing has been received after the marks were removed.
-pub received_cleared : (r q : Fields) (s : Received) (end : ℕ) → AreReceived r s → end ≡ min (r.reach / 8 + min 1 (r.reach % 8)) 8192 → ((i : ℕ) → get_or q.marks i 0 ≡ cond (ltb i end) 0 (get_or r.marks i 0)) → q.buffer ≡ r.buffer → q.reach ≡ 0 → q.count ≡ 0 → q.is_ended ≡ false → q.is_abandoned ≡ false → q.abandons ≡ r.abandons → AreReceived q (received_nothing s.limit s.abandons)
+pub received_cleared : (r q : Fields) (s : Received) (end : ℕ) → AreReceived r s → end ≡ min (r.reach / 32 + min 1 (r.reach % 32)) 2048 → ((i : ℕ) → mark_of q.marks i ≡ cond (ltb i (4 * end)) 0 (mark_of r.marks i)) → q.buffer ≡ r.buffer → q.reach ≡ 0 → q.count ≡ 0 → q.is_ended ≡ false → q.is_abandoned ≡ false → q.abandons ≡ r.abandons → AreReceived q (received_nothing s.limit s.abandons)
 received_cleared r q s end h used marks buffer reach count ended abandoned abandons =
     subst (λ (n : ℕ). AreReceived q (received_nothing n s.abandons)) (ap (λ (b : List ℕ). min (length b) 65535) buffer ∙ sym h.limit)
-    (has_nothing q s.abandons (λ i. marks i ∙ elim (cases_lt i end) [
-      | inl below ↦ cond-true (ltb i end) 0 (get_or r.marks i 0) (lt-ltb i end below)
-      | inr past ↦ cond-false (ltb i end) 0 (get_or r.marks i 0) (le-ltb i end past)
+    (has_nothing q s.abandons (λ i. marks i ∙ elim (cases_lt i (4 * end)) [
+      | inl below ↦ cond-true (ltb i (4 * end)) 0 (mark_of r.marks i) (lt-ltb i (4 * end) below)
+      | inr past ↦ cond-false (ltb i (4 * end)) 0 (mark_of r.marks i) (le-ltb i (4 * end) past)
           ∙ (h.marks i ∙ unmarked_after s.fragments i (omega (arith, past, used, h.reach, h.limit, reach_most s.limit s.fragments h.consistent)))
     ]) reach count ended abandoned (abandons ∙ h.abandons))

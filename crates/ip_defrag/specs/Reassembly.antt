@@ -1,5 +1,5 @@
 -- What the fields of a reassembly say.
-use Rattle.std.specs.Prelude.{◌≡◌, ℕ, ◌+◌, ◌*◌, ◌%◌, ◌≤◌, ◌==◌, not, max, min, length, slice_index, Bool, false, List, [], ◌∷◌, Some, if◌then◌else◌}
+use Rattle.std.specs.Prelude.{◌≡◌, ℕ, ◌+◌, ◌*◌, ◌/◌, ◌%◌, ◌^◌, ◌≤◌, ◌==◌, not, max, min, length, slice_index, Bool, false, List, [], ◌∷◌, Some, if◌then◌else◌}
 use Rattle.std.specs.List.{list_any}
 use Rattle.ip_defrag.specs.Fragment.{Fragment, end_of, is_in, overlaps, has_two_ends, is_unaligned}
 use Rattle.ip_defrag.specs.Payload.{byte_at}
@@ -23,6 +23,14 @@ mark_in f i = if 8 * i == f.offset then first_mark f.more else 3
 abbrev pub mark_at : List Fragment → ℕ → ℕ
 mark_at [] i = 0
 mark_at (f ∷ fs) i = if is_in f (8 * i) then mark_in f i else mark_at fs i
+
+-- the mark with this index in a byte, which has four of two bits, the lowest first
+abbrev pub byte_mark : ℕ → ℕ → ℕ
+byte_mark byte k = byte / 2 ^ (2 * k) % 4
+
+-- the mark of a unit in bytes
+abbrev pub mark_of : List ℕ → ℕ → ℕ
+mark_of marks i = byte_mark (slice_index marks (i / 4)) (i % 4)
 
 -- the largest end of a fragment
 abbrev pub reach_of : List Fragment → ℕ
@@ -81,7 +89,7 @@ pub record AreReceived (r : Fields) (s : Received) : Type 0 where
   pub abandons : r.abandons ≡ s.abandons
   pub abandoned : r.is_abandoned ≡ s.abandoned
   pub consistent : AreConsistent s.limit s.fragments
-  pub marks : (i : ℕ) → slice_index r.marks i ≡ mark_at s.fragments i
+  pub marks : (i : ℕ) → mark_of r.marks i ≡ mark_at s.fragments i
   pub bytes : (i byte : ℕ) → byte_at s.fragments i ≡ Some byte → slice_index r.buffer i ≡ byte
   pub reach : r.reach ≡ reach_of s.fragments
   pub ended : r.is_ended ≡ is_ended s.fragments

@@ -1,58 +1,113 @@
-//! Marks of units of 8 bytes, and bytes in a buffer.
-ghost use Rattle.std.specs.Prelude.{◌≡◌, ◌≢◌, ℕ, ◌+◌, ◌-◌, ◌<◌, ◌≤◌, ◌++◌, ◌==◌, ◌&&◌, ◌↔◌, IsTrue, length, nat_le, nat_lt, slice_index, All, max, if◌then◌else◌};
+//! Marks of units of 8 bytes, four in a byte, and bytes in a buffer.
+ghost use Rattle.std.specs.Prelude.{◌≡◌, ◌≢◌, ℕ, ◌+◌, ◌-◌, ◌*◌, ◌/◌, ◌%◌, ◌^◌, ◌<◌, ◌≤◌, ◌++◌, ◌==◌, ◌&&◌, ◌↔◌, IsTrue, length, nat_le, nat_lt, slice_index, All, max, if◌then◌else◌};
 ghost use Rattle.std.specs.List.{fold};
+ghost use Rattle.ip_defrag.specs.Reassembly.{first_mark, byte_mark, mark_of};
 
 /// The mark of a unit after the first one of a fragment.
 const LATER: u8 = 3;
 
-/// Returns the largest mark. It looks at each one, so that several are compared at once.
+/// A byte with four marks of later units.
+const FOUR_LATER: u8 = 255;
+
+/// Returns the mark of a unit.
 #[inline(always)]
-fn largest(marks: &[u8]) -> u8
-    ensures { result ≡ fold max 0 marks.now }
+fn mark_of(marks: &[u8], unit: usize) -> u8
+    requires { unit < 4 * length marks.now }
+    ensures { result ≡ mark_of marks.now unit }
 {
-    marks.iter().fold(0, |largest, mark| largest.max(*mark))
+    (marks[unit / 4] >> (2 * (unit % 4))) % 4
 }
 
-/// Returns whether these units have no mark.
+/// Returns a byte with the marks of later units from `first` to `end`, and no others.
 #[inline(always)]
-pub(crate) fn are_free(marks: &[u8], first: usize, end: usize) -> bool
+fn later_marks(first: usize, end: usize) -> u8
+    requires ordered { first ≤ end }
+    requires within { end ≤ 4 }
+    ensures { result ≡ 2 ^ (2 * end) - 2 ^ (2 * first) }
+{
+    ((1_u16 << (2 * end)) - (1_u16 << (2 * first))) as u8
+}
+
+/// Returns the largest byte. It looks at each one, so that several are compared at once.
+#[inline(always)]
+fn largest(bytes: &[u8]) -> u8
+    ensures { result ≡ fold max 0 bytes.now }
+{
+    bytes.iter().fold(0, |largest, byte| largest.max(*byte))
+}
+
+/// Returns whether units of one byte have no mark.
+#[inline(always)]
+fn are_free_in(marks: &[u8], index: usize, first: usize, end: usize) -> bool
+    requires index { index < length marks.now }
+    requires ordered { first ≤ end }
+    requires within { end ≤ 4 }
+    ensures { IsTrue result
+        ↔ ((i : ℕ) → 4 * index + first ≤ i → i < 4 * index + end → mark_of marks.now i ≡ 0) }
+{
+    marks[index] & later_marks(first, end) == 0
+}
+
+/// Returns whether the units of whole bytes have no mark.
+#[inline(always)]
+fn are_free_bytes(marks: &[u8], first: usize, end: usize) -> bool
     requires ordered { first ≤ end }
     requires within { end ≤ length marks.now }
-    ensures { IsTrue result ↔ ((i : ℕ) → first ≤ i → i < end → slice_index marks.now i ≡ 0) }
+    ensures { IsTrue result ↔ ((i : ℕ) → 4 * first ≤ i → i < 4 * end → mark_of marks.now i ≡ 0) }
 {
     largest(&marks[first..end]) == 0
 }
 
-/// Returns whether all marks are those of later units of a fragment.
+/// Returns whether these units have no mark. Four of them are tested at once.
 #[inline(always)]
-fn are_all_later(marks: &[u8]) -> bool
-    ensures { IsTrue result ↔ All (λ m. m ≡ 3) marks.now }
+pub(crate) fn are_free(marks: &[u8], first: usize, end: usize) -> bool
+    requires ordered { first ≤ end }
+    requires within { end ≤ 4 * length marks.now }
+    ensures { IsTrue result ↔ ((i : ℕ) → first ≤ i → i < end → mark_of marks.now i ≡ 0) }
 {
-    marks.iter().all(|mark| *mark == LATER)
+    if first == end {
+        return true;
+    }
+    let start = first / 4;
+    let last = (end - 1) / 4;
+    if start == last {
+        return are_free_in(marks, start, first % 4, end - 4 * last);
+    }
+    if !are_free_in(marks, start, first % 4, 4) {
+        return false;
+    }
+    if !are_free_bytes(marks, start + 1, last) {
+        return false;
+    }
+    are_free_in(marks, last, 0, end - 4 * last)
 }
 
 /// Returns whether these units are later units of a fragment.
-#[inline(always)]
 fn are_later(marks: &[u8], first: usize, end: usize) -> bool
     requires ordered { first ≤ end }
-    requires within { end ≤ length marks.now }
-    ensures { IsTrue result ↔ ((i : ℕ) → first ≤ i → i < end → slice_index marks.now i ≡ 3) }
+    requires within { end ≤ 4 * length marks.now }
+    ensures { IsTrue result ↔ ((i : ℕ) → first ≤ i → i < end → mark_of marks.now i ≡ 3) }
 {
-    are_all_later(&marks[first..end])
+    'units: for unit in first..end {
+        if mark_of(marks, unit) != LATER {
+            return false;
+        }
+    }
+    true
 }
 
 /// Returns whether these units are those of one fragment.
 #[inline(always)]
 pub(crate) fn is_fragment(marks: &[u8], first: usize, end: usize, first_mark: u8) -> bool
     requires ordered { first < end }
-    requires within { end ≤ length marks.now }
-    ensures { IsTrue result ↔ (slice_index marks.now first ≡ first_mark)
-        × ((i : ℕ) → first + 1 ≤ i → i < end → slice_index marks.now i ≡ 3)
-        × (slice_index marks.now end ≢ 3) }
+    requires within { end ≤ 4 * length marks.now }
+    ensures { IsTrue result ↔ (mark_of marks.now first ≡ first_mark)
+        × ((i : ℕ) → first + 1 ≤ i → i < end → mark_of marks.now i ≡ 3)
+        × (mark_of marks.now end ≢ 3) }
 {
-    marks[first] == first_mark
+    mark_of(marks, first) == first_mark
         && are_later(marks, first + 1, end)
-        && (end == marks.len() || marks[end] != LATER)
+        && (end / 4 == marks.len() || mark_of(marks, end) != LATER)
 }
 
 /// Stores bytes at an offset.
@@ -65,26 +120,93 @@ pub(crate) fn store(buffer: &mut [u8], start: usize, bytes: &[u8])
     buffer[start..start + bytes.len()].copy_from_slice(bytes);
 }
 
-/// Marks the units of a fragment.
+/// Marks units of one byte as later ones of a fragment.
 #[inline(always)]
-pub(crate) fn mark(marks: &mut [u8], first: usize, end: usize, first_mark: u8)
+fn mark_in(marks: &mut [u8], index: usize, first: usize, end: usize)
+    requires index { index < length marks.old }
+    requires ordered { first ≤ end }
+    requires within { end ≤ 4 }
+    ensures len { length marks.new ≡ length marks.old }
+    ensures marks { (i : ℕ) → mark_of marks.new i ≡ (if nat_le (4 * index + first) i && nat_lt i (4 * index + end)
+        then 3 else mark_of marks.old i) }
+{
+    marks[index] |= later_marks(first, end);
+}
+
+/// Makes some bytes this one.
+#[inline(always)]
+fn fill(bytes: &mut [u8], first: usize, end: usize, byte: u8)
+    requires ordered { first ≤ end }
+    requires within { end ≤ length bytes.old }
+    ensures len { length bytes.new ≡ length bytes.old }
+    ensures bytes { (i : ℕ) → slice_index bytes.new i ≡ (if nat_le first i && nat_lt i end
+        then byte else slice_index bytes.old i) }
+{
+    bytes[first..end].fill(byte);
+}
+
+/// Marks the units of whole bytes as later ones of a fragment.
+#[inline(always)]
+fn mark_bytes(marks: &mut [u8], first: usize, end: usize)
     requires ordered { first ≤ end }
     requires within { end ≤ length marks.old }
-    ensures { (i : ℕ) → slice_index marks.new i ≡ (if nat_le first i && nat_lt i end
-        then (if i == first then first_mark else 3) else slice_index marks.old i) }
+    ensures len { length marks.new ≡ length marks.old }
+    ensures marks { (i : ℕ) → mark_of marks.new i ≡ (if nat_le (4 * first) i && nat_lt i (4 * end)
+        then 3 else mark_of marks.old i) }
 {
-    marks[first..end].fill(LATER);
-    if first < end {
-        marks[first] = first_mark;
+    fill(marks, first, end, FOUR_LATER);
+}
+
+/// Marks units as later ones of a fragment. Four of them are marked at once.
+#[inline(always)]
+fn mark_later(marks: &mut [u8], first: usize, end: usize)
+    requires ordered { first < end }
+    requires within { end ≤ 4 * length marks.old }
+    ensures len { length marks.new ≡ length marks.old }
+    ensures marks { (i : ℕ) → mark_of marks.new i ≡ (if nat_le first i && nat_lt i end
+        then 3 else mark_of marks.old i) }
+{
+    let start = first / 4;
+    let last = (end - 1) / 4;
+    if start == last {
+        mark_in(marks, start, first % 4, end - 4 * last);
+    } else {
+        mark_in(marks, start, first % 4, 4);
+        mark_bytes(marks, start + 1, last);
+        mark_in(marks, last, 0, end - 4 * last);
     }
 }
 
-/// Removes the marks of all units before this one.
+/// Makes the mark of a later unit that of the first unit of a fragment, which has one bit less.
+#[inline(always)]
+fn mark_first(marks: &mut [u8], unit: usize, more: bool)
+    requires within { unit < 4 * length marks.old }
+    requires later { mark_of marks.old unit ≡ 3 }
+    ensures { (i : ℕ) → mark_of marks.new i ≡ (if i == unit then first_mark more else mark_of marks.old i) }
+{
+    marks[unit / 4] &= !(1_u8 << (2 * (unit % 4) + usize::from(more)));
+}
+
+/// Marks the units of a fragment.
+#[inline(always)]
+pub(crate) fn mark(marks: &mut [u8], first: usize, end: usize, more: bool)
+    requires ordered { first ≤ end }
+    requires within { end ≤ 4 * length marks.old }
+    ensures { (i : ℕ) → mark_of marks.new i ≡ (if nat_le first i && nat_lt i end
+        then (if i == first then first_mark more else 3) else mark_of marks.old i) }
+{
+    if first < end {
+        mark_later(marks, first, end);
+        mark_first(marks, first, more);
+    }
+}
+
+/// Removes the marks in the first `end` bytes.
 #[inline(always)]
 pub(crate) fn unmark(marks: &mut [u8], end: usize)
     requires { end ≤ length marks.old }
-    ensures { (i : ℕ) → slice_index marks.new i
-        ≡ (if nat_lt i end then 0 else slice_index marks.old i) }
+    ensures { (i : ℕ) → mark_of marks.new i
+        ≡ (if nat_lt i (4 * end) then 0 else mark_of marks.old i) }
 {
     marks[..end].fill(0);
 }

@@ -9,8 +9,8 @@ use ip_base::IpFragOffset;
 /// The largest length of an IP payload.
 const MAX_PAYLOAD: usize = 65535;
 
-/// The number of units of 8 bytes in the longest payload.
-const UNITS: usize = 8192;
+/// How many bytes the marks of the longest payload have, which has 8,192 units of 8 bytes.
+const MARKS: usize = 2048;
 
 /// Returns the mark of the first unit of a fragment.
 #[inline(always)]
@@ -69,9 +69,9 @@ pub struct ReassemblyState {
     abandoned: u8,
     /// Not 0 if the packet is kept after a conflict.
     kept: u8,
-    /// A mark for each unit of 8 bytes: 0 if it hasn't arrived, 1 if it is the first of a fragment, 2 if it is the first
-    /// of the last fragment, 3 if it is a later one.
-    marks: [u8; 8192],
+    /// A mark for each unit of 8 bytes, of two bits, the lowest first: 0 if it hasn't arrived, 1 if it is the first of a
+    /// fragment, 2 if it is the first of the last fragment, 3 if it is a later one.
+    marks: [u8; 2048],
 }
 
 impl ReassemblyState {
@@ -82,7 +82,7 @@ impl ReassemblyState {
     ghost use Rattle.ip_defrag.specs.Payload.{payload_of};
     ghost use Rattle.ip_defrag.specs.Refusal.{refusal, is_conflict};
     ghost use Rattle.ip_defrag.specs.Received.{Received, received_nothing, with_fragment, progress_of, outcome_of, received_after};
-    ghost use Rattle.ip_defrag.specs.Reassembly.{HasArrived, IsNew, IsSound, is_set};
+    ghost use Rattle.ip_defrag.specs.Reassembly.{HasArrived, IsNew, IsSound, is_set, mark_of};
 
     /// Returns a state in which nothing has arrived, of a packet that a conflict abandons or not: an overlap or two ends
     /// (RFC 5722; RFC 8200, section 4.5). The payload can be as long as the buffer, and at most 65,535 bytes.
@@ -96,7 +96,7 @@ impl ReassemblyState {
             ended: 0,
             abandoned: 0,
             kept: flag_of(!abandons),
-            marks: [0; UNITS],
+            marks: [0; MARKS],
         }
     }
 
@@ -175,7 +175,7 @@ impl ReassemblyState {
         ensures { (buffer : List ℕ) (s : Received) → HasArrived self.old buffer s
             → HasArrived self.new buffer (received_nothing s.limit s.abandons) }
     {
-        let end = self.reach.div_ceil(8).min(UNITS);
+        let end = self.reach.div_ceil(32).min(MARKS);
         unmark(&mut self.marks, end);
         self.reach = 0;
         self.count = 0;
@@ -255,7 +255,7 @@ impl ReassemblyState {
         requires ordered { first ≤ end }
         requires within { end ≤ 8192 }
         ensures free { (buffer : List ℕ) (s : Received) → HasArrived self.now buffer s → IsTrue result
-            ↔ ((i : ℕ) → first ≤ i → i < end → slice_index self.now.marks i ≡ 0) }
+            ↔ ((i : ℕ) → first ≤ i → i < end → mark_of self.now.marks i ≡ 0) }
         ensures some { result ≡ false → first < end }
     {
         self.reach <= 8 * first || are_free(&self.marks, first, end)
@@ -306,7 +306,7 @@ impl ReassemblyState {
         let count = self.count.saturating_add(bytes.len());
         let ended = ended_after(self.ended, more);
         store(buffer, 8 * first, bytes);
-        mark(&mut self.marks, first, end.div_ceil(8), first_mark_of(more));
+        mark(&mut self.marks, first, end.div_ceil(8), more);
         self.reach = reach;
         self.count = count;
         self.ended = ended;

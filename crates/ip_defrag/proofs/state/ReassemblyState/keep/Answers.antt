@@ -1,4 +1,4 @@
-use Rattle.ip_defrag.proofs.Common.{◌∙◌, ap, arith, refl, cond, ◌&&◌, leb, ltb, eqb, get_or, ℕ}
+use Rattle.ip_defrag.proofs.Common.{arith, refl}
 use Rattle.ip_defrag.specs.Reassembly.{fields_of}
 use Rattle.ip_defrag.proofs.ReceivedLemmas.{kept}
 use Rattle.ip_defrag.proofs.state.ReassemblyState.keep.Goals as goal
@@ -9,7 +9,7 @@ returns c = λ s h new. kept (fields_of c.args.self.now c.args.buffer.now) _ s c
       next_unit = c.div_ceil.ensures;
       buffer = c.store.ensures;
       room = c.store.auto.buffer;
-      marks = λ i. c.mark.ensures i ∙ ap (λ (m : ℕ). cond (leb c.args.first i && ltb i c.div_ceil.result) (cond (eqb i c.args.first) m 3) (get_or c.args.self.now.marks i 0)) c.first_mark_of.ensures;
+      marks = c.mark.ensures;
       reach = c.max-reach.ensures;
       count = λ fits. omega (arith, fits, c.saturating_add-count.ensures);
       ended = c.ended_after-ended.ensures;

@@ -58,7 +58,7 @@
 #define WOLFAREN_VERSION (10000 * WOLFAREN_VERSION_MAJOR + 100 * WOLFAREN_VERSION_MINOR + WOLFAREN_VERSION_PATCH)
 
 /* A checksum of the structs, numbers and calls in this header, made by scripts/abi of the repository. */
-#define WOLFAREN_ABI 0xf1243696u
+#define WOLFAREN_ABI 0xa5ba01f0u
 
 #if !(defined(__x86_64__) && !defined(__ILP32__)) && !defined(_M_X64) && !defined(__aarch64__) && !defined(_M_ARM64)
 #error "libwolfaren needs a 64-bit machine: x86-64 or ARM64"
@@ -645,7 +645,9 @@ struct wolfaren_reassembly {
     uint8_t ended;       /* not 0 if a last fragment has arrived */
     uint8_t abandoned;   /* not 0 if the packet was abandoned */
     uint8_t kept;        /* not 0 if a conflict doesn't abandon the packet */
-    uint8_t marks[2048]; /* a mark of two bits for each unit of 8 bytes */
+    uint16_t run_units;  /* units of 8 bytes in each fragment of the run: those that arrived in order, of one length */
+    uint16_t run_count;  /* number of fragments in the run */
+    uint8_t marks[2048]; /* a mark of two bits for each unit of 8 bytes after those of the run */
 };
 
 /*
@@ -1102,7 +1104,7 @@ WOLFAREN_LAYOUT(wolfaren_option_cursor, 16, end, 8);
 WOLFAREN_LAYOUT(wolfaren_option, 32, may_change, 26);
 WOLFAREN_LAYOUT(wolfaren_routing, 40, next_header, 34);
 WOLFAREN_LAYOUT(wolfaren_slot, 48, version, 45);
-WOLFAREN_LAYOUT(wolfaren_reassembly, 2072, marks, 19);
+WOLFAREN_LAYOUT(wolfaren_reassembly, 2072, marks, 24);
 WOLFAREN_LAYOUT(wolfaren_packet_memory, 71728, payload, 6192);
 WOLFAREN_LAYOUT(wolfaren_defragmenter_counts, 128, losses, 104);
 WOLFAREN_LAYOUT(wolfaren_added, 16, loss, 9);

@@ -71,6 +71,8 @@ struct Reassembly {
     ended: u8,
     abandoned: u8,
     kept: u8,
+    run_units: u16,
+    run_count: u16,
     marks: [u8; 2048],
 }
 
@@ -251,7 +253,7 @@ const _: () = {
 
 /// `WOLFAREN_ABI`: the checksum of the header that this file was written for (`scripts/abi` of the repository).
 #[cfg(all(test, not(miri)))]
-pub(crate) const ABI: u32 = 0xf124_3696;
+pub(crate) const ABI: u32 = 0xa5ba_01f0;
 
 unsafe extern "C" {
     fn wolfaren_parse_chain(

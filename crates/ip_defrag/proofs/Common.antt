@@ -9,4 +9,6 @@ pub use Rattle.std.proofs.lemmas.Bool.Decides.{nat_tests}
 pub use Rattle.std.proofs.lemmas.Grind.{common_steps}
 pub use Rattle.ip_defrag.specs.Fragment.{Fragment, fragment_at, end_of, is_in, is_same, overlaps, has_two_ends, is_unaligned}
 pub use Rattle.ip_defrag.specs.Payload.{byte_at, end_in, first_bytes}
-pub use Rattle.ip_defrag.specs.Reassembly.{first_mark, mark_in, byte_mark, mark_of, mark_at, reach_of, is_ended, count_of, IsSound, AreConsistent}
+pub use Rattle.ip_defrag.specs.Reassembly.{first_mark, mark_in, mark_at, reach_of, is_ended, count_of, IsSound, AreConsistent}
+pub use Rattle.ip_defrag.specs.Marks.{byte_mark, mark_of}
+pub use Rattle.ip_defrag.specs.Run.{run_end, run_mark, mark_by, IsLonger}

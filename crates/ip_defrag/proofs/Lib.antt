@@ -2,6 +2,7 @@ pub mod Common
 pub mod FragmentLemmas
 pub mod MemberLemmas
 pub mod ByteMarkLemmas
+pub mod RunLemmas
 pub mod MarkLemmas
 pub mod PayloadLemmas
 pub mod ReceivedLemmas

@@ -1,5 +1,5 @@
 -- What a reassembly has received, its fields, and a fragment.
-use Rattle.ip_defrag.proofs.Common.{◌≡◌, ℕ, ◌+◌, ◌-◌, ◌*◌, ◌/◌, ◌%◌, ◌≤◌, ◌<◌, max, min, Bool, true, false, not, ◌&&◌, ◌||◌, List, ◌∷◌, take, replicate, length, get_or, Option, Some, None, is_some, refl, sym, ap, ◌∙◌, subst, inl, inr, arith, cond, cond-true, cond-false, leb, ltb, eqb, eqb-true, lt-ltb, le-ltb, le-leb, lt-leb, eq-eqb, ne_eqb, cases_eq, cases_lt, cases_Bool, and_parts, and_from, or_right, false_from_ne_true, true_from_ne_false, both_ways, list_any, bytes_eq, Fragment, fragment_at, end_of, is_in, is_same, overlaps, has_two_ends, is_unaligned, byte_at, first_bytes, first_mark, mark_of, mark_at, reach_of, is_ended, count_of, IsSound, AreConsistent}
+use Rattle.ip_defrag.proofs.Common.{◌≡◌, ℕ, ◌+◌, ◌-◌, ◌*◌, ◌/◌, ◌%◌, ◌≤◌, ◌<◌, max, min, Bool, true, false, not, ◌&&◌, ◌||◌, List, ◌∷◌, take, replicate, length, get_or, Option, Some, None, is_some, refl, sym, ap, ◌∙◌, subst, inl, inr, arith, cond, cond-true, cond-false, leb, ltb, eqb, eqb-true, lt-ltb, le-ltb, le-leb, lt-leb, eq-eqb, ne_eqb, cases_eq, cases_lt, cases_Bool, and_parts, and_from, or_right, false_from_ne_true, true_from_ne_false, both_ways, list_any, bytes_eq, Fragment, fragment_at, end_of, is_in, is_same, overlaps, has_two_ends, is_unaligned, byte_at, first_bytes, first_mark, mark_of, run_end, run_mark, mark_by, mark_at, reach_of, is_ended, count_of, IsSound, AreConsistent}
 use Rattle.std.specs.Prelude.{◌^◌, slice_range}
 use Rattle.std.proofs.lemmas.Slice.Eq.{bytes_eq-Decides}
 use Rattle.std.proofs.lemmas.Option.{same_Some, none-some}
@@ -52,11 +52,11 @@ not_refused s f n = elim (cases_Bool (list_any (is_same f) s.fragments)) [
 ]
 
 -- Units are free exactly if the fragment overlaps no other.
-pub free_units : (r : Fields) (s : Received) (first next : ℕ) (more : Bool) (bytes : List ℕ) → AreReceived r s → next ≡ (8 * first + length bytes) / 8 + min 1 ((8 * first + length bytes) % 8) → ((i : ℕ) → first ≤ i → i < next → mark_of r.marks i ≡ 0) → list_any (overlaps (fragment_at first more bytes)) s.fragments ≡ false
+pub free_units : (r : Fields) (s : Received) (first next : ℕ) (more : Bool) (bytes : List ℕ) → AreReceived r s → next ≡ (8 * first + length bytes) / 8 + min 1 ((8 * first + length bytes) % 8) → ((i : ℕ) → first ≤ i → i < next → mark_by r.run r.marks i ≡ 0) → list_any (overlaps (fragment_at first more bytes)) s.fragments ≡ false
 free_units r s first next more bytes h n free =
     none_overlaps s.limit s.fragments (fragment_at first more bytes) h.consistent (omega arith) (λ i low high. sym (h.marks i) ∙ free i (omega (arith, low)) (omega (arith, high, n)))
 
-pub occupied_units : (r : Fields) (s : Received) (first next : ℕ) (more : Bool) (bytes : List ℕ) → AreReceived r s → next ≡ (8 * first + length bytes) / 8 + min 1 ((8 * first + length bytes) % 8) → (((i : ℕ) → first ≤ i → i < next → mark_of r.marks i ≡ 0) → ⊥) → list_any (overlaps (fragment_at first more bytes)) s.fragments ≡ true
+pub occupied_units : (r : Fields) (s : Received) (first next : ℕ) (more : Bool) (bytes : List ℕ) → AreReceived r s → next ≡ (8 * first + length bytes) / 8 + min 1 ((8 * first + length bytes) % 8) → (((i : ℕ) → first ≤ i → i < next → mark_by r.run r.marks i ≡ 0) → ⊥) → list_any (overlaps (fragment_at first more bytes)) s.fragments ≡ true
 occupied_units r s first next more bytes h n occupied = true_from_ne_false (list_any (overlaps (fragment_at first more bytes)) s.fragments) (λ none.
     occupied (λ i low high. h.marks i ∙ unmarked s.fragments (fragment_at first more bytes) i none (omega (arith, low)) (omega (arith, high, n))))
 
@@ -65,7 +65,7 @@ pub same_overlaps : (fs : List Fragment) (f : Fragment) → list_any (is_same f)
 same_overlaps fs f among positive = any_from_member (overlaps f) fs f among (overlaps_at f f f.offset (omega arith) (omega (arith, positive)) (omega arith) (omega (arith, positive)))
 
 -- A fragment that is there has the units of one fragment.
-pub repeated_units : (r : Fields) (s : Received) (first next : ℕ) (more : Bool) (bytes : List ℕ) → AreReceived r s → IsSound s.limit (fragment_at first more bytes) → 0 < length bytes → next ≡ (8 * first + length bytes) / 8 + min 1 ((8 * first + length bytes) % 8) → ((mark_of r.marks first ≡ first_mark more) × ((i : ℕ) → first + 1 ≤ i → i < next → mark_of r.marks i ≡ 3) × (mark_of r.marks next ≡ 3 → ⊥) → ⊥) → list_any (is_same (fragment_at first more bytes)) s.fragments ≡ false
+pub repeated_units : (r : Fields) (s : Received) (first next : ℕ) (more : Bool) (bytes : List ℕ) → AreReceived r s → IsSound s.limit (fragment_at first more bytes) → 0 < length bytes → next ≡ (8 * first + length bytes) / 8 + min 1 ((8 * first + length bytes) % 8) → ((mark_by r.run r.marks first ≡ first_mark more) × ((i : ℕ) → first + 1 ≤ i → i < next → mark_by r.run r.marks i ≡ 3) × (mark_by r.run r.marks next ≡ 3 → ⊥) → ⊥) → list_any (is_same (fragment_at first more bytes)) s.fragments ≡ false
 repeated_units r s first next more bytes h sound positive n other = false_from_ne_true (list_any (is_same (fragment_at first more bytes)) s.fragments) (λ among.
     let f : Fragment = fragment_at first more bytes in
     other (
@@ -92,12 +92,12 @@ member_slice r s f h among =
     ∙ ap (λ (i : ℕ). get_or f.bytes i 0) at))
 
 -- The marks of a fragment's units are those of one that is there.
-units_marked : (r : Fields) (s : Received) (first next : ℕ) (more : Bool) (bytes : List ℕ) → AreReceived r s → next ≡ (8 * first + length bytes) / 8 + min 1 ((8 * first + length bytes) % 8) → (mark_of r.marks first ≡ first_mark more) × ((i : ℕ) → first + 1 ≤ i → i < next → mark_of r.marks i ≡ 3) × (mark_of r.marks next ≡ 3 → ⊥) → IsMarked s.fragments (fragment_at first more bytes)
+units_marked : (r : Fields) (s : Received) (first next : ℕ) (more : Bool) (bytes : List ℕ) → AreReceived r s → next ≡ (8 * first + length bytes) / 8 + min 1 ((8 * first + length bytes) % 8) → (mark_by r.run r.marks first ≡ first_mark more) × ((i : ℕ) → first + 1 ≤ i → i < next → mark_by r.run r.marks i ≡ 3) × (mark_by r.run r.marks next ≡ 3 → ⊥) → IsMarked s.fragments (fragment_at first more bytes)
 units_marked r s first next more bytes h n units =
     let f : Fragment = fragment_at first more bytes in
     record {
       marks = λ i low high. sym (h.marks i) ∙ elim (cases_eq i first) [
-        | inl e ↦ ap (λ (k : ℕ). mark_of r.marks k) e ∙ (units.0 ∙ sym (first_mark_in f i (omega (arith, e))))
+        | inl e ↦ ap (λ (k : ℕ). mark_by r.run r.marks k) e ∙ (units.0 ∙ sym (first_mark_in f i (omega (arith, e))))
         | inr other ↦ units.1 i (omega (arith, other, low)) (omega (arith, high, n)) ∙ sym (later_mark_in f i (λ e. other (omega (arith, e))))
       ];
       ends = λ e. units.2 (h.marks next ∙ (ap (mark_at s.fragments) (let at : next ≡ (end_of f + 7) / 8 = omega (arith, n) in at) ∙ e));
@@ -119,7 +119,7 @@ same_bytes r s f g h among offset flag end =
     (bytes_eq-Decides (slice_range r.buffer f.offset (end_of f)) f.bytes)
     ((λ there. member_slice r s f h there), λ same. same_among s.fragments g f among offset flag (sym stored ∙ same))
 
-pub repeated_bytes : (r : Fields) (s : Received) (first next : ℕ) (more : Bool) (bytes : List ℕ) → AreReceived r s → IsSound s.limit (fragment_at first more bytes) → 0 < length bytes → next ≡ (8 * first + length bytes) / 8 + min 1 ((8 * first + length bytes) % 8) → (mark_of r.marks first ≡ first_mark more) × ((i : ℕ) → first + 1 ≤ i → i < next → mark_of r.marks i ≡ 3) × (mark_of r.marks next ≡ 3 → ⊥) → (more ≡ false → 8 * first + length bytes ≡ r.reach) → bytes_eq (slice_range r.buffer (8 * first) (8 * first + length bytes)) bytes ≡ list_any (is_same (fragment_at first more bytes)) s.fragments
+pub repeated_bytes : (r : Fields) (s : Received) (first next : ℕ) (more : Bool) (bytes : List ℕ) → AreReceived r s → IsSound s.limit (fragment_at first more bytes) → 0 < length bytes → next ≡ (8 * first + length bytes) / 8 + min 1 ((8 * first + length bytes) % 8) → (mark_by r.run r.marks first ≡ first_mark more) × ((i : ℕ) → first + 1 ≤ i → i < next → mark_by r.run r.marks i ≡ 3) × (mark_by r.run r.marks next ≡ 3 → ⊥) → (more ≡ false → 8 * first + length bytes ≡ r.reach) → bytes_eq (slice_range r.buffer (8 * first) (8 * first + length bytes)) bytes ≡ list_any (is_same (fragment_at first more bytes)) s.fragments
 repeated_bytes r s first next more bytes h sound positive n units ends =
     with_shape (has_shape s.limit s.fragments (fragment_at first more bytes) first refl h.consistent positive (units_marked r s first next more bytes h n units)) where
       with_shape : HasShape s.fragments (fragment_at first more bytes) → bytes_eq (slice_range r.buffer (8 * first) (8 * first + length bytes)) bytes ≡ list_any (is_same (fragment_at first more bytes)) s.fragments
@@ -157,7 +157,8 @@ pub record IsStored (r q : Fields) (first next : ℕ) (more : Bool) (bytes : Lis
   pub next_unit : next ≡ (8 * first + length bytes) / 8 + min 1 ((8 * first + length bytes) % 8)
   pub buffer : (i : ℕ) → get_or q.buffer i 0 ≡ cond (leb (8 * first) i && ltb i (8 * first + length bytes)) (get_or bytes (i - 8 * first) 0) (get_or r.buffer i 0)
   pub room : length q.buffer ≡ length r.buffer
-  pub marks : (i : ℕ) → mark_of q.marks i ≡ cond (leb first i && ltb i next) (cond (eqb i first) (first_mark more) 3) (mark_of r.marks i)
+  pub marks : (i : ℕ) → mark_by q.run q.marks i ≡ cond (leb first i && ltb i next) (cond (eqb i first) (first_mark more) 3) (mark_by r.run r.marks i)
+  pub unused : (i : ℕ) → i < run_end q.run → mark_of q.marks i ≡ 0
   pub reach : q.reach ≡ max r.reach (8 * first + length bytes)
   pub count : r.count + length bytes ≤ 65535 → q.count ≡ r.count + length bytes
   pub ended : q.is_ended ≡ (r.is_ended || not more)
@@ -175,17 +176,21 @@ units_in first next more bytes i n = elim (cases_Bool (is_in (fragment_at first 
   ]
 ]
 
-stored_marks : (r q : Fields) (s : Received) (first next : ℕ) (more : Bool) (bytes : List ℕ) (i : ℕ) → AreReceived r s → IsStored r q first next more bytes → mark_of q.marks i ≡ mark_at (fragment_at first more bytes ∷ s.fragments) i
+-- The units of a fragment that overlaps no other are free.
+pub free_by : (r : Fields) (s : Received) (first next : ℕ) (more : Bool) (bytes : List ℕ) → AreReceived r s → IsNew s (fragment_at first more bytes) → next ≡ (8 * first + length bytes) / 8 + min 1 ((8 * first + length bytes) % 8) → (i : ℕ) → first ≤ i → i < next → mark_by r.run r.marks i ≡ 0
+free_by r s first next more bytes h new n i low high = h.marks i ∙ unmarked s.fragments (fragment_at first more bytes) i new.apart (omega (arith, low)) (omega (arith, high, n))
+
+stored_marks : (r q : Fields) (s : Received) (first next : ℕ) (more : Bool) (bytes : List ℕ) (i : ℕ) → AreReceived r s → IsStored r q first next more bytes → mark_by q.run q.marks i ≡ mark_at (fragment_at first more bytes ∷ s.fragments) i
 stored_marks r q s first next more bytes i h k =
     let f : Fragment = fragment_at first more bytes in
     k.marks i ∙ elim (cases_Bool (is_in f (8 * i))) [
-      | inl inside ↦ cond-true (leb first i && ltb i next) (cond (eqb i first) (first_mark more) 3) (mark_of r.marks i) (units_in first next more bytes i k.next_unit ∙ inside)
+      | inl inside ↦ cond-true (leb first i && ltb i next) (cond (eqb i first) (first_mark more) 3) (mark_by r.run r.marks i) (units_in first next more bytes i k.next_unit ∙ inside)
           ∙ (elim (cases_eq i first) [
             | inl e ↦ cond-true (eqb i first) (first_mark more) 3 (eq-eqb i first e) ∙ sym (first_mark_in f i (omega (arith, e)))
             | inr other ↦ cond-false (eqb i first) (first_mark more) 3 (ne_eqb i first other) ∙ sym (later_mark_in f i (λ e. other (omega (arith, e))))
           ]
           ∙ sym (mark_at_in f s.fragments i inside))
-      | inr outside ↦ cond-false (leb first i && ltb i next) (cond (eqb i first) (first_mark more) 3) (mark_of r.marks i) (units_in first next more bytes i k.next_unit ∙ outside)
+      | inr outside ↦ cond-false (leb first i && ltb i next) (cond (eqb i first) (first_mark more) 3) (mark_by r.run r.marks i) (units_in first next more bytes i k.next_unit ∙ outside)
           ∙ (h.marks i ∙ sym (mark_at_out f s.fragments i outside))
     ]
 
@@ -209,6 +214,7 @@ stored r q s first next more bytes h n k =
       abandoned = k.abandoned ∙ h.abandoned;
       consistent = consistent;
       marks = λ i. stored_marks r q s first next more bytes i h k;
+      unused = k.unused;
       bytes = λ i byte. stored_bytes r q s first next more bytes i byte h k;
       reach = omega (arith, k.reach, h.reach);
       ended = k.ended ∙ (ap (λ b. b || not more) h.ended ∙ or_comm (is_ended s.fragments) (not more));
@@ -230,6 +236,7 @@ stored_again q s f h none among =
       abandoned = h.abandoned;
       consistent = h.consistent.3;
       marks = λ i. h.marks i ∙ mark_at_out f s.fragments i (nowhere (8 * i));
+      unused = h.unused;
       bytes = λ i byte e. h.bytes i byte (byte_at_out f s.fragments i (nowhere i) ∙ e);
       reach = omega (arith, h.reach, member_within s.fragments f among);
       ended = h.ended ∙ elim (cases_Bool f.more) [
@@ -275,13 +282,14 @@ not_not true = refl
 not_not false = refl
 
 -- Nothing has been received.
-pub has_nothing : (r : Fields) (abandons : Bool) → ((i : ℕ) → mark_of r.marks i ≡ 0) → r.reach ≡ 0 → r.count ≡ 0 → r.is_ended ≡ false → r.is_abandoned ≡ false → r.abandons ≡ abandons → AreReceived r (received_nothing (min (length r.buffer) 65535) abandons)
-has_nothing r abandons marks reach count ended abandoned same = record {
+pub has_nothing : (r : Fields) (abandons : Bool) → ((i : ℕ) → mark_of r.marks i ≡ 0) → run_end r.run ≡ 0 → r.reach ≡ 0 → r.count ≡ 0 → r.is_ended ≡ false → r.is_abandoned ≡ false → r.abandons ≡ abandons → AreReceived r (received_nothing (min (length r.buffer) 65535) abandons)
+has_nothing r abandons marks run reach count ended abandoned same = record {
   limit = refl;
   abandons = same;
   abandoned = abandoned;
   consistent = tt;
-  marks = marks;
+  marks = λ i. cond-false (ltb i (run_end r.run)) (run_mark r.run i) (mark_of r.marks i) (le-ltb i (run_end r.run) (omega (arith, run))) ∙ marks i;
+  unused = λ i less. absurd (let h : ⊥ = omega (arith, less, run) in h);
   bytes = λ i byte e. absurd (none-some byte e);
   reach = reach;
   ended = ended;
@@ -311,7 +319,7 @@ pub no_payload : (r : Fields) (s : Received) → AreReceived r s → (r.is_ended
 no_payload r s h less = not_whole r s h (λ ended all. both_ways (r.is_ended && eqb r.count r.reach) less (and_from r.is_ended (eqb r.count r.reach) ended (eq-eqb r.count r.reach all)))
 
 -- The verdicts of the tests.
-pub tested_overlap : (r : Fields) (s : Received) (first next : ℕ) (more : Bool) (bytes : List ℕ) → AreReceived r s → IsSound s.limit (fragment_at first more bytes) → next ≡ (8 * first + length bytes) / 8 + min 1 ((8 * first + length bytes) % 8) → (((i : ℕ) → first ≤ i → i < next → mark_of r.marks i ≡ 0) → ⊥) → (IsSound s.limit (fragment_at first more bytes) → list_any (is_same (fragment_at first more bytes)) s.fragments ≡ false) → refusal s.limit s.fragments (fragment_at first more bytes) ≡ Some Overlap
+pub tested_overlap : (r : Fields) (s : Received) (first next : ℕ) (more : Bool) (bytes : List ℕ) → AreReceived r s → IsSound s.limit (fragment_at first more bytes) → next ≡ (8 * first + length bytes) / 8 + min 1 ((8 * first + length bytes) % 8) → (((i : ℕ) → first ≤ i → i < next → mark_by r.run r.marks i ≡ 0) → ⊥) → (IsSound s.limit (fragment_at first more bytes) → list_any (is_same (fragment_at first more bytes)) s.fragments ≡ false) → refusal s.limit s.fragments (fragment_at first more bytes) ≡ Some Overlap
 tested_overlap r s first next more bytes h sound n occupied other =
     refused_overlap s.limit s.fragments (fragment_at first more bytes) sound.aligned sound.within (other sound) (occupied_units r s first next more bytes h n occupied)
 
@@ -321,7 +329,7 @@ ends_by_fields r s f b h e =
     subst (λ (m : ℕ). ((is_ended s.fragments && ltb m (end_of f)) || (not f.more && ltb (end_of f) m)) ≡ b) h.reach
     (subst (λ (l : Bool). ((l && ltb r.reach (end_of f)) || (not f.more && ltb (end_of f) r.reach)) ≡ b) h.ended e)
 
-pub tested_two_ends : (r : Fields) (s : Received) (first next : ℕ) (more : Bool) (bytes : List ℕ) → AreReceived r s → IsSound s.limit (fragment_at first more bytes) → next ≡ (8 * first + length bytes) / 8 + min 1 ((8 * first + length bytes) % 8) → ((i : ℕ) → first ≤ i → i < next → mark_of r.marks i ≡ 0) → ((r.is_ended && ltb r.reach (8 * first + length bytes)) || (not more && ltb (8 * first + length bytes) r.reach)) ≡ true → refusal s.limit s.fragments (fragment_at first more bytes) ≡ Some TwoEnds
+pub tested_two_ends : (r : Fields) (s : Received) (first next : ℕ) (more : Bool) (bytes : List ℕ) → AreReceived r s → IsSound s.limit (fragment_at first more bytes) → next ≡ (8 * first + length bytes) / 8 + min 1 ((8 * first + length bytes) % 8) → ((i : ℕ) → first ≤ i → i < next → mark_by r.run r.marks i ≡ 0) → ((r.is_ended && ltb r.reach (8 * first + length bytes)) || (not more && ltb (8 * first + length bytes) r.reach)) ≡ true → refusal s.limit s.fragments (fragment_at first more bytes) ≡ Some TwoEnds
 tested_two_ends r s first next more bytes h sound n free ends =
     let f : Fragment = fragment_at first more bytes in
     let two : list_any (has_two_ends f) s.fragments ≡ true = two_ends_from s.fragments f (ends_by_fields r s f true h ends) in
@@ -329,7 +337,7 @@ tested_two_ends r s first next more bytes h sound n free ends =
     (false_from_ne_true (list_any (is_same f) s.fragments) (λ same. both_ways (list_any (has_two_ends f) s.fragments) (member_one_end s.limit s.fragments f h.consistent same) two))
     (free_units r s first next more bytes h n free) two
 
-pub tested_new : (r : Fields) (s : Received) (first next : ℕ) (more : Bool) (bytes : List ℕ) → AreReceived r s → IsSound s.limit (fragment_at first more bytes) → next ≡ (8 * first + length bytes) / 8 + min 1 ((8 * first + length bytes) % 8) → ((i : ℕ) → first ≤ i → i < next → mark_of r.marks i ≡ 0) → ((r.is_ended && ltb r.reach (8 * first + length bytes)) || (not more && ltb (8 * first + length bytes) r.reach)) ≡ false → IsNew s (fragment_at first more bytes)
+pub tested_new : (r : Fields) (s : Received) (first next : ℕ) (more : Bool) (bytes : List ℕ) → AreReceived r s → IsSound s.limit (fragment_at first more bytes) → next ≡ (8 * first + length bytes) / 8 + min 1 ((8 * first + length bytes) % 8) → ((i : ℕ) → first ≤ i → i < next → mark_by r.run r.marks i ≡ 0) → ((r.is_ended && ltb r.reach (8 * first + length bytes)) || (not more && ltb (8 * first + length bytes) r.reach)) ≡ false → IsNew s (fragment_at first more bytes)
 tested_new r s first next more bytes h sound n free ends =
     let f : Fragment = fragment_at first more bytes in
     record {
@@ -350,18 +358,36 @@ received_refused r s a b e h = record {
   abandoned = e;
   consistent = h.consistent;
   marks = h.marks;
+  unused = h.unused;
   bytes = h.bytes;
   reach = h.reach;
   ended = h.ended;
   count = h.count;
 }
 
+-- Where all fragments are in the run, no unit has a mark in the bytes.
+pub run_alone : (r : Fields) (s : Received) (i : ℕ) → AreReceived r s → r.reach / 8 + min 1 (r.reach % 8) ≤ run_end r.run → mark_of r.marks i ≡ 0
+run_alone r s i h alone = elim (cases_lt i (run_end r.run)) [
+  | inl below ↦ h.unused i below
+  | inr past ↦ sym (cond-false (ltb i (run_end r.run)) (run_mark r.run i) (mark_of r.marks i) (le-ltb i (run_end r.run) past)) ∙ (h.marks i ∙ unmarked_after s.fragments i (omega (arith, past, alone, h.reach)))
+]
+
+-- After the marks of the bytes between the run and the largest end were removed, no unit has one.
+pub removed : (r : Fields) (s : Received) (start end i m : ℕ) → AreReceived r s → end ≡ min (r.reach / 32 + min 1 (r.reach % 32)) 2048 → start ≡ min (run_end r.run / 4) end → m ≡ cond (leb (4 * start) i && ltb i (4 * end)) 0 (mark_of r.marks i) → m ≡ 0
+removed r s start end i m h last first is = is ∙ elim (cases_Bool (leb (4 * start) i && ltb i (4 * end))) [
+  | inl inside ↦ cond-true (leb (4 * start) i && ltb i (4 * end)) 0 (mark_of r.marks i) inside
+  | inr outside ↦ cond-false (leb (4 * start) i && ltb i (4 * end)) 0 (mark_of r.marks i) outside ∙ elim (cases_lt i (run_end r.run)) [
+    | inl below ↦ h.unused i below
+    | inr past ↦ elim (cases_lt i (4 * end)) [
+      | inl before ↦ absurd (both_ways (leb (4 * start) i && ltb i (4 * end)) outside (and_from (leb (4 * start) i) (ltb i (4 * end)) (le-leb (4 * start) i (omega (arith, first, past))) (lt-ltb i (4 * end) before)))
+      | inr after ↦ sym (cond-false (ltb i (run_end r.run)) (run_mark r.run i) (mark_of r.marks i) (le-ltb i (run_end r.run) past))
+          ∙ (h.marks i ∙ unmarked_after s.fragments i (omega (arith, after, last, h.reach, h.limit, reach_most s.limit s.fragments h.consistent)))
+    ]
+  ]
+]
+
 -- Nothing has been received after the marks were removed.
-pub received_cleared : (r q : Fields) (s : Received) (end : ℕ) → AreReceived r s → end ≡ min (r.reach / 32 + min 1 (r.reach % 32)) 2048 → ((i : ℕ) → mark_of q.marks i ≡ cond (ltb i (4 * end)) 0 (mark_of r.marks i)) → q.buffer ≡ r.buffer → q.reach ≡ 0 → q.count ≡ 0 → q.is_ended ≡ false → q.is_abandoned ≡ false → q.abandons ≡ r.abandons → AreReceived q (received_nothing s.limit s.abandons)
-received_cleared r q s end h used marks buffer reach count ended abandoned abandons =
+pub received_cleared : (r q : Fields) (s : Received) → AreReceived r s → ((i : ℕ) → mark_of q.marks i ≡ 0) → run_end q.run ≡ 0 → q.buffer ≡ r.buffer → q.reach ≡ 0 → q.count ≡ 0 → q.is_ended ≡ false → q.is_abandoned ≡ false → q.abandons ≡ r.abandons → AreReceived q (received_nothing s.limit s.abandons)
+received_cleared r q s h marks run buffer reach count ended abandoned abandons =
     subst (λ (n : ℕ). AreReceived q (received_nothing n s.abandons)) (ap (λ (b : List ℕ). min (length b) 65535) buffer ∙ sym h.limit)
-    (has_nothing q s.abandons (λ i. marks i ∙ elim (cases_lt i (4 * end)) [
-      | inl below ↦ cond-true (ltb i (4 * end)) 0 (mark_of r.marks i) (lt-ltb i (4 * end) below)
-      | inr past ↦ cond-false (ltb i (4 * end)) 0 (mark_of r.marks i) (le-ltb i (4 * end) past)
-          ∙ (h.marks i ∙ unmarked_after s.fragments i (omega (arith, past, used, h.reach, h.limit, reach_most s.limit s.fragments h.consistent)))
-    ]) reach count ended abandoned (abandons ∙ h.abandons))
+    (has_nothing q s.abandons marks run reach count ended abandoned (abandons ∙ h.abandons))

@@ -1,9 +1,12 @@
 -- What the fields of a reassembly say.
-use Rattle.std.specs.Prelude.{◌≡◌, ℕ, ◌+◌, ◌*◌, ◌/◌, ◌%◌, ◌^◌, ◌≤◌, ◌==◌, not, max, min, length, slice_index, Bool, false, List, [], ◌∷◌, Some, if◌then◌else◌}
+use Rattle.std.specs.Prelude.{◌≡◌, ℕ, ◌+◌, ◌*◌, ◌%◌, ◌<◌, ◌≤◌, ◌==◌, not, max, min, length, slice_index, Bool, false, List, [], ◌∷◌, Some, if◌then◌else◌}
 use Rattle.std.specs.List.{list_any}
 use Rattle.ip_defrag.specs.Fragment.{Fragment, end_of, is_in, overlaps, has_two_ends, is_unaligned}
 use Rattle.ip_defrag.specs.Payload.{byte_at}
 use Rattle.ip_defrag.specs.Received.{Received}
+use Rattle.ip_defrag.specs.Marks.{mark_of}
+use Rattle.ip_defrag.specs.Run.{run_end, mark_by}
+use Rattle.ip_defrag.specs.declared.run.Run.{Run}
 use Rattle.ip_defrag.specs.declared.state.ReassemblyState.{ReassemblyState}
 use Rattle.ip_defrag.specs.declared.reassembly.Reassembly.{Reassembly}
 
@@ -23,14 +26,6 @@ mark_in f i = if 8 * i == f.offset then first_mark f.more else 3
 abbrev pub mark_at : List Fragment → ℕ → ℕ
 mark_at [] i = 0
 mark_at (f ∷ fs) i = if is_in f (8 * i) then mark_in f i else mark_at fs i
-
--- the mark with this index in a byte, which has four of two bits, the lowest first
-abbrev pub byte_mark : ℕ → ℕ → ℕ
-byte_mark byte k = byte / 2 ^ (2 * k) % 4
-
--- the mark of a unit in bytes
-abbrev pub mark_of : List ℕ → ℕ → ℕ
-mark_of marks i = byte_mark (slice_index marks (i / 4)) (i % 4)
 
 -- the largest end of a fragment
 abbrev pub reach_of : List Fragment → ℕ
@@ -65,6 +60,7 @@ is_set n = not (n == 0)
 -- what a state and its buffer hold
 pub record Fields : Type 0 where
   pub buffer : List ℕ
+  pub run : Run
   pub marks : List ℕ
   pub reach : ℕ
   pub count : ℕ
@@ -75,6 +71,7 @@ pub record Fields : Type 0 where
 abbrev pub fields_of : ReassemblyState → List ℕ → Fields
 fields_of r buffer = record {
   buffer = buffer;
+  run = r.run;
   marks = r.marks;
   reach = r.reach;
   count = r.count;
@@ -89,7 +86,8 @@ pub record AreReceived (r : Fields) (s : Received) : Type 0 where
   pub abandons : r.abandons ≡ s.abandons
   pub abandoned : r.is_abandoned ≡ s.abandoned
   pub consistent : AreConsistent s.limit s.fragments
-  pub marks : (i : ℕ) → mark_of r.marks i ≡ mark_at s.fragments i
+  pub marks : (i : ℕ) → mark_by r.run r.marks i ≡ mark_at s.fragments i
+  pub unused : (i : ℕ) → i < run_end r.run → mark_of r.marks i ≡ 0
   pub bytes : (i byte : ℕ) → byte_at s.fragments i ≡ Some byte → slice_index r.buffer i ≡ byte
   pub reach : r.reach ≡ reach_of s.fragments
   pub ended : r.is_ended ≡ is_ended s.fragments

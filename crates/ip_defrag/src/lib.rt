@@ -5,6 +5,7 @@ mod err;
 mod marks;
 mod progress;
 mod reassembly;
+mod run;
 mod state;
 #[cfg(test)]
 mod tests;

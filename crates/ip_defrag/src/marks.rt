@@ -1,7 +1,11 @@
 //! Marks of units of 8 bytes, four in a byte, and bytes in a buffer.
-ghost use Rattle.std.specs.Prelude.{◌≡◌, ◌≢◌, ℕ, ◌+◌, ◌-◌, ◌*◌, ◌/◌, ◌%◌, ◌^◌, ◌<◌, ◌≤◌, ◌++◌, ◌==◌, ◌&&◌, ◌↔◌, IsTrue, length, nat_le, nat_lt, slice_index, All, max, if◌then◌else◌};
+ghost use Rattle.std.specs.Prelude.{◌≡◌, ◌≢◌, ℕ, ◌+◌, ◌-◌, ◌*◌, ◌/◌, ◌%◌, ◌^◌, ◌<◌, ◌≤◌, ◌++◌, ◌==◌, ◌&&◌, ◌↔◌, IsTrue, length, nat_le, nat_lt, slice_index, All, max, if◌then◌else◌, false};
 ghost use Rattle.std.specs.List.{fold};
-ghost use Rattle.ip_defrag.specs.Reassembly.{first_mark, byte_mark, mark_of};
+ghost use Rattle.ip_defrag.specs.Reassembly.{first_mark};
+ghost use Rattle.ip_defrag.specs.Marks.{byte_mark, mark_of};
+ghost use Rattle.ip_defrag.specs.Run.{run_end, mark_by};
+
+use crate::run::Run;
 
 /// The mark of a unit after the first one of a fragment.
 const LATER: u8 = 3;
@@ -9,13 +13,30 @@ const LATER: u8 = 3;
 /// A byte with four marks of later units.
 const FOUR_LATER: u8 = 255;
 
-/// Returns the mark of a unit.
+/// Returns the mark of a unit, 0 after all bytes.
 #[inline(always)]
 fn mark_of(marks: &[u8], unit: usize) -> u8
-    requires { unit < 4 * length marks.now }
     ensures { result ≡ mark_of marks.now unit }
 {
-    (marks[unit / 4] >> (2 * (unit % 4))) % 4
+    match marks.get(unit / 4) {
+        Some(byte) => (*byte >> (2 * (unit % 4))) % 4,
+        None => 0,
+    }
+}
+
+/// Returns the mark of a unit by a run, and after it by bytes.
+#[inline(always)]
+fn mark_by(run: Run, marks: &[u8], unit: usize) -> u8
+    ensures { result ≡ mark_by run marks.now unit }
+{
+    if unit >= run.end() {
+        return mark_of(marks, unit);
+    }
+    if unit % usize::from(run.units) == 0 {
+        1
+    } else {
+        LATER
+    }
 }
 
 /// Returns a byte with the marks of later units from `first` to `end`, and no others.
@@ -82,14 +103,31 @@ pub(crate) fn are_free(marks: &[u8], first: usize, end: usize) -> bool
     are_free_in(marks, last, 0, end - 4 * last)
 }
 
-/// Returns whether these units are later units of a fragment.
-fn are_later(marks: &[u8], first: usize, end: usize) -> bool
+/// Returns whether these units are in no fragment.
+#[inline(always)]
+pub(crate) fn are_free_by(run: Run, marks: &[u8], first: usize, end: usize) -> bool
     requires ordered { first ≤ end }
     requires within { end ≤ 4 * length marks.now }
-    ensures { IsTrue result ↔ ((i : ℕ) → first ≤ i → i < end → mark_of marks.now i ≡ 3) }
+    ensures free { IsTrue result
+        ↔ ((i : ℕ) → first ≤ i → i < end → mark_by run marks.now i ≡ 0) }
+    ensures some { result ≡ false → first < end }
+{
+    if first == end {
+        return true;
+    }
+    if first < run.end() {
+        return false;
+    }
+    are_free(marks, first, end)
+}
+
+/// Returns whether these units are later units of a fragment.
+fn are_later(run: Run, marks: &[u8], first: usize, end: usize) -> bool
+    requires ordered { first ≤ end }
+    ensures { IsTrue result ↔ ((i : ℕ) → first ≤ i → i < end → mark_by run marks.now i ≡ 3) }
 {
     'units: for unit in first..end {
-        if mark_of(marks, unit) != LATER {
+        if mark_by(run, marks, unit) != LATER {
             return false;
         }
     }
@@ -98,16 +136,15 @@ fn are_later(marks: &[u8], first: usize, end: usize) -> bool
 
 /// Returns whether these units are those of one fragment.
 #[inline(always)]
-pub(crate) fn is_fragment(marks: &[u8], first: usize, end: usize, first_mark: u8) -> bool
-    requires ordered { first < end }
-    requires within { end ≤ 4 * length marks.now }
-    ensures { IsTrue result ↔ (mark_of marks.now first ≡ first_mark)
-        × ((i : ℕ) → first + 1 ≤ i → i < end → mark_of marks.now i ≡ 3)
-        × (mark_of marks.now end ≢ 3) }
+pub(crate) fn is_fragment(run: Run, marks: &[u8], first: usize, end: usize, first_mark: u8) -> bool
+    requires { first < end }
+    ensures { IsTrue result ↔ (mark_by run marks.now first ≡ first_mark)
+        × ((i : ℕ) → first + 1 ≤ i → i < end → mark_by run marks.now i ≡ 3)
+        × (mark_by run marks.now end ≢ 3) }
 {
-    mark_of(marks, first) == first_mark
-        && are_later(marks, first + 1, end)
-        && (end / 4 == marks.len() || mark_of(marks, end) != LATER)
+    mark_by(run, marks, first) == first_mark
+        && are_later(run, marks, first + 1, end)
+        && mark_by(run, marks, end) != LATER
 }
 
 /// Stores bytes at an offset.
@@ -201,12 +238,36 @@ pub(crate) fn mark(marks: &mut [u8], first: usize, end: usize, more: bool)
     }
 }
 
-/// Removes the marks in the first `end` bytes.
+/// Marks the units of a fragment that are in no other one. A fragment that continues the run has no marks: memory that no
+/// fragment needs is not touched. Returns the run.
 #[inline(always)]
-pub(crate) fn unmark(marks: &mut [u8], end: usize)
-    requires { end ≤ length marks.old }
-    ensures { (i : ℕ) → mark_of marks.new i
-        ≡ (if nat_lt i (4 * end) then 0 else mark_of marks.old i) }
+pub(crate) fn mark_by_run(run: Run, marks: &mut [u8], first: usize, end: usize, more: bool) -> Run
+    requires ordered { first ≤ end }
+    requires within { end ≤ 4 * length marks.old }
+    requires units { end ≤ 8192 }
+    ensures marks { ((i : ℕ) → first ≤ i → i < end → mark_by run marks.old i ≡ 0)
+        → (i : ℕ) → mark_by result marks.new i ≡ (if nat_le first i && nat_lt i end
+        then (if i == first then first_mark more else 3) else mark_by run marks.old i) }
+    ensures unused { ((i : ℕ) → first ≤ i → i < end → mark_by run marks.old i ≡ 0)
+        → ((i : ℕ) → i < run_end run → mark_of marks.old i ≡ 0)
+        → (i : ℕ) → i < run_end result → mark_of marks.new i ≡ 0 }
 {
-    marks[..end].fill(0);
+    match run.with(first, end, more) {
+        Some(longer) => longer,
+        None => {
+            mark(marks, first, end, more);
+            run
+        }
+    }
+}
+
+/// Removes the marks in the bytes from `first` to `end`.
+#[inline(always)]
+pub(crate) fn unmark(marks: &mut [u8], first: usize, end: usize)
+    requires ordered { first ≤ end }
+    requires within { end ≤ length marks.old }
+    ensures { (i : ℕ) → mark_of marks.new i
+        ≡ (if nat_le (4 * first) i && nat_lt i (4 * end) then 0 else mark_of marks.old i) }
+{
+    fill(marks, first, end, 0);
 }

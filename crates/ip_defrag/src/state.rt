@@ -2,7 +2,8 @@
 ghost use Rattle.std.specs.Prelude.{◌≡◌, ◌%◌, ◌==◌, ◌&&◌, ◌||◌, not};
 ghost use Rattle.ip_defrag.specs.Reassembly.{first_mark, is_set};
 
-use crate::marks::{are_free, is_fragment, mark, store, unmark};
+use crate::marks::{are_free_by, is_fragment, mark_by_run, store, unmark};
+use crate::run::Run;
 use crate::{AddError, Progress};
 use ip_base::IpFragOffset;
 
@@ -69,8 +70,10 @@ pub struct ReassemblyState {
     abandoned: u8,
     /// Not 0 if the packet is kept after a conflict.
     kept: u8,
-    /// A mark for each unit of 8 bytes, of two bits, the lowest first: 0 if it hasn't arrived, 1 if it is the first of a
-    /// fragment, 2 if it is the first of the last fragment, 3 if it is a later one.
+    /// The fragments that arrived in order, of one length.
+    run: Run,
+    /// A mark of two bits for each unit of 8 bytes after those of the run, the lowest bits first: 0 if it hasn't arrived,
+    /// 1 if it is the first of a fragment, 2 if it is the first of the last fragment, 3 if it is a later one.
     marks: [u8; 2048],
 }
 
@@ -82,7 +85,9 @@ impl ReassemblyState {
     ghost use Rattle.ip_defrag.specs.Payload.{payload_of};
     ghost use Rattle.ip_defrag.specs.Refusal.{refusal, is_conflict};
     ghost use Rattle.ip_defrag.specs.Received.{Received, received_nothing, with_fragment, progress_of, outcome_of, received_after};
-    ghost use Rattle.ip_defrag.specs.Reassembly.{HasArrived, IsNew, IsSound, is_set, mark_of};
+    ghost use Rattle.ip_defrag.specs.Reassembly.{HasArrived, IsNew, IsSound, is_set};
+    ghost use Rattle.ip_defrag.specs.Marks.{mark_of};
+    ghost use Rattle.ip_defrag.specs.Run.{mark_by};
 
     /// Returns a state in which nothing has arrived, of a packet that a conflict abandons or not: an overlap or two ends
     /// (RFC 5722; RFC 8200, section 4.5). The payload can be as long as the buffer, and at most 65,535 bytes.
@@ -96,6 +101,7 @@ impl ReassemblyState {
             ended: 0,
             abandoned: 0,
             kept: flag_of(!abandons),
+            run: Run { units: 0, count: 0 },
             marks: [0; MARKS],
         }
     }
@@ -175,12 +181,26 @@ impl ReassemblyState {
         ensures { (buffer : List ℕ) (s : Received) → HasArrived self.old buffer s
             → HasArrived self.new buffer (received_nothing s.limit s.abandons) }
     {
-        let end = self.reach.div_ceil(32).min(MARKS);
-        unmark(&mut self.marks, end);
+        self.unmark();
+        self.run = Run { units: 0, count: 0 };
         self.reach = 0;
         self.count = 0;
         self.ended = 0;
         self.abandoned = 0;
+    }
+
+    /// Removes all marks. If all fragments are in the run, there are none, and their memory is not touched.
+    #[inline(always)]
+    fn unmark(&mut self)
+        ensures marks { (buffer : List ℕ) (s : Received) → HasArrived self.old buffer s
+            → (i : ℕ) → mark_of self.new.marks i ≡ 0 }
+        ensures kept { self.new.kept ≡ self.old.kept }
+    {
+        if self.reach.div_ceil(8) <= self.run.end() {
+            return;
+        }
+        let end = self.reach.div_ceil(32).min(MARKS);
+        unmark(&mut self.marks, (self.run.end() / 4).min(end), end);
     }
 
     /// Returns the flag that says whether the packet is abandoned after a fragment was refused.
@@ -231,7 +251,13 @@ impl ReassemblyState {
             → result ≡ list_any (is_same (fragment_at first more bytes.now)) s.fragments }
     {
         let end = 8 * first + bytes.len();
-        if !is_fragment(&self.marks, first, end.div_ceil(8), first_mark_of(more)) {
+        if !is_fragment(
+            self.run,
+            &self.marks,
+            first,
+            end.div_ceil(8),
+            first_mark_of(more),
+        ) {
             return false;
         }
         if !more && end != self.reach {
@@ -255,10 +281,10 @@ impl ReassemblyState {
         requires ordered { first ≤ end }
         requires within { end ≤ 8192 }
         ensures free { (buffer : List ℕ) (s : Received) → HasArrived self.now buffer s → IsTrue result
-            ↔ ((i : ℕ) → first ≤ i → i < end → mark_of self.now.marks i ≡ 0) }
+            ↔ ((i : ℕ) → first ≤ i → i < end → mark_by self.now.run self.now.marks i ≡ 0) }
         ensures some { result ≡ false → first < end }
     {
-        self.reach <= 8 * first || are_free(&self.marks, first, end)
+        self.reach <= 8 * first || are_free_by(self.run, &self.marks, first, end)
     }
 
     /// Returns whether a fragment can be stored, or repeats another one, or why it is refused.
@@ -306,7 +332,7 @@ impl ReassemblyState {
         let count = self.count.saturating_add(bytes.len());
         let ended = ended_after(self.ended, more);
         store(buffer, 8 * first, bytes);
-        mark(&mut self.marks, first, end.div_ceil(8), more);
+        self.run = mark_by_run(self.run, &mut self.marks, first, end.div_ceil(8), more);
         self.reach = reach;
         self.count = count;
         self.ended = ended;

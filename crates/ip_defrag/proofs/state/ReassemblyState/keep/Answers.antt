@@ -1,15 +1,18 @@
-use Rattle.ip_defrag.proofs.Common.{arith, refl}
+use Rattle.ip_defrag.proofs.Common.{ℕ, arith, refl, sym, ◌∙◌, ◌≤◌, ◌<◌, ◌≡◌, mark_by}
 use Rattle.ip_defrag.specs.Reassembly.{fields_of}
-use Rattle.ip_defrag.proofs.ReceivedLemmas.{kept}
+use Rattle.ip_defrag.proofs.ReceivedLemmas.{kept, free_by}
 use Rattle.ip_defrag.proofs.state.ReassemblyState.keep.Goals as goal
 
 pub returns : goal.returns
-returns c = λ s h new. kept (fields_of c.args.self.now c.args.buffer.now) _ s c.args.first c.div_ceil.result c.args.more c.args.bytes.now h new
+returns c = λ s h new.
+    let free = free_by (fields_of c.args.self.now c.args.buffer.now) s c.args.first c.div_ceil.result c.args.more c.args.bytes.now h new c.div_ceil.ensures in
+    kept (fields_of c.args.self.now c.args.buffer.now) _ s c.args.first c.div_ceil.result c.args.more c.args.bytes.now h new
     record {
       next_unit = c.div_ceil.ensures;
       buffer = c.store.ensures;
       room = c.store.auto.buffer;
-      marks = c.mark.ensures;
+      marks = c.mark_by_run-self.ensures.marks free;
+      unused = c.mark_by_run-self.ensures.unused free h.unused;
       reach = c.max-reach.ensures;
       count = λ fits. omega (arith, fits, c.saturating_add-count.ensures);
       ended = c.ended_after-ended.ensures;

@@ -58,7 +58,7 @@
 #define WOLFAREN_VERSION (10000 * WOLFAREN_VERSION_MAJOR + 100 * WOLFAREN_VERSION_MINOR + WOLFAREN_VERSION_PATCH)
 
 /* A checksum of the structs, numbers and calls in this header, made by scripts/abi of the repository. */
-#define WOLFAREN_ABI 0xa5ba01f0u
+#define WOLFAREN_ABI 0xc4178673u
 
 #if !(defined(__x86_64__) && !defined(__ILP32__)) && !defined(_M_X64) && !defined(__aarch64__) && !defined(_M_ARM64)
 #error "libwolfaren needs a 64-bit machine: x86-64 or ARM64"
@@ -640,6 +640,7 @@ struct wolfaren_slot {
 
 /* What has arrived of a payload: a part of struct wolfaren_packet_memory. */
 struct wolfaren_reassembly {
+    uint8_t marks[2048]; /* a mark of two bits for each unit of 8 bytes after those of the run */
     size_t reach;        /* the largest end of a fragment */
     size_t count;        /* number of bytes that have arrived */
     uint8_t ended;       /* not 0 if a last fragment has arrived */
@@ -647,7 +648,6 @@ struct wolfaren_reassembly {
     uint8_t kept;        /* not 0 if a conflict doesn't abandon the packet */
     uint16_t run_units;  /* units of 8 bytes in each fragment of the run: those that arrived in order, of one length */
     uint16_t run_count;  /* number of fragments in the run */
-    uint8_t marks[2048]; /* a mark of two bits for each unit of 8 bytes after those of the run */
 };
 
 /*
@@ -656,13 +656,14 @@ struct wolfaren_reassembly {
  * mmap, is used page by page as packets need it.
  */
 struct wolfaren_packet_memory {
+    struct wolfaren_reassembly reassembly;
     size_t head_len;     /* length of the first fragment's headers, in bytes */
     size_t link;         /* offset in them of the number of what follows them */
     uint8_t first_here;  /* not 0 if the first fragment has arrived */
     uint8_t next_header; /* the number of what the payload starts with */
-    struct wolfaren_reassembly reassembly;
-    uint8_t head[4096];     /* the first fragment's headers */
+    uint8_t short_head[64]; /* the first fragment's headers, if they are that short */
     uint8_t payload[65536]; /* the payload */
+    uint8_t head[4096];     /* longer headers of the first fragment */
 };
 
 /* Counts of packets that wolfaren_defragment got. Each stops at UINT64_MAX. Set all to 0 at first. */
@@ -694,7 +695,7 @@ struct wolfaren_added {
  * the packet with the oldest first fragment is given up. The hash depends on `factor`, which should be a random number that
  * senders don't know, and the same at each call.
  *
- * Returns false, and changes nothing, if there aren't as many memories as slots. A memory has 71,728 bytes. The memories
+ * Returns false, and changes nothing, if there aren't as many memories as slots. A memory has 71,792 bytes. The memories
  * may lie in fresh pages of zeros; a page is used when the first packet needs it.
  */
 WOLFAREN_USE_RESULT
@@ -1104,8 +1105,8 @@ WOLFAREN_LAYOUT(wolfaren_option_cursor, 16, end, 8);
 WOLFAREN_LAYOUT(wolfaren_option, 32, may_change, 26);
 WOLFAREN_LAYOUT(wolfaren_routing, 40, next_header, 34);
 WOLFAREN_LAYOUT(wolfaren_slot, 48, version, 45);
-WOLFAREN_LAYOUT(wolfaren_reassembly, 2072, marks, 24);
-WOLFAREN_LAYOUT(wolfaren_packet_memory, 71728, payload, 6192);
+WOLFAREN_LAYOUT(wolfaren_reassembly, 2072, run_count, 2070);
+WOLFAREN_LAYOUT(wolfaren_packet_memory, 71792, head, 67690);
 WOLFAREN_LAYOUT(wolfaren_defragmenter_counts, 128, losses, 104);
 WOLFAREN_LAYOUT(wolfaren_added, 16, loss, 9);
 WOLFAREN_LAYOUT(wolfaren_rewritten, 16, keeps_checksums, 9);

@@ -53,19 +53,21 @@ pub(crate) struct Slot {
 #[cfg(feature = "alloc")]
 #[repr(C)]
 pub(crate) struct PacketMemory {
+    reassembly: Reassembly,
     head_len: usize,
     link: usize,
     first_here: u8,
     next_header: u8,
-    reassembly: Reassembly,
-    head: [u8; 4096],
+    short_head: [u8; 64],
     payload: [u8; 65536],
+    head: [u8; 4096],
 }
 
 /// `struct wolfaren_reassembly`: what has arrived of a payload. All fields are numbers.
 #[cfg(feature = "alloc")]
 #[repr(C)]
 struct Reassembly {
+    marks: [u8; 2048],
     reach: usize,
     count: usize,
     ended: u8,
@@ -73,7 +75,6 @@ struct Reassembly {
     kept: u8,
     run_units: u16,
     run_count: u16,
-    marks: [u8; 2048],
 }
 
 /// `struct wolfaren_defragmenter_counts`: counts of packets by what became of them.
@@ -253,7 +254,7 @@ const _: () = {
 
 /// `WOLFAREN_ABI`: the checksum of the header that this file was written for (`scripts/abi` of the repository).
 #[cfg(all(test, not(miri)))]
-pub(crate) const ABI: u32 = 0xa5ba_01f0;
+pub(crate) const ABI: u32 = 0xc417_8673;
 
 unsafe extern "C" {
     fn wolfaren_parse_chain(

@@ -60,6 +60,9 @@ fn ended_after(ended: u8, more: bool) -> u8
 #[repr(C)]
 #[derive(Drop)]
 pub struct ReassemblyState {
+    /// A mark of two bits for each unit of 8 bytes after those of the run, the lowest bits first: 0 if it hasn't arrived,
+    /// 1 if it is the first of a fragment, 2 if it is the first of the last fragment, 3 if it is a later one.
+    marks: [u8; 2048],
     /// The largest end of a fragment.
     reach: usize,
     /// The number of bytes that have arrived.
@@ -72,9 +75,6 @@ pub struct ReassemblyState {
     kept: u8,
     /// The fragments that arrived in order, of one length.
     run: Run,
-    /// A mark of two bits for each unit of 8 bytes after those of the run, the lowest bits first: 0 if it hasn't arrived,
-    /// 1 if it is the first of a fragment, 2 if it is the first of the last fragment, 3 if it is a later one.
-    marks: [u8; 2048],
 }
 
 impl ReassemblyState {
@@ -96,13 +96,13 @@ impl ReassemblyState {
             → HasArrived result buffer (received_nothing (min (length buffer) 65535) abandons) }
     {
         ReassemblyState {
+            marks: [0; MARKS],
             reach: 0,
             count: 0,
             ended: 0,
             abandoned: 0,
             kept: flag_of(!abandons),
             run: Run { units: 0, count: 0 },
-            marks: [0; MARKS],
         }
     }
 

@@ -1,5 +1,5 @@
 -- Which fragment a packet is, by its version.
-use Rattle.ip_spec.proofs.Common.{◌≡◌, ℕ, List, arith, refl, sym, ◌∙◌, ap, true, false, Option, Some, None, is_some, Result, Ok, Err, option_map, option_map_or, cond-true, cond-false, eq-eqb, ne_eqb, ◌==◌, if◌then◌else◌, ExtHeader, find}
+use Rattle.ip_spec.proofs.Common.{◌≡◌, ℕ, List, arith, refl, sym, ◌∙◌, ap, true, false, Option, Some, None, is_some, Result, Ok, Err, option_map, option_map_or, cond-true, cond-false, eq-eqb, ne_eqb, ◌==◌, ExtHeader, find}
 use Rattle.ip_base.specs.Ipv4Header.{is_ipv4_fragmenting}
 use Rattle.ip_base.specs.declared.ipv4_header_slice.Ipv4HeaderSlice.{Ipv4HeaderSlice}
 use Rattle.ip_base.specs.declared.ipv6_header_slice.Ipv6HeaderSlice.{Ipv6HeaderSlice}

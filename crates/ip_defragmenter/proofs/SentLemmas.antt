@@ -1,18 +1,18 @@
 -- The headers of a first fragment, changed back.
-use Rattle.std.proofs.Common.{◌≡◌, ◌≢◌, inl, inr, ℕ, zero, suc, ◌+◌, ◌-◌, ◌*◌, ◌/◌, ◌%◌, ◌≤◌, ◌<◌, List, ◌++◌, take, drop, length, get_or, refl, sym, ap, ◌∙◌, arith}
-use Rattle.std.specs.Prelude.{slice_set, slice_index, bit_and, if◌then◌else◌, ◌==◌, ◌||◌, not, false}
+use Rattle.std.proofs.Common.{◌≡◌, ◌≢◌, inl, inr, ℕ, ◌+◌, ◌-◌, ◌*◌, ◌/◌, ◌%◌, ◌≤◌, ◌<◌, List, take, drop, length, refl, sym, ap, ◌∙◌, arith}
+use Rattle.std.specs.Prelude.{slice_set, slice_index, bit_and, ◌==◌, ◌||◌, not, false}
 use Rattle.std.proofs.lemmas.Bool.{cond-true, cond-false, eq-eqb, ne_eqb, cases_eq, or_parts, eqb-true, not-false}
-use Rattle.std.proofs.lemmas.Grind.{same_number_lists, get_or-set_at, and_high_numeral, common_steps}
+use Rattle.std.proofs.lemmas.Grind.{same_number_lists, and_high_numeral}
 use Rattle.std.proofs.lemmas.Nat.{and_mask}
 use Rattle.std.proofs.lemmas.Nat.Bits.{and_high}
 use Rattle.std.proofs.lemmas.List.{get_or-take, length-set, length-take, get_or-set_other, get_or-set_same, get_or-drop}
-use Rattle.ip_defragmenter.specs.Checksum.{checksum_of, word_of}
+use Rattle.ip_defragmenter.specs.Checksum.{checksum_of}
 use Rattle.ip_base.specs.Ipv4Header.{version, ipv4_header_len, total_len}
 use Rattle.ip_base.specs.BaseHeaderFields.{ipv4_checksum}
 use Rattle.ip_base.specs.Ipv6Header.{payload_length}
 use Rattle.std.specs.Int.{from_be_bytes, w16}
 use Rattle.ip_defragmenter.specs.Whole.{with_word, unchecked, ipv4_whole, ipv6_whole, whole_headers}
-use Rattle.ip_defragmenter.specs.Sent.{IsSentIpv4, IsSentIpv6, ipv4_base, ipv4_first, ipv6_first}
+use Rattle.ip_defragmenter.specs.Sent.{IsSentIpv4, IsSentIpv6, ipv4_first, ipv6_first}
 
 pub word_len : (b : List ℕ) (i n : ℕ) → length (with_word b i n) ≡ length b
 word_len b i n = length-set (slice_set b i (n / 256)) (i + 1) (n % 256) ∙ length-set b i (n / 256)

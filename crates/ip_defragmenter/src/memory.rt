@@ -8,6 +8,9 @@ use ip_defrag::{Progress, ReassemblyState};
 /// How long the headers of a first fragment can be, in bytes.
 const HEAD: usize = 4096;
 
+/// How long they can be beside the payload.
+const SHORT_HEAD: usize = 64;
+
 /// How long a payload can be, in bytes; one byte more than the longest one.
 const PAYLOAD: usize = 65536;
 
@@ -18,6 +21,9 @@ const PAYLOAD: usize = 65536;
 #[repr(C)]
 #[derive(Drop)]
 pub struct PacketMemory {
+    /// What has arrived of the payload. Its last bytes, all fields up to the payload and the payload's first ones are in
+    /// one page of memory or two: a short packet needs no others.
+    state: ReassemblyState,
     /// The length in bytes of the headers of the first fragment.
     head_len: usize,
     /// The offset in its headers of the number of what follows them.
@@ -26,12 +32,12 @@ pub struct PacketMemory {
     first_here: u8,
     /// The number of what the payload starts with.
     next_header: u8,
-    /// What has arrived of the payload.
-    state: ReassemblyState,
-    /// The headers of the first fragment, at the start.
-    head: [u8; 4096],
+    /// The headers of the first fragment, at the start, if they are that short.
+    short_head: [u8; 64],
     /// The payload.
     payload: [u8; 65536],
+    /// Longer headers of the first fragment, at the start.
+    head: [u8; 4096],
 }
 
 impl PacketMemory {
@@ -39,7 +45,7 @@ impl PacketMemory {
     ghost use Rattle.ip_defrag.specs.Fragment.{Fragment, fragment_at};
     ghost use Rattle.ip_defrag.specs.Split.{IsSplit, are_among};
     ghost use Rattle.ip_defragmenter.specs.Whole.{whole_packet, whole_fault};
-    ghost use Rattle.ip_defragmenter.specs.Memory.{WasStored, HoldsReceived, FirstParts, first_in, first_of, first_after, is_too_long, piece_of, stored_outcome, stored_after, payload_in};
+    ghost use Rattle.ip_defragmenter.specs.Memory.{WasStored, HoldsReceived, FirstParts, headers_in, first_in, first_of, first_after, is_too_long, piece_of, stored_outcome, stored_after, payload_in};
     ghost use Rattle.ip_defragmenter.specs.FragmentOf.{parts_of};
     ghost use Rattle.ip_defrag.specs.Received.{Received};
     ghost use Rattle.std.specs.Result.{result_err, is_ok};
@@ -50,13 +56,14 @@ impl PacketMemory {
         ensures first { first_in result ≡ None }
     {
         PacketMemory {
+            state: ReassemblyState::new(true),
             head_len: 0,
             link: 0,
             first_here: 0,
             next_header: 0,
-            state: ReassemblyState::new(true),
-            head: [0; HEAD],
+            short_head: [0; SHORT_HEAD],
             payload: [0; PAYLOAD],
+            head: [0; HEAD],
         }
     }
 
@@ -143,6 +150,36 @@ impl PacketMemory {
         self.first_here != 0 && self.head_len <= self.head.len()
     }
 
+    /// Keeps headers in the first array that has room for them.
+    #[inline(always)]
+    fn keep_headers(&mut self, headers: &[u8])
+        requires { length headers.now ≤ length self.old.head }
+        ensures headers { headers_in self.new.head_len self.new.short_head self.new.head ≡ headers.now }
+        ensures within { self.new.head_len ≤ length self.new.head }
+        ensures state { self.new.state ≡ self.old.state }
+        ensures payload { self.new.payload ≡ self.old.payload }
+    {
+        self.head_len = headers.len();
+        if headers.len() <= SHORT_HEAD {
+            put_front(&mut self.short_head, headers);
+        } else {
+            put_front(&mut self.head, headers);
+        }
+    }
+
+    /// Returns the headers of the first fragment.
+    #[inline(always)]
+    fn headers(&self) -> &[u8]
+        requires { self.now.head_len ≤ length self.now.head }
+        ensures { result.now ≡ headers_in self.now.head_len self.now.short_head self.now.head }
+    {
+        if self.head_len <= SHORT_HEAD {
+            &self.short_head[..self.head_len]
+        } else {
+            &self.head[..self.head_len]
+        }
+    }
+
     /// Keeps the headers of the first fragment.
     fn keep_first(&mut self, fragment: &IpFragment<'_>)
         requires { length fragment.now.headers.now ≤ length self.old.head }
@@ -150,8 +187,7 @@ impl PacketMemory {
         ensures state { self.new.state ≡ self.old.state }
         ensures payload { self.new.payload ≡ self.old.payload }
     {
-        put_front(&mut self.head, fragment.headers);
-        self.head_len = fragment.headers.len();
+        self.keep_headers(fragment.headers);
         self.first_here = 1;
         self.link = fragment.link;
         self.next_header = fragment.next_header.0;
@@ -207,7 +243,7 @@ impl PacketMemory {
         }
         match self.state.payload(&self.payload) {
             Some(payload) => {
-                let headers = &self.head[..self.head_len];
+                let headers = self.headers();
                 match write_packet(headers, self.link, IpNumber(self.next_header), payload, out) {
                     Ok(len) => Ok(Some(len)),
                     Err(error) => Err(error),

@@ -17,7 +17,7 @@ _LOSSES = {"timed_out": lib.WOLFAREN_TIMED_OUT, "displaced": lib.WOLFAREN_DISPLA
 class Defragmenter:
     """Makes IP packets whole from their fragments, which may arrive in any order, and repeated.
 
-    At most `slots` packets are incomplete at once. A slot needs memory when a packet first has it, at most 78 KB. A packet that
+    At most `slots` packets are incomplete at once. A slot needs memory when a packet first has it, at most 72 KB. A packet that
     isn't whole 60 seconds after its first fragment is given up when its next fragment arrives, or another packet needs its
     slot. Of more than 8 slots, 8 are for packets with the same hash; if all of these are in use, the oldest packet is given up.
     After an overlap or two ends, all further fragments of the packet are dropped (RFC 5722).

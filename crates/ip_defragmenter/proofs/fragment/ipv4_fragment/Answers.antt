@@ -1,4 +1,4 @@
-use Rattle.ip_spec.proofs.Common.{◌≡◌, ℕ, List, Some, None, refl, sym, ap, subst, ◌∙◌, arith, ◌++◌, bytes_of, cond-true, cond-false}
+use Rattle.ip_spec.proofs.Common.{◌≡◌, ℕ, List, Some, None, refl, sym, ap, subst, ◌∙◌, arith, ◌++◌, bytes_of, cond-true}
 use Rattle.ip_base.specs.Ipv4Header.{is_ipv4_fragmenting, protocol, ipv4_source_octets, ipv4_destination_octets, ipv4_fragment_offset, ipv4_more_fragments}
 use Rattle.ip_base.specs.BaseHeaderFields.{ipv4_identification}
 use Rattle.ip_base.specs.declared.ip_number_impl.IpNumber.{IpNumber}

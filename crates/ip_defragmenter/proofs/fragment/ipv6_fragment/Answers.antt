@@ -1,15 +1,13 @@
-use Rattle.ip_spec.proofs.Common.{◌≡◌, ℕ, ◌+◌, List, Some, sym, ap, subst, ◌∙◌, arith, length, rules, bytes_of, find, option_map}
+use Rattle.ip_spec.proofs.Common.{◌≡◌, ℕ, ◌+◌, List, Some, sym, ap, subst, ◌∙◌, arith, rules, option_map}
 use Rattle.ip_base.specs.Ipv6Header.{ipv6_source_octets, ipv6_destination_octets}
 use Rattle.ip_base.specs.Ipv6HeaderSlice as ipv6_header
-use Rattle.ip_dissect.specs.Fragment.{fragments}
 use Rattle.ip_dissect.specs.Dissection.{dissected}
 use Rattle.ip_dissect.specs.Outline.{IsBaseOf}
-use Rattle.ip_defragmenter.specs.Split.{before_fragment}
 use Rattle.ip_defragmenter.specs.FragmentOf.{ipv6_parts_by}
 use Rattle.ip_defragmenter.specs.declared.key.FragmentKey.TheVariants as key
 use Rattle.ip_defragmenter.specs.declared.finder.FoundHeader.{FoundHeader}
 use Rattle.ip_defragmenter.specs.declared.finder.Finder.{Finder}
-use Rattle.ip_defragmenter.proofs.FragmentLemmas.{fragment_lies, ipv6_headers, ipv6_bytes, same_parts, none_is}
+use Rattle.ip_defragmenter.proofs.FragmentLemmas.{fragment_lies, ipv6_headers, ipv6_bytes, same_parts}
 use Rattle.ip_defragmenter.proofs.fragment.ipv6_fragment.Goals as goal
 
 same_key : (a b c d : List ℕ) (i j : ℕ) → a ≡ b → c ≡ d → i ≡ j → key.Ipv6 a c i ≡ key.Ipv6 b d j

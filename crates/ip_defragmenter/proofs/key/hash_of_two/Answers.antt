@@ -1,4 +1,4 @@
-use Rattle.std.proofs.Common.{◌≡◌, ℕ, ◌*◌, ◌+◌, ◌%◌, ap, ◌∙◌}
+use Rattle.std.proofs.Common.{ℕ, ◌*◌, ◌+◌, ◌%◌, ap, ◌∙◌}
 use Rattle.ip_defragmenter.proofs.HashLemmas.{two_steps}
 use Rattle.ip_defragmenter.proofs.key.hash_of_two.Goals as goal
 

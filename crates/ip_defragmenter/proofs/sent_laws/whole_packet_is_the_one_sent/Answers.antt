@@ -1,4 +1,4 @@
-use Rattle.std.proofs.Common.{◌≡◌, ap, ◌∙◌, ◌++◌, drop, ◌-◌, sym}
+use Rattle.std.proofs.Common.{ap, ◌∙◌, ◌++◌, drop}
 use Rattle.std.specs.Prelude.{slice_index}
 use Rattle.std.proofs.lemmas.List.{take-append-drop, length-drop}
 use Rattle.ip_base.specs.Ipv4Header.{ipv4_header_len}

@@ -1,4 +1,4 @@
-use Rattle.ip_spec.proofs.Common.{◌≡◌, true, sym, ◌∙◌, ap, subst, is_some}
+use Rattle.ip_spec.proofs.Common.{◌≡◌, sym, ◌∙◌, ap, subst, is_some}
 use Rattle.ip_base.specs.Ipv4Header.{is_ipv4_fragmenting}
 use Rattle.ip_base.specs.Ipv4HeaderSlice as ipv4_header
 use Rattle.ip_dissect.specs.Dissection.{dissected}

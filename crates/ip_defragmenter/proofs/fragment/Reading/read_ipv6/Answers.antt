@@ -1,4 +1,4 @@
-use Rattle.ip_spec.proofs.Common.{◌≡◌, ◌+◌, sym, ◌∙◌, ap, length, is_some, bytes_of, find}
+use Rattle.ip_spec.proofs.Common.{◌+◌, sym, ◌∙◌, ap, length, is_some, bytes_of, find}
 use Rattle.ip_dissect.specs.Fragment.{fragments}
 use Rattle.ip_dissect.specs.Dissection.{dissected}
 use Rattle.ip_defragmenter.specs.Split.{before_fragment}

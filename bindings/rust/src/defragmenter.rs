@@ -146,7 +146,7 @@ impl Defragmenter {
     /// Returns a defragmenter for at most this many incomplete packets at once. `factor` should be a random number that
     /// senders don't know.
     ///
-    /// It allocates 78 KB for each slot as zeros, of which a system with virtual memory uses only the pages that packets need.
+    /// It allocates 72 KB for each slot as zeros, of which a system with virtual memory uses only the pages that packets need.
     #[must_use]
     pub fn new(slots: usize, factor: u32) -> Defragmenter {
         Defragmenter {

@@ -31,12 +31,12 @@ abbrev pub first_of : FragmentParts → FirstParts
 first_of f = record { headers = f.headers; link = f.link; number = f.number }
 
 -- n bytes of headers, of which at most 64 have an array of their own
-unfoldable pub headers_in : ℕ → List ℕ → List ℕ → List ℕ
-headers_in n short long = if nat_le n 64 then take n short else take n long
+unfoldable pub kept_headers : ℕ → List ℕ → List ℕ → List ℕ
+kept_headers n short long = if nat_le n 64 then take n short else take n long
 
 -- that of the first fragment in the memory
 abbrev pub first_in : PacketMemory → Option FirstParts
-first_in m = if is_set m.first_here && nat_le m.head_len (length m.head) then Some (record { headers = headers_in m.head_len m.short_head m.head; link = m.link; number = m.next_header }) else None
+first_in m = if is_set m.first_here && nat_le m.head_len (length m.head) then Some (record { headers = kept_headers m.head_len m.short_head m.head; link = m.link; number = m.next_header }) else None
 
 -- the fragment of the payload that a packet is
 abbrev pub piece_of : FragmentParts → Fragment

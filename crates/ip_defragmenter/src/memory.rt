@@ -45,7 +45,7 @@ impl PacketMemory {
     ghost use Rattle.ip_defrag.specs.Fragment.{Fragment, fragment_at};
     ghost use Rattle.ip_defrag.specs.Split.{IsSplit, are_among};
     ghost use Rattle.ip_defragmenter.specs.Whole.{whole_packet, whole_fault};
-    ghost use Rattle.ip_defragmenter.specs.Memory.{WasStored, HoldsReceived, FirstParts, headers_in, first_in, first_of, first_after, is_too_long, piece_of, stored_outcome, stored_after, payload_in};
+    ghost use Rattle.ip_defragmenter.specs.Memory.{WasStored, HoldsReceived, FirstParts, kept_headers, first_in, first_of, first_after, is_too_long, piece_of, stored_outcome, stored_after, payload_in};
     ghost use Rattle.ip_defragmenter.specs.FragmentOf.{parts_of};
     ghost use Rattle.ip_defrag.specs.Received.{Received};
     ghost use Rattle.std.specs.Result.{result_err, is_ok};
@@ -154,7 +154,7 @@ impl PacketMemory {
     #[inline(always)]
     fn keep_headers(&mut self, headers: &[u8])
         requires { length headers.now ≤ length self.old.head }
-        ensures headers { headers_in self.new.head_len self.new.short_head self.new.head ≡ headers.now }
+        ensures headers { kept_headers self.new.head_len self.new.short_head self.new.head ≡ headers.now }
         ensures within { self.new.head_len ≤ length self.new.head }
         ensures state { self.new.state ≡ self.old.state }
         ensures payload { self.new.payload ≡ self.old.payload }
@@ -171,7 +171,7 @@ impl PacketMemory {
     #[inline(always)]
     fn headers(&self) -> &[u8]
         requires { self.now.head_len ≤ length self.now.head }
-        ensures { result.now ≡ headers_in self.now.head_len self.now.short_head self.now.head }
+        ensures { result.now ≡ kept_headers self.now.head_len self.now.short_head self.now.head }
     {
         if self.head_len <= SHORT_HEAD {
             &self.short_head[..self.head_len]

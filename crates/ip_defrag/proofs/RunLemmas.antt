@@ -1,6 +1,6 @@
 -- Runs of fragments that arrived in order.
-use Rattle.ip_defrag.proofs.Common.{◌≡◌, ℕ, suc, ◌+◌, ◌-◌, ◌*◌, ◌%◌, ◌≤◌, ◌<◌, Bool, true, false, cond, leb, ltb, eqb, ◌&&◌, List, refl, sym, ap, ◌∙◌, inl, inr, arith, cases_lt, cases_eq, cond-true, cond-false, and_left, and_right, and_from, le-leb, lt-leb, lt-ltb, le-ltb, eq-eqb, ne_eqb, first_mark, mark_of, run_end, run_mark, mark_by, IsLonger}
-use Rattle.std.proofs.Math.Nat.{mul-add-mod_self_left, mod-eq_of_lt, mul-suc}
+use Rattle.ip_defrag.proofs.Common.{◌≡◌, ℕ, suc, ◌+◌, ◌-◌, ◌*◌, ◌/◌, ◌%◌, ◌≤◌, ◌<◌, Bool, true, false, cond, leb, ltb, eqb, ◌&&◌, List, refl, sym, ap, ◌∙◌, inl, inr, arith, cases_lt, cases_eq, cond-true, cond-false, and_left, and_right, and_from, le-leb, lt-leb, lt-ltb, le-ltb, eq-eqb, ne_eqb, first_mark, mark_of, run_end, run_mark, mark_by, IsLonger}
+use Rattle.std.proofs.Math.Nat.{mul-add-mod_self_left, mod-eq_of_lt, mod-add-div, mod-lt, mul-suc}
 use Rattle.ip_defrag.specs.declared.run.Run.{Run}
 
 -- The mark of a unit in a run, and after it.
@@ -112,3 +112,40 @@ marked_after r marks new first end a i free is =
 
 pub still_unused : (r : Run) (marks new : List ℕ) (first end a i : ℕ) → ((j : ℕ) → first ≤ j → j < end → mark_by r marks j ≡ 0) → ((j : ℕ) → j < run_end r → mark_of marks j ≡ 0) → mark_of new i ≡ cond (leb first i && ltb i end) (cond (eqb i first) a 3) (mark_of marks i) → i < run_end r → mark_of new i ≡ 0
 still_unused r marks new first end a i free unused is below = is ∙ (cond-false (leb first i && ltb i end) (cond (eqb i first) a 3) (mark_of marks i) (outside r marks first end i free below) ∙ unused i below)
+
+-- The place of a unit in its fragment, by that of a unit before it.
+place_after : (u first i : ℕ) → first ≤ i → first % u + (i - first) < u → i % u ≡ first % u + (i - first)
+place_after u first i from fits =
+    ap (λ (n : ℕ). n % u) (let k : i ≡ u * (first / u) + (first % u + (i - first)) = omega (arith, mod-add-div first u, from) in k)
+    ∙ (mul-add-mod_self_left u (first / u) (first % u + (i - first)) ∙ mod-eq_of_lt fits)
+
+-- No fragment of a run starts at these units.
+pub later_in_run : (r : Run) (first end i : ℕ) → 0 < first % r.units → first % r.units + (end - first) ≤ r.units → first ≤ i → i < end → run_mark r i ≡ 3
+later_in_run r first end i pos fits from below =
+    let at : i % r.units ≡ first % r.units + (i - first) = place_after r.units first i from (omega (arith, fits, from, below)) in
+    cond-false (eqb (i % r.units) 0) 1 3 (ne_eqb (i % r.units) 0 (λ z. omega (arith, z, at, pos)))
+
+-- A unit at which a fragment starts is no later one.
+pub no_start : (r : Run) (i : ℕ) → run_mark r i ≡ 3 → i % r.units ≡ 0 → ⊥
+no_start r i later start = let m : run_mark r i ≡ 1 = cond-true (eqb (i % r.units) 0) 1 3 (eq-eqb (i % r.units) 0 start) in omega (arith, later, m)
+
+next_start : (u first : ℕ) → 0 < u → (first + (u - first % u)) % u ≡ 0
+next_start u first pos =
+    ap (λ (n : ℕ). n % u) (let k : first + (u - first % u) ≡ u * suc (first / u) + 0 = omega (arith, mod-add-div first u, mod-lt first pos, mul-suc u (first / u)) in k)
+    ∙ (mul-add-mod_self_left u (suc (first / u)) 0 ∙ mod-eq_of_lt pos)
+
+-- Later units end before the next fragment starts.
+pub later_fit : (r : Run) (first end : ℕ) → 0 < r.units → ((i : ℕ) → first ≤ i → i < end → run_mark r i ≡ 3) → first % r.units + (end - first) ≤ r.units
+later_fit r first end pos later = elim (cases_lt r.units (first % r.units + (end - first))) [
+  | inr fits ↦ fits
+  | inl more ↦
+      let next : ℕ = first + (r.units - first % r.units) in
+      absurd (no_start r next (later next (omega arith) (omega (arith, more, mod-lt first pos))) (next_start r.units first pos))
+]
+
+-- A run with units has some in each fragment.
+pub some_units : (r : Run) (i : ℕ) → i < run_end r → 0 < r.units
+some_units r i less = elim (cases_eq r.units 0) [
+  | inl none ↦ absurd (let e : r.units * r.count ≡ 0 * r.count = ap (λ (n : ℕ). n * r.count) none in let h : ⊥ = omega (arith, e, less) in h)
+  | inr some ↦ omega (arith, some)
+]

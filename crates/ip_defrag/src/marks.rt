@@ -3,7 +3,7 @@ ghost use Rattle.std.specs.Prelude.{◌≡◌, ◌≢◌, ℕ, ◌+◌, ◌-◌,
 ghost use Rattle.std.specs.List.{fold};
 ghost use Rattle.ip_defrag.specs.Reassembly.{first_mark};
 ghost use Rattle.ip_defrag.specs.Marks.{byte_mark, mark_of};
-ghost use Rattle.ip_defrag.specs.Run.{run_end, mark_by};
+ghost use Rattle.ip_defrag.specs.Run.{run_end, run_mark, mark_by};
 
 use crate::run::Run;
 
@@ -121,17 +121,45 @@ pub(crate) fn are_free_by(run: Run, marks: &[u8], first: usize, end: usize) -> b
     are_free(marks, first, end)
 }
 
-/// Returns whether these units are later units of a fragment.
-fn are_later(run: Run, marks: &[u8], first: usize, end: usize) -> bool
+/// Returns whether these units of a run are later units of a fragment: no fragment starts at one of them.
+#[inline(always)]
+fn are_later_in_run(run: Run, first: usize, end: usize) -> bool
+    requires ordered { first < end }
+    requires within { end ≤ run_end run }
+    ensures { IsTrue result ↔ ((i : ℕ) → first ≤ i → i < end → run_mark run i ≡ 3) }
+{
+    let units = usize::from(run.units);
+    let place = first % units;
+    if place == 0 {
+        return false;
+    }
+    place + (end - first) <= units
+}
+
+/// Returns whether units are marked as later units of a fragment.
+fn are_later_marks(marks: &[u8], first: usize, end: usize) -> bool
     requires ordered { first ≤ end }
-    ensures { IsTrue result ↔ ((i : ℕ) → first ≤ i → i < end → mark_by run marks.now i ≡ 3) }
+    ensures { IsTrue result ↔ ((i : ℕ) → first ≤ i → i < end → mark_of marks.now i ≡ 3) }
 {
     'units: for unit in first..end {
-        if mark_by(run, marks, unit) != LATER {
+        if mark_of(marks, unit) != LATER {
             return false;
         }
     }
     true
+}
+
+/// Returns whether these units are later units of a fragment. Those in a run are not looked at one by one.
+#[inline(always)]
+fn are_later(run: Run, marks: &[u8], first: usize, end: usize) -> bool
+    requires ordered { first ≤ end }
+    ensures { IsTrue result ↔ ((i : ℕ) → first ≤ i → i < end → mark_by run marks.now i ≡ 3) }
+{
+    let middle = run.end().max(first).min(end);
+    if first < middle && !are_later_in_run(run, first, middle) {
+        return false;
+    }
+    are_later_marks(marks, middle, end)
 }
 
 /// Returns whether these units are those of one fragment.

@@ -1,10 +1,10 @@
 -- Marks of two bits, four in a byte.
-use Rattle.ip_defrag.proofs.Common.{◌≡◌, ℕ, zero, suc, ◌+◌, ◌-◌, ◌*◌, ◌/◌, ◌%◌, ◌≤◌, ◌<◌, max, min, Bool, true, false, cond, leb, ltb, eqb, ◌&&◌, List, set, length, get_or, refl, sym, ap, ◌∙◌, subst, inl, inr, arith, cases_lt, cases_eq, cases_Bool, cond-true, cond-false, and_left, and_right, and_from, le-leb, lt-leb, lt-ltb, le-ltb, eq-eqb, ne_eqb, first_mark, byte_mark, mark_of}
+use Rattle.ip_defrag.proofs.Common.{◌≡◌, ℕ, zero, suc, ◌+◌, ◌-◌, ◌*◌, ◌/◌, ◌%◌, ◌≤◌, ◌<◌, min, Bool, true, false, cond, leb, ltb, eqb, ◌&&◌, List, set, length, get_or, refl, sym, ap, ◌∙◌, subst, inl, inr, arith, cases_lt, cases_eq, cond-true, cond-false, and_left, and_right, and_from, le-leb, lt-leb, lt-ltb, le-ltb, eq-eqb, ne_eqb, first_mark, byte_mark, mark_of}
 use Rattle.std.specs.Int.{bit_at, bit_not, w8}
 use mir.Val.{bool_byte}
 use Rattle.std.specs.Int.Bits.{bit_and}
 use Rattle.std.specs.Int.RustNames.{bit_or}
-use Rattle.std.specs.Prelude.{◌^◌, slice_range, All}
+use Rattle.std.specs.Prelude.{◌^◌}
 use Rattle.std.proofs.Math.Pow.{pow_mono}
 use Rattle.std.proofs.Math.Nat.{pow-suc, div-div-eq-div-mul, zero-div}
 use Rattle.std.proofs.lemmas.List.{get_or-set_same, get_or-set_other}
@@ -243,4 +243,17 @@ bytes_free marks first end j byte none low high =
     let first_one : b / 4 % 4 ≡ 0 = unit_at marks j 1 (omega arith) ∙ none (4 * j + 1) (omega (arith, low)) (omega (arith, high)) in
     let second : b / 16 % 4 ≡ 0 = unit_at marks j 2 (omega arith) ∙ none (4 * j + 2) (omega (arith, low)) (omega (arith, high)) in
     let third : b / 64 % 4 ≡ 0 = unit_at marks j 3 (omega arith) ∙ none (4 * j + 3) (omega (arith, low)) (omega (arith, high)) in
+    omega (arith, byte, zeroth, first_one, second, third)
+
+-- Four units are later ones exactly if their byte is 255.
+pub later_bytes : (marks : List ℕ) (first end : ℕ) → ((j : ℕ) → first ≤ j → j < end → get_or marks j 0 ≡ 255) → (i : ℕ) → 4 * first ≤ i → i < 4 * end → mark_of marks i ≡ 3
+later_bytes marks first end all i low high = ap (λ (n : ℕ). byte_mark n (i % 4)) (all (i / 4) (omega (arith, low)) (omega (arith, high))) ∙ later_byte (i % 4) (omega arith)
+
+pub bytes_later : (marks : List ℕ) (first end j : ℕ) → get_or marks j 0 < 256 → ((i : ℕ) → 4 * first ≤ i → i < 4 * end → mark_of marks i ≡ 3) → first ≤ j → j < end → get_or marks j 0 ≡ 255
+bytes_later marks first end j byte later low high =
+    let b = get_or marks j 0 in
+    let zeroth : b % 4 ≡ 3 = (let e : b % 4 ≡ byte_mark b 0 = omega (arith) in e) ∙ (unit_at marks j 0 (omega arith) ∙ later (4 * j + 0) (omega (arith, low)) (omega (arith, high))) in
+    let first_one : b / 4 % 4 ≡ 3 = unit_at marks j 1 (omega arith) ∙ later (4 * j + 1) (omega (arith, low)) (omega (arith, high)) in
+    let second : b / 16 % 4 ≡ 3 = unit_at marks j 2 (omega arith) ∙ later (4 * j + 2) (omega (arith, low)) (omega (arith, high)) in
+    let third : b / 64 % 4 ≡ 3 = unit_at marks j 3 (omega arith) ∙ later (4 * j + 3) (omega (arith, low)) (omega (arith, high)) in
     omega (arith, byte, zeroth, first_one, second, third)

@@ -1,5 +1,5 @@
 -- Runs of fragments that arrived in order.
-use Rattle.ip_defrag.proofs.Common.{◌≡◌, ℕ, suc, ◌+◌, ◌-◌, ◌*◌, ◌/◌, ◌%◌, ◌≤◌, ◌<◌, Bool, true, false, cond, leb, ltb, eqb, ◌&&◌, List, refl, sym, ap, ◌∙◌, inl, inr, arith, cases_lt, cases_eq, cond-true, cond-false, and_left, and_right, and_from, le-leb, lt-leb, lt-ltb, le-ltb, eq-eqb, ne_eqb, first_mark, mark_of, run_end, run_mark, mark_by, IsLonger}
+use Rattle.ip_defrag.proofs.Common.{◌≡◌, ℕ, suc, ◌+◌, ◌-◌, ◌*◌, ◌/◌, ◌%◌, ◌≤◌, ◌<◌, Bool, false, cond, leb, ltb, eqb, ◌&&◌, List, sym, ap, ◌∙◌, inl, inr, arith, cases_lt, cases_eq, cond-true, cond-false, and_left, and_right, and_from, le-leb, lt-leb, lt-ltb, le-ltb, eq-eqb, ne_eqb, mark_of, run_end, run_mark, mark_by, IsLonger}
 use Rattle.std.proofs.Math.Nat.{mul-add-mod_self_left, mod-eq_of_lt, mod-add-div, mod-lt, mul-suc}
 use Rattle.ip_defrag.specs.declared.run.Run.{Run}
 

@@ -136,8 +136,9 @@ fn are_later_in_run(run: Run, first: usize, end: usize) -> bool
     place + (end - first) <= units
 }
 
-/// Returns whether units are marked as later units of a fragment.
-fn are_later_marks(marks: &[u8], first: usize, end: usize) -> bool
+/// Returns whether units are marked as later units of a fragment, one by one.
+#[inline(always)]
+fn are_later_units(marks: &[u8], first: usize, end: usize) -> bool
     requires ordered { first ≤ end }
     ensures { IsTrue result ↔ ((i : ℕ) → first ≤ i → i < end → mark_of marks.now i ≡ 3) }
 {
@@ -149,10 +150,49 @@ fn are_later_marks(marks: &[u8], first: usize, end: usize) -> bool
     true
 }
 
+/// Returns whether all units of these bytes are marked as later units of a fragment.
+#[inline(always)]
+fn are_all_later(bytes: &[u8]) -> bool
+    ensures { IsTrue result ↔ All (λ byte. byte ≡ 255) bytes.now }
+{
+    bytes.iter().all(|byte| *byte == FOUR_LATER)
+}
+
+/// Returns whether the units of whole bytes are marked as later units of a fragment.
+#[inline(always)]
+fn are_later_bytes(marks: &[u8], first: usize, end: usize) -> bool
+    requires ordered { first ≤ end }
+    requires within { end ≤ length marks.now }
+    ensures { IsTrue result ↔ ((i : ℕ) → 4 * first ≤ i → i < 4 * end → mark_of marks.now i ≡ 3) }
+{
+    are_all_later(&marks[first..end])
+}
+
+/// Returns whether units are marked as later units of a fragment. Four of them are tested at once.
+fn are_later_marks(marks: &[u8], first: usize, end: usize) -> bool
+    requires ordered { first ≤ end }
+    requires within { end ≤ 4 * length marks.now }
+    ensures { IsTrue result ↔ ((i : ℕ) → first ≤ i → i < end → mark_of marks.now i ≡ 3) }
+{
+    let start = first.div_ceil(4);
+    let last = end / 4;
+    if start >= last {
+        return are_later_units(marks, first, end);
+    }
+    if !are_later_units(marks, first, 4 * start) {
+        return false;
+    }
+    if !are_later_bytes(marks, start, last) {
+        return false;
+    }
+    are_later_units(marks, 4 * last, end)
+}
+
 /// Returns whether these units are later units of a fragment. Those in a run are not looked at one by one.
 #[inline(always)]
 fn are_later(run: Run, marks: &[u8], first: usize, end: usize) -> bool
     requires ordered { first ≤ end }
+    requires within { end ≤ 4 * length marks.now }
     ensures { IsTrue result ↔ ((i : ℕ) → first ≤ i → i < end → mark_by run marks.now i ≡ 3) }
 {
     let middle = run.end().max(first).min(end);
@@ -165,7 +205,8 @@ fn are_later(run: Run, marks: &[u8], first: usize, end: usize) -> bool
 /// Returns whether these units are those of one fragment.
 #[inline(always)]
 pub(crate) fn is_fragment(run: Run, marks: &[u8], first: usize, end: usize, first_mark: u8) -> bool
-    requires { first < end }
+    requires some { first < end }
+    requires within { end ≤ 4 * length marks.now }
     ensures { IsTrue result ↔ (mark_by run marks.now first ≡ first_mark)
         × ((i : ℕ) → first + 1 ≤ i → i < end → mark_by run marks.now i ≡ 3)
         × (mark_by run marks.now end ≢ 3) }

@@ -1,4 +1,4 @@
-use Rattle.ip_defrag.proofs.Common.{ℕ, Bool, ◌∙◌, ap, sym, leb, ltb, eqb, ◌&&◌, cond, first_mark, mark_by}
+use Rattle.ip_defrag.proofs.Common.{Bool, ◌∙◌, ap, sym, leb, ltb, eqb, ◌&&◌, cond, first_mark, mark_by}
 use Rattle.ip_defrag.proofs.RunLemmas.{longer_marks, longer_unused, marked_after, still_unused}
 use Rattle.ip_defrag.proofs.marks.mark_by_run.Goals as goal
 

@@ -1,4 +1,4 @@
-use Rattle.ip_defrag.proofs.Common.{refl, arith, ap}
+use Rattle.ip_defrag.proofs.Common.{refl, ap}
 use Rattle.ip_defrag.specs.Reassembly.{fields_of, is_set}
 use Rattle.ip_defrag.proofs.Common.{not}
 use Rattle.ip_defrag.proofs.ReceivedLemmas.{received_cleared}

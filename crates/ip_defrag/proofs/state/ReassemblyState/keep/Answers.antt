@@ -1,4 +1,4 @@
-use Rattle.ip_defrag.proofs.Common.{ℕ, arith, refl, sym, ◌∙◌, ◌≤◌, ◌<◌, ◌≡◌, mark_by}
+use Rattle.ip_defrag.proofs.Common.{arith, refl}
 use Rattle.ip_defrag.specs.Reassembly.{fields_of}
 use Rattle.ip_defrag.proofs.ReceivedLemmas.{kept, free_by}
 use Rattle.ip_defrag.proofs.state.ReassemblyState.keep.Goals as goal

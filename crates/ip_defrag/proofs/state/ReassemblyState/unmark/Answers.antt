@@ -1,4 +1,4 @@
-use Rattle.ip_defrag.proofs.Common.{ℕ, ◌∙◌, ap, min, arith, ◌/◌, run_end}
+use Rattle.ip_defrag.proofs.Common.{ℕ, ◌∙◌, ap, min, arith, ◌/◌}
 use Rattle.ip_defrag.specs.Reassembly.{fields_of}
 use Rattle.ip_defrag.proofs.ReceivedLemmas.{run_alone, removed}
 use Rattle.ip_defrag.proofs.state.ReassemblyState.unmark.Goals as goal

@@ -11,10 +11,7 @@ use Rattle.ip_dissect.specs.End.{has_error}
 use Rattle.ip_dissect.specs.declared.end.End.{End}
 use Rattle.ip_dissect.specs.declared.end.End.TheVariants as end
 use Rattle.ip_filter.specs.Truth.{is_version, is_first_kind, is_later_kind, says_fragment, is_truncated, fault_in, kind_index}
-use Rattle.ip_filter.specs.Flags.{known_flag, header_flag, flag, any_flag, AreKnown, AreFlags}
-use Rattle.ip_filter.specs.Tests.{meets}
-use Rattle.ip_filter.specs.declared.filter.Test.{Test}
-use Rattle.ip_filter.specs.declared.flags.Flags.{Flags}
+use Rattle.ip_filter.specs.Flags.{known_flag, header_flag, flag, any_flag}
 use Rattle.ip_filter.specs.declared.term.FaultKind.{FaultKind}
 use Rattle.ip_filter.specs.declared.term.FaultKind.TheVariants as kind
 use Rattle.ip_filter.proofs.FactsLemmas.{one_bit, bit_same, bit_other, any_more}
@@ -160,7 +157,3 @@ module _ (p : DissectedParts) (w m : ℕ) (known : (n : ℕ) → n < 64 → (bit
 -- a version that is not 0
 pub of_version : (v k : ℕ) (p : DissectedParts) → v ≡ p.version → 0 < k → (v == k) ≡ is_version k p
 of_version v k p same some = rw same (grind (arith, common_steps, eqb_tells, some))
-
--- A packet without an error meets a test of flags if it has one of them.
-pub met_by_flags : (x : Test) (p : DissectedParts) (flags : Flags) (has_one : Bool) → x.kind ≡ 1 → AreKnown p flags → has_error p.end ≡ false → ((p : DissectedParts) → AreFlags x.number p flags → has_one ≡ any_flag 64 x.number p) → meets x p ≡ has_one
-met_by_flags x p flags has_one kind known none is = rw kind (sym (is p (without_error p flags.bits x.number known none)))

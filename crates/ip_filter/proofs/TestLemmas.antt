@@ -6,7 +6,7 @@ use Rattle.ip_filter.specs.declared.term.Quantity.{Quantity}
 use Rattle.ip_filter.specs.declared.term.Ports.{Ports}
 use Rattle.ip_filter.specs.declared.filter.Test.{Test}
 use Rattle.ip_filter.specs.HeaderFields.{has_segments_left}
-use Rattle.ip_filter.specs.Transport.{source_port, destination_port, are_ports_with, icmp_byte}
+use Rattle.ip_filter.specs.Transport.{source_port, destination_port, is_port_in, icmp_byte}
 use Rattle.ip_filter.specs.Truth.{compares, is_in_layer, some_fragment, quantity_of}
 use Rattle.ip_filter.specs.Flags.{any_flag}
 use Rattle.ip_filter.specs.Tests.{meets, compared, comparison_in}
@@ -20,7 +20,7 @@ pub by_layer : (x : Test) (m l : ℕ) (p : DissectedParts) → x.kind ≡ 26 →
 by_layer x m l p kind number low = rw (kind, number, low) refl
 
 -- a test of either port
-pub by_port : (x : Test) (r : Ports) (p : DissectedParts) → x.kind ≡ 18 → x.number ≡ r.first → x.address_low ≡ r.last → meets x p ≡ (option_map_or (are_ports_with r) (source_port p) false || option_map_or (are_ports_with r) (destination_port p) false)
+pub by_port : (x : Test) (r : Ports) (p : DissectedParts) → x.kind ≡ 18 → x.number ≡ r.first → x.address_low ≡ r.last → meets x p ≡ (option_map_or (is_port_in r) (source_port p) false || option_map_or (is_port_in r) (destination_port p) false)
 by_port x r p kind first last = rw (kind, first, last) refl
 
 -- a test of the type of ICMP, and of its code

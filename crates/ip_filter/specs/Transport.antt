@@ -37,8 +37,8 @@ destination_port p = port_at 2 p
 abbrev pub lacks_ports : DissectedParts → Bool
 lacks_ports p = has_ports p.number && is_at_payload p.end && nat_lt (length p.payload) 4
 
-abbrev pub are_ports_with : Ports → ℕ → Bool
-are_ports_with r n = nat_le r.first n && nat_le n r.last
+abbrev pub is_port_in : Ports → ℕ → Bool
+is_port_in r n = nat_le r.first n && nat_le n r.last
 
 -- ICMP (RFC 792) and ICMPv6 (RFC 4443, section 2.1): messages begin with their type and code, of 8 bits each
 abbrev pub is_icmp : ℕ → Bool

@@ -23,7 +23,7 @@ use Rattle.ip_dissect.specs.declared.end.End.TheVariants as end
 use Rattle.ip_base.specs.BaseHeaderFields.{ipv4_ttl, ipv4_dscp, ipv4_ecn, ipv6_hop_limit, ipv6_traffic_class, ipv6_flow_label}
 use Rattle.ip_filter.specs.Network.{ipv4_lies_in, ipv6_lies_in}
 use Rattle.ip_filter.specs.HeaderFields.{has_option, has_spi, has_routing_type, has_segments_left}
-use Rattle.ip_filter.specs.Transport.{source_port, destination_port, lacks_ports, icmp_byte, tcp_flags, are_ports_with, are_set}
+use Rattle.ip_filter.specs.Transport.{source_port, destination_port, lacks_ports, icmp_byte, tcp_flags, is_port_in, are_set}
 use Rattle.ip_filter.specs.declared.network.Network.{Network}
 use Rattle.ip_filter.specs.declared.term.Comparison.{Comparison}
 use Rattle.ip_filter.specs.declared.term.Comparison.TheVariants as by
@@ -153,9 +153,9 @@ holds (term.Identification i) p = some_fragment (λ x. x.identification == i) p
 holds (term.Source n) p = has_source n p
 holds (term.Destination n) p = has_destination n p
 holds (term.Either n) p = has_source n p || has_destination n p
-holds (term.SourcePort r) p = option_map_or (are_ports_with r) (source_port p) false
-holds (term.DestinationPort r) p = option_map_or (are_ports_with r) (destination_port p) false
-holds (term.Port r) p = option_map_or (are_ports_with r) (source_port p) false || option_map_or (are_ports_with r) (destination_port p) false
+holds (term.SourcePort r) p = option_map_or (is_port_in r) (source_port p) false
+holds (term.DestinationPort r) p = option_map_or (is_port_in r) (destination_port p) false
+holds (term.Port r) p = option_map_or (is_port_in r) (source_port p) false || option_map_or (is_port_in r) (destination_port p) false
 holds term.NoTransport p = lacks_ports p
 holds (term.IcmpType n) p = option_map_or (λ x. x == n) (icmp_byte 0 p) false
 holds (term.IcmpCode n) p = option_map_or (λ x. x == n) (icmp_byte 1 p) false

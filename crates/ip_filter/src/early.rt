@@ -3,13 +3,11 @@
 ghost use Rattle.std.specs.Prelude.{◌≡◌, ◌==◌, ◌&&◌, ◌||◌, true, false, if◌then◌else◌, IfSome};
 ghost use Rattle.std.specs.Option.{option_map_or};
 ghost use Rattle.ip_dissect.specs.Dissection.{dissected};
-ghost use Rattle.ip_dissect.specs.End.{has_error};
 ghost use Rattle.ip_filter.specs.Flags.{AreKnown};
 ghost use Rattle.ip_filter.specs.Tests.{meets, network_in};
 ghost use Rattle.ip_filter.specs.Truth.{has_base, has_source, has_destination};
 
-use crate::facts::Facts;
-use crate::flags::Flags;
+use crate::flags::{Flags, has_one_of};
 use crate::meets::kind;
 use crate::run::PASSED;
 use crate::{Network, Test};
@@ -24,29 +22,16 @@ impl Test {
         matches!(self.kind, kind::FLAGS | kind::LEADS_TO)
     }
 
-    /// Returns whether a packet without an error meets the test, which is one of flags or of the protocol number.
+    /// Returns whether a packet meets the test, which is one of flags or of the protocol number.
     #[inline(always)]
     pub(crate) fn is_met_by_numbers(&self, packet: &Packet<'_>, flags: Flags) -> bool
         requires kind { ((self.now.kind == 1) || (self.now.kind == 2)) ≡ true }
         requires flags { AreKnown (dissected packet.now.bytes.now) flags }
-        requires none { has_error (dissected packet.now.bytes.now).end ≡ false }
         ensures { result ≡ meets self.now (dissected packet.now.bytes.now) }
     {
         match self.kind {
-            kind::FLAGS => flags.has_one_of(self.number),
+            kind::FLAGS => has_one_of(packet, flags, self.number),
             _ => self.leads_to(packet),
-        }
-    }
-
-    /// Returns whether a packet, with an error or without one, meets the test, which is one of flags or of the protocol number.
-    #[inline(never)]
-    pub(crate) fn is_met_by_facts(&self, facts: &Facts<'_>) -> bool
-        requires { ((self.now.kind == 1) || (self.now.kind == 2)) ≡ true }
-        ensures { result ≡ meets self.now (dissected facts.now.packet.bytes.now) }
-    {
-        match self.kind {
-            kind::FLAGS => facts.has_one_of(self.number),
-            _ => self.leads_to(&facts.packet),
         }
     }
 
@@ -61,16 +46,15 @@ impl Test {
         (is_met & if_met) | (!is_met & if_not)
     }
 
-    /// Returns the index to which the test leads a packet without an error, if it is an early one.
+    /// Returns the index to which the test leads a packet, if it is an early one.
     #[inline(always)]
     pub(crate) fn index_early(&self, packet: &Packet<'_>, flags: Flags) -> Option<usize>
-        requires flags { AreKnown (dissected packet.now.bytes.now) flags }
-        requires none { has_error (dissected packet.now.bytes.now).end ≡ false }
+        requires { AreKnown (dissected packet.now.bytes.now) flags }
         ensures { IfSome result (λ i. i ≡ (if meets self.now (dissected packet.now.bytes.now)
             then self.now.if_met else self.now.if_not)) }
     {
         match self.kind {
-            kind::FLAGS => Some(self.next_index(flags.has_one_of(self.number))),
+            kind::FLAGS => Some(self.next_index(has_one_of(packet, flags, self.number))),
             kind::LEADS_TO => Some(self.next_index(self.leads_to(packet))),
             kind::SOURCE => Some(self.next_index(self.has_source(packet))),
             kind::DESTINATION => Some(self.next_index(self.has_destination(packet))),
@@ -107,7 +91,10 @@ impl Test {
         ensures { result ≡ option_map_or (λ n. has_source n (dissected packet.now.bytes.now)
             || has_destination n (dissected packet.now.bytes.now)) (network_in self.now) false }
     {
-        self.has_source(packet) || self.has_destination(packet)
+        match self.network() {
+            Some(network) => has_either(packet, network),
+            None => false,
+        }
     }
 
     /// Returns whether the source address of the packet lies in the network of the test.
@@ -143,6 +130,26 @@ fn has_source(packet: &Packet<'_>, network: Network) -> bool
     match &packet.base {
         Some(BaseHeader::Ipv4(header)) => network.has_ipv4(u32::from_be_bytes(header.source())),
         Some(BaseHeader::Ipv6(header)) => network.has_ipv6(u128::from_be_bytes(header.source())),
+        None => false,
+    }
+}
+
+/// Returns whether either address of the packet lies in the network.
+#[inline(always)]
+fn has_either(packet: &Packet<'_>, network: Network) -> bool
+    ensures { result ≡ (has_source network (dissected packet.now.bytes.now)
+        || has_destination network (dissected packet.now.bytes.now)) }
+{
+    match &packet.base {
+        Some(BaseHeader::Ipv4(header)) => {
+            network.has_ipv4(u32::from_be_bytes(header.source()))
+                || network.has_ipv4(u32::from_be_bytes(header.destination()))
+        }
+        // not `||`: which of the two lies there is often mispredicted
+        Some(BaseHeader::Ipv6(header)) => {
+            network.has_ipv6(u128::from_be_bytes(header.source()))
+                | network.has_ipv6(u128::from_be_bytes(header.destination()))
+        }
         None => false,
     }
 }

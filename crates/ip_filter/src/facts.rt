@@ -10,7 +10,7 @@ ghost use Rattle.ip_filter.specs.Truth.{is_first_kind, is_later_kind, fault_kind
 ghost use Rattle.ip_filter.specs.Truth.{some_fragment};
 
 use crate::FaultKind;
-use crate::flags::{Flags, mask};
+use crate::flags::{Flags, has_one_of};
 use crate::header_condition::{HeaderCondition, any_header};
 use crate::layers::is_in_layer;
 use ip_base::err::ip::{HeaderError, HeadersError, SliceError};
@@ -27,23 +27,12 @@ pub(crate) struct Facts<'a> {
 }
 
 impl<'a> Facts<'a> {
-    /// Returns whether the packet has one of the flags that the mask selects. An error is only made if it is asked for.
+    /// Returns whether the packet has one of the flags that the mask selects.
     #[inline(always)]
     pub(crate) fn has_one_of(&self, mask: u64) -> bool
         ensures { result ≡ any_flag 64 mask (dissected self.now.packet.bytes.now) }
     {
-        if self.packet.outline.has_error && mask & mask::ERRORS != 0 {
-            return self.has_one_of_errors(mask);
-        }
-        self.flags.has_one_of(mask)
-    }
-
-    /// Returns whether the packet has one of the flags that the mask selects, from its error.
-    #[inline(never)]
-    fn has_one_of_errors(&self, mask: u64) -> bool
-        ensures { result ≡ any_flag 64 mask (dissected self.now.packet.bytes.now) }
-    {
-        self.flags.with_end(&self.packet.end()).has_one_of(mask)
+        has_one_of(&self.packet, self.flags, mask)
     }
 
     /// Returns whether headers end with an error in the layer with this code.

@@ -5,7 +5,7 @@ ghost use Rattle.std.specs.Option.{option_map_or};
 ghost use Rattle.ip_spec.specs.Header.{IsHeader};
 ghost use Rattle.ip_dissect.specs.Dissection.{DissectedParts, dissected};
 ghost use Rattle.ip_filter.specs.Truth.{is_first_kind, is_later_kind, says_fragment, is_truncated, fault_in, kind_index};
-ghost use Rattle.ip_filter.specs.Flags.{base_fragment};
+ghost use Rattle.ip_filter.specs.Flags.{AreKnown, any_flag, base_fragment};
 
 use crate::FaultKind;
 use crate::facts::{fault_in, is_first_kind, is_later_kind, is_truncated};
@@ -72,7 +72,7 @@ pub(crate) struct Flags {
 }
 
 impl Flags {
-    ghost use Rattle.ip_filter.specs.Flags.{AreFlags, AreKnown, AreOfHeaders, any_flag};
+    ghost use Rattle.ip_filter.specs.Flags.{AreFlags, AreOfHeaders};
 
     /// Returns the flags of no headers.
     #[inline(always)]
@@ -150,6 +150,19 @@ impl Flags {
             None => self,
         }
     }
+}
+
+/// Returns whether a packet with these flags, and those of its error, has one that the mask selects. The error is only made if
+/// it is asked for, from where the walk stopped, so the packet's parts need not be stored.
+#[inline(always)]
+pub(crate) fn has_one_of(packet: &Packet<'_>, flags: Flags, mask: u64) -> bool
+    requires { AreKnown (dissected packet.now.bytes.now) flags }
+    ensures { result ≡ any_flag 64 mask (dissected packet.now.bytes.now) }
+{
+    if packet.outline.has_error && mask & mask::ERRORS != 0 {
+        return flags.with_end(&packet.end()).has_one_of(mask);
+    }
+    flags.has_one_of(mask)
 }
 
 impl HeaderVisitor for Flags {

@@ -1,12 +1,13 @@
 //! Which packets meet a test.
 ghost use Rattle.std.specs.Prelude.{◌≡◌, ◌==◌, bit_and, false};
 ghost use Rattle.std.specs.Option.{option_map_or};
-ghost use Rattle.ip_dissect.specs.Dissection.{dissected};
+ghost use Rattle.ip_dissect.specs.Dissection.{DissectedParts, dissected};
+ghost use Rattle.ip_filter.specs.Transport.{transport_of, tcp_flags};
 ghost use Rattle.ip_filter.specs.Tests.{comparison_in, network_in, compared, is_in_range, meets, meets_in_payload};
 
 use crate::facts::Facts;
 use crate::header_condition::HeaderCondition;
-use crate::transport::{DESTINATION_PORT, ICMP_CODE, ICMP_TYPE, SOURCE_PORT};
+use crate::transport::{DESTINATION_PORT, ICMP_CODE, ICMP_TYPE, SOURCE_PORT, tcp_flags};
 use crate::{Comparison, Network, Quantity, Test};
 
 /// The kinds of tests.
@@ -116,7 +117,9 @@ impl Test {
             kind::NO_TRANSPORT => facts.lacks_ports(),
             kind::ICMP_TYPE => self.is_number(facts.icmp_byte(ICMP_TYPE)),
             kind::ICMP_CODE => self.is_number(facts.icmp_byte(ICMP_CODE)),
-            kind::TCP_FLAGS => self.has_bits(facts.tcp_flags()),
+            kind::TCP_FLAGS => {
+                self.has_tcp_flags(facts.packet.outline.next_header.0, facts.transport())
+            },
             _ => false,
         }
     }
@@ -155,6 +158,17 @@ impl Test {
             Some(byte) => u64::from(byte) == self.number,
             None => false,
         }
+    }
+
+    /// Returns whether what follows the headers begins with TCP's, and its flags meet the test. It is not inlined: the compiler would
+    /// look for them before the first test.
+    #[inline(never)]
+    fn has_tcp_flags(&self, number: u8, transport: &[u8]) -> bool
+        ensures { (p : DissectedParts) → p.number ≡ number → transport_of p ≡ transport.now
+            → result ≡ option_map_or (λ n. bit_and n self.now.address_low == self.now.number)
+            (tcp_flags p) false }
+    {
+        self.has_bits(tcp_flags(number, transport))
     }
 
     /// Returns whether the flags are there, and those that count are the number of the test.

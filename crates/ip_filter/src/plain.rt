@@ -6,6 +6,7 @@ ghost use Rattle.ip_filter.specs.Tests.{meets};
 ghost use Rattle.ip_filter.specs.Program.{passes};
 
 use crate::facts::Facts;
+use crate::flags::has_one_of;
 use crate::meets::kind;
 use crate::run::PASSED;
 use crate::{Quantity, Test};
@@ -47,7 +48,7 @@ impl Test {
         ensures { result ≡ meets self.now (dissected facts.now.packet.bytes.now) }
     {
         match self.kind {
-            kind::FLAGS => facts.flags.has_one_of(self.number),
+            kind::FLAGS => has_one_of(&facts.packet, facts.flags, self.number),
             kind::LEADS_TO => self.leads_to(&facts.packet),
             kind::HEADERS => self.compares(Quantity::Headers, facts),
             kind::CHAIN_BYTES => self.compares(Quantity::ChainBytes, facts),

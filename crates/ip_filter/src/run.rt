@@ -93,29 +93,25 @@ fn run_all(tests: &[Test], bytes: &[u8]) -> bool
     }
 }
 
-/// Returns whether a packet passes that has these flags. Early tests come first, if there is no error: they need no part of
-/// the packet to be stored.
+/// Returns whether a packet passes that has these flags. Early tests come first: they need no part of the packet to be
+/// stored.
 #[inline(always)]
 fn run_on_packet(tests: &[Test], packet: Packet<'_>, flags: Flags) -> bool
     requires few { length tests.now ≤ 64 }
     requires flags { AreKnown (dissected packet.bytes.now) flags }
     ensures { result ≡ passes tests.now (λ x. meets x (dissected packet.entry.bytes.now)) }
 {
-    if packet.outline.has_error {
-        return run_stored(tests, 0, &Facts { packet, flags });
-    }
     match run_early(tests, &packet, flags) {
         Reached::End(passed) => passed,
         Reached::Next(next) => run_stored(tests, next, &Facts { packet, flags }),
     }
 }
 
-/// Runs early tests on a packet without an error, up to the first test that is not one.
+/// Runs early tests on a packet, up to the first test that is not one.
 #[inline(always)]
 fn run_early(tests: &[Test], packet: &Packet<'_>, flags: Flags) -> Reached
     requires few { length tests.now ≤ 64 }
     requires flags { AreKnown (dissected packet.now.bytes.now) flags }
-    requires none { has_error (dissected packet.now.bytes.now).end ≡ false }
     ensures { IsReached tests.now (λ x. meets x (dissected packet.now.bytes.now)) result }
 {
     let mut next = 0;
@@ -165,13 +161,8 @@ impl<'a> PacketVisitor<'a> for OneTester<'_> {
         let mut flags = Flags::none();
         let packet = start.walk(&mut flags);
         let flags = flags.of(&packet);
-        if !packet.outline.has_error {
-            return self
-                .test
-                .has_passed(self.test.is_met_by_numbers(&packet, flags));
-        }
-        let facts = Facts { packet, flags };
-        self.test.has_passed(self.test.is_met_by_facts(&facts))
+        self.test
+            .has_passed(self.test.is_met_by_numbers(&packet, flags))
     }
 }
 

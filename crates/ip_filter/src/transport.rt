@@ -1,6 +1,6 @@
 //! Ports, and the types of ICMP: what the payload begins with.
 ghost use Rattle.std.specs.Prelude.{◌≡◌, ◌≤◌, ◌+◌};
-ghost use Rattle.ip_dissect.specs.Dissection.{dissected};
+ghost use Rattle.ip_dissect.specs.Dissection.{DissectedParts, dissected};
 ghost use Rattle.ip_filter.specs.Transport.{is_at_payload, transport_of, has_ports, is_icmp, port_at, icmp_byte, tcp_flags, lacks_ports};
 
 use crate::facts::Facts;
@@ -80,25 +80,9 @@ impl<'a> Facts<'a> {
         }
     }
 
-    /// Returns the flags of a TCP header, if the payload begins with one and they are there.
-    #[inline(always)]
-    pub(crate) fn tcp_flags(&self) -> Option<u8>
-        ensures { result ≡ tcp_flags (dissected self.now.packet.bytes.now) }
-    {
-        if self.packet.outline.next_header.0 != protocol::TCP {
-            return None;
-        }
-        let segment = self.transport();
-        if TCP_FLAGS < segment.len() {
-            Some(segment[TCP_FLAGS])
-        } else {
-            None
-        }
-    }
-
     /// Returns the payload, if the headers end at it.
     #[inline(always)]
-    fn transport(&self) -> &'a [u8]
+    pub(crate) fn transport(&self) -> &'a [u8]
         ensures { result.now ≡ transport_of (dissected self.now.packet.bytes.now) }
     {
         if self.is_at_payload() {
@@ -114,6 +98,18 @@ impl<'a> Facts<'a> {
         ensures { result ≡ is_at_payload (dissected self.now.packet.bytes.now).end }
     {
         !self.packet.outline.has_error && !self.packet.outline.is_later_fragment
+    }
+}
+
+/// Returns the flags of a TCP header, if the payload begins with one and they are there.
+#[inline(always)]
+pub(crate) fn tcp_flags(number: u8, transport: &[u8]) -> Option<u8>
+    ensures { (p : DissectedParts) → p.number ≡ number → transport_of p ≡ transport.now → result ≡ tcp_flags p }
+{
+    if number == protocol::TCP && TCP_FLAGS < transport.len() {
+        Some(transport[TCP_FLAGS])
+    } else {
+        None
     }
 }
 

@@ -160,8 +160,8 @@ impl Test {
         }
     }
 
-    /// Returns whether what follows the headers begins with TCP's, and its flags meet the test. It is not inlined: the compiler would
-    /// look for them before the first test.
+    /// Returns whether a TCP header follows whose flags meet the test. Not inlined, since the compiler would look for the flags
+    /// before the first test of any filter.
     #[inline(never)]
     fn has_tcp_flags(&self, number: u8, transport: &[u8]) -> bool
         ensures { (p : DissectedParts) → p.number ≡ number → transport_of p ≡ transport.now

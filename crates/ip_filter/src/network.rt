@@ -56,8 +56,8 @@ impl Network {
     }
 }
 
-/// Returns whether the first `len` bits of two IPv6 addresses are equal. One half of each is compared where one tells, so that
-/// no number of 128 bits is shifted.
+/// Returns whether the first `len` bits of two IPv6 addresses are equal. Up to 64 bits only their first halves are compared, and
+/// no number of 128 bits is ever shifted.
 #[inline(always)]
 fn ipv6_begin_alike(address: u128, other: u128, len: u8) -> bool
     ensures { result ≡ begin_alike (128 - len) address other }

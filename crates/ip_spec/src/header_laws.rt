@@ -1,5 +1,6 @@
 //! Laws of single headers, proved as the contracts of calls.
 ghost use Rattle.std.specs.Prelude.{◌≡◌, ℕ, List, length, slice_range};
+ghost use Rattle.ip_spec.specs.LongestOf.{IsUnique};
 ghost use Rattle.ip_spec.specs.Numbers.{FRAGMENT, AUTHENTICATION};
 ghost use Rattle.ip_spec.specs.Header.{IsRawHeader, IsFragmentHeader, IsAuthHeader};
 ghost use Rattle.ip_spec.specs.Fields.{RawFields, FragmentFields, AuthFields, raw_fields, fragment_fields, auth_fields, raw_len, auth_len};
@@ -8,47 +9,45 @@ ghost use Rattle.ip_spec.specs.Decoding.{IsRawDecoding, IsFragmentDecoding, IsAu
 
 /// Proves that bytes start with at most one header of a format: its fields and the rest after it are unique.
 pub fn one_decoding()
-    ensures raw { (s : List ℕ) (v w : RawFields) (r q : List ℕ)
-        → IsRawDecoding s v r → IsRawDecoding s w q → (v ≡ w) × (r ≡ q) }
-    ensures fragment { (s : List ℕ) (v w : FragmentFields) (r q : List ℕ)
-        → IsFragmentDecoding s v r → IsFragmentDecoding s w q → (v ≡ w) × (r ≡ q) }
-    ensures auth { (s : List ℕ) (v w : AuthFields) (r q : List ℕ)
-        → IsAuthDecoding s v r → IsAuthDecoding s w q → (v ≡ w) × (r ≡ q) }
+    ensures raw { (s v w r q : _) → IsRawDecoding s v r → IsRawDecoding s w q
+        → (v ≡ w) × (r ≡ q) }
+    ensures fragment { (s v w r q : _) → IsFragmentDecoding s v r → IsFragmentDecoding s w q
+        → (v ≡ w) × (r ≡ q) }
+    ensures auth { (s v w r q : _) → IsAuthDecoding s v r → IsAuthDecoding s w q
+        → (v ≡ w) × (r ≡ q) }
 {}
 
 /// Proves that fields have at most one encoding.
 pub fn one_encoding()
-    ensures raw { (v : RawFields) (b d : List ℕ) → IsRawEncoding v b → IsRawEncoding v d → b ≡ d }
-    ensures fragment { (v : FragmentFields) (b d : List ℕ)
-        → IsFragmentEncoding v b → IsFragmentEncoding v d → b ≡ d }
-    ensures auth { (v : AuthFields) (b d : List ℕ) → IsAuthEncoding v b
-        → IsAuthEncoding v d → b ≡ d }
+    ensures raw { (v : _) → IsUnique (IsRawEncoding v) }
+    ensures fragment { (v : _) → IsUnique (IsFragmentEncoding v) }
+    ensures auth { (v : _) → IsUnique (IsAuthEncoding v) }
 {}
 
 /// Proves that a header whose reserved bits are set to zero is a header with the same fields, and that setting them
 /// to zero again changes nothing. A header in the uniform format (RFC 6564) has no reserved bits.
 pub fn cleared_header_says_the_same()
-    ensures fragment { (b : List ℕ) → IsFragmentHeader b → IsFragmentHeader (cleared_header FRAGMENT b)
+    ensures fragment { (b : _) → IsFragmentHeader b → IsFragmentHeader (cleared_header FRAGMENT b)
         × (fragment_fields (cleared_header FRAGMENT b) ≡ fragment_fields b)
         × (cleared_header FRAGMENT (cleared_header FRAGMENT b) ≡ cleared_header FRAGMENT b) }
-    ensures auth { (b : List ℕ) → IsAuthHeader b → IsAuthHeader (cleared_header AUTHENTICATION b)
+    ensures auth { (b : _) → IsAuthHeader b → IsAuthHeader (cleared_header AUTHENTICATION b)
         × (auth_fields (cleared_header AUTHENTICATION b) ≡ auth_fields b)
         × (cleared_header AUTHENTICATION (cleared_header AUTHENTICATION b) ≡ cleared_header AUTHENTICATION b) }
 {}
 
 /// Proves that a header whose reserved bits are set to zero encodes its fields, if its numbers are bytes.
 pub fn cleared_header_encodes()
-    ensures raw { (b : List ℕ) → IsRawHeader b → AreBytes (slice_range b 1 2)
+    ensures raw { (b : _) → IsRawHeader b → AreBytes (slice_range b 1 2)
         → IsRawEncoding (raw_fields b) b }
-    ensures fragment { (b : List ℕ) → IsFragmentHeader b → AreBytes (slice_range b 1 8)
+    ensures fragment { (b : _) → IsFragmentHeader b → AreBytes (slice_range b 1 8)
         → IsFragmentEncoding (fragment_fields b) (cleared_header FRAGMENT b) }
-    ensures auth { (b : List ℕ) → IsAuthHeader b → AreBytes (slice_range b 1 12)
+    ensures auth { (b : _) → IsAuthHeader b → AreBytes (slice_range b 1 12)
         → IsAuthEncoding (auth_fields b) (cleared_header AUTHENTICATION b) }
 {}
 
 /// Proves that the fields determine the length.
 pub fn encoding_len()
-    ensures raw { (v : RawFields) (b : List ℕ) → IsRawEncoding v b → length b ≡ raw_len v }
-    ensures fragment { (v : FragmentFields) (b : List ℕ) → IsFragmentEncoding v b → length b ≡ 8 }
-    ensures auth { (v : AuthFields) (b : List ℕ) → IsAuthEncoding v b → length b ≡ auth_len v }
+    ensures raw { (v b : _) → IsRawEncoding v b → length b ≡ raw_len v }
+    ensures fragment { (v b : _) → IsFragmentEncoding v b → length b ≡ 8 }
+    ensures auth { (v b : _) → IsAuthEncoding v b → length b ≡ auth_len v }
 {}

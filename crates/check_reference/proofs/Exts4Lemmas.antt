@@ -1,5 +1,5 @@
 -- The answer to `exts4`, in the form in which the plain program computes it.
-use Rattle.ip_spec.proofs.Common.{common_steps, rules, ◌≡◌, ℕ, ◌≤◌, List, [], ◌∷◌, ◌++◌, length, take, drop, get_or, true, refl, sym, arith, append_assoc, length-take-le, IsNext, IsEnd, leads_to, bytes_of, NoPrefix, IsAuthHeader, auth}
+use Rattle.ip_spec.proofs.Common.{common_steps, rules, ◌≡◌, ℕ, ◌≤◌, List, [], ◌∷◌, ◌++◌, length, take, drop, get_or, true, refl, arith, append_assoc, length-take-le, IsNext, IsEnd, leads_to, bytes_of, NoPrefix, IsAuthHeader, auth}
 use Rattle.std.proofs.Common.{append-nil}
 use Rattle.ip_base.specs.declared.len_source.LenSource.TheVariants.{Slice}
 use Rattle.ip_spec.proofs.HeaderLemmas.{header-least, auth_of}

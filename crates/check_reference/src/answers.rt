@@ -4,6 +4,7 @@ ghost use Rattle.std.specs.Prelude.{◌≡◌, ◌++◌, ◌==◌, ◌+◌, ◌^
 ghost use Rattle.std.specs.Prelude.{[], ◌∷◌, slice_index, IfOk, OnOk, string_bytes};
 ghost use Rattle.std.specs.List.{slice_split};
 ghost use Rattle.std.specs.Option.{option_map};
+ghost use Rattle.ipexts_tool.specs.Text.{AppendsText};
 ghost use Rattle.ip_spec.specs.Chain.{bytes_of};
 ghost use Rattle.ip_spec.specs.Encoding.{cleared_chain};
 ghost use Rattle.check_reference.specs.PlainHeader.{plain_header_of};
@@ -82,7 +83,7 @@ fn plain_lines<'a>(alloc: Global, input: &'a [u8]) -> Result<Vec<&'a [u8]>, Allo
 
 /// Appends the answer to a line.
 fn push_answer(alloc: Global, line: &[u8], text: &mut String) -> Result<(), AllocError>
-    ensures { OnOk result (string_bytes text.new ≡ string_bytes text.old ++ answer_of line.now) }
+    ensures { OnOk result (AppendsText text.old text.new (answer_of line.now)) }
 {
     if line.len() > 8192 {
         return text.push_str(BAD_LINE);
@@ -246,8 +247,7 @@ fn plain_bytes(alloc: Global, text: &[u8]) -> Result<Option<Vec<u8>>, AllocError
 
 /// Appends the answer to `exts6` with this number and these bytes.
 fn push_exts6(alloc: Global, number: u8, bytes: &[u8], text: &mut String) -> Result<(), AllocError>
-    ensures { OnOk result
-        (string_bytes text.new ≡ string_bytes text.old ++ exts6_answer number bytes.now) }
+    ensures { OnOk result (AppendsText text.old text.new (exts6_answer number bytes.now)) }
 {
     let chain = plain_longest_chain(alloc, number, bytes)?;
     let offset = bytes.len() - chain.rest.len();
@@ -259,8 +259,7 @@ fn push_exts6(alloc: Global, number: u8, bytes: &[u8], text: &mut String) -> Res
 
 /// Appends the answer to `exts4` with this number and these bytes.
 fn push_exts4(number: u8, bytes: &[u8], text: &mut String) -> Result<(), AllocError>
-    ensures { OnOk result
-        (string_bytes text.new ≡ string_bytes text.old ++ exts4_answer number bytes.now) }
+    ensures { OnOk result (AppendsText text.old text.new (exts4_answer number bytes.now)) }
 {
     if number != 51 {
         push_next(number, bytes.len(), text)?;
@@ -284,8 +283,7 @@ fn push_rewrite6(
     bytes: &[u8],
     text: &mut String,
 ) -> Result<(), AllocError>
-    ensures { OnOk result
-        (string_bytes text.new ≡ string_bytes text.old ++ rewrite6_answer number bytes.now) }
+    ensures { OnOk result (AppendsText text.old text.new (rewrite6_answer number bytes.now)) }
 {
     let (headers, next, rest, fault) = Ipv6Extensions::from_slice_lax(IpNumber(number), bytes);
     let written = rewritten(alloc, number, bytes, &headers)?;
@@ -320,8 +318,7 @@ fn push_rewriteall6(
     bytes: &[u8],
     text: &mut String,
 ) -> Result<(), AllocError>
-    ensures { OnOk result
-        (string_bytes text.new ≡ string_bytes text.old ++ rewriteall6_answer number bytes.now) }
+    ensures { OnOk result (AppendsText text.old text.new (rewriteall6_answer number bytes.now)) }
 {
     let (count, written) = write_runs(alloc, IpNumber(number), bytes)?;
     let (_, next, rest, fault) = Ipv6ExtensionsSlice::from_slice_lax(IpNumber(number), bytes);
@@ -333,8 +330,7 @@ fn push_rewriteall6(
 
 /// Appends the bytes written.
 fn push_written(bytes: &[u8], text: &mut String) -> Result<(), AllocError>
-    ensures { OnOk result
-        (string_bytes text.new ≡ string_bytes text.old ++ written_line bytes.now) }
+    ensures { OnOk result (AppendsText text.old text.new (written_line bytes.now)) }
 {
     if bytes.is_empty() {
         return text.push_str("written -\n");
@@ -347,8 +343,7 @@ fn push_written(bytes: &[u8], text: &mut String) -> Result<(), AllocError>
 /// Appends the hexadecimal digits of bytes.
 #[tactic(auto, using(crate::proofs::AnswerLemmas::digits))]
 fn push_digits(bytes: &[u8], text: &mut String) -> Result<(), AllocError>
-    ensures { OnOk result
-        (string_bytes text.new ≡ string_bytes text.old ++ encode_lower bytes.now) }
+    ensures { OnOk result (AppendsText text.old text.new (encode_lower bytes.now)) }
 {
     for byte in bytes {
         push_digit(byte / 16, text)?;
@@ -360,16 +355,14 @@ fn push_digits(bytes: &[u8], text: &mut String) -> Result<(), AllocError>
 /// Appends the hexadecimal digit of a value below 16.
 fn push_digit(value: u8, text: &mut String) -> Result<(), AllocError>
     requires { value < 16 }
-    ensures { OnOk result (string_bytes text.new
-        ≡ string_bytes text.old ++ slice_index lower_digits value ∷ []) }
+    ensures { OnOk result (AppendsText text.old text.new (slice_index lower_digits value ∷ [])) }
 {
     text.push(char::from(b"0123456789abcdef"[usize::from(value)]))
 }
 
 /// Appends the line of a header.
 fn push_header(offset: usize, number: u8, len: usize, text: &mut String) -> Result<(), AllocError>
-    ensures { OnOk result
-        (string_bytes text.new ≡ string_bytes text.old ++ header_line offset number len) }
+    ensures { OnOk result (AppendsText text.old text.new (header_line offset number len)) }
 {
     let name = header_name(number);
     writeln!(text, "{offset} {name} {len}")
@@ -377,15 +370,15 @@ fn push_header(offset: usize, number: u8, len: usize, text: &mut String) -> Resu
 
 /// Appends that there is no error.
 fn push_ok(text: &mut String) -> Result<(), AllocError>
-    ensures { OnOk result (string_bytes text.new ≡ string_bytes text.old ++ ok_line) }
+    ensures { OnOk result (AppendsText text.old text.new ok_line) }
 {
     text.push_str("ok\n")
 }
 
 /// Appends the error of an authentication header at the start of the bytes.
 fn push_auth_fault(bytes: &[u8], text: &mut String) -> Result<(), AllocError>
-    ensures { OnOk result (string_bytes text.new ≡ string_bytes text.old
-        ++ ipv4_end_line (auth_fault Slice (length bytes.now) 0 bytes.now)) }
+    ensures { OnOk result
+        (AppendsText text.old text.new (ipv4_end_line (auth_fault Slice (length bytes.now) 0 bytes.now))) }
 {
     let Some((fault, _)) = plain_fault(true, 51, bytes, 0) else {
         return text.push_str("ok\n");
@@ -396,8 +389,7 @@ fn push_auth_fault(bytes: &[u8], text: &mut String) -> Result<(), AllocError>
 
 /// Appends the number of what follows the headers, and its length in bytes.
 pub(crate) fn push_next(number: u8, len: usize, text: &mut String) -> Result<(), AllocError>
-    ensures { OnOk result
-        (string_bytes text.new ≡ string_bytes text.old ++ next_line number len) }
+    ensures { OnOk result (AppendsText text.old text.new (next_line number len)) }
 {
     writeln!(text, "next {number} rest {len}")
 }
@@ -409,8 +401,8 @@ pub(crate) fn push_headers(
     text: &mut String,
 ) -> Result<(), AllocError>
     requires { start + length (bytes_of (map plain_header_of headers.now)) < 2 ^ 64 }
-    ensures { OnOk result (string_bytes text.new
-        ≡ string_bytes text.old ++ header_lines start (map plain_header_of headers.now)) }
+    ensures { OnOk result
+        (AppendsText text.old text.new (header_lines start (map plain_header_of headers.now))) }
 {
     let mut offset = start;
     for header in headers {
@@ -440,7 +432,7 @@ fn push_chain_end(
     fault: Option<(HeaderSliceError, Layer)>,
     text: &mut String,
 ) -> Result<(), AllocError>
-    ensures { OnOk result (string_bytes text.new ≡ string_bytes text.old ++ chain_end_line fault) }
+    ensures { OnOk result (AppendsText text.old text.new (chain_end_line fault)) }
 {
     let Some((fault, layer)) = fault else {
         return text.push_str("ok\n");
@@ -452,8 +444,7 @@ fn push_chain_end(
 
 /// Appends an error.
 fn push_chain_fault(fault: &HeaderSliceError, text: &mut String) -> Result<(), AllocError>
-    ensures { OnOk result
-        (string_bytes text.new ≡ string_bytes text.old ++ chain_fault_text fault.now) }
+    ensures { OnOk result (AppendsText text.old text.new (chain_fault_text fault.now)) }
 {
     match fault {
         HeaderSliceError::Len(e) => {

@@ -1,5 +1,6 @@
 //! The answer to `dissect`, built in the simplest way.
 ghost use Rattle.std.specs.Prelude.{◌≡◌, ◌++◌, codes, OnOk, string_bytes};
+ghost use Rattle.ipexts_tool.specs.Text.{AppendsText};
 ghost use Rattle.ipexts_tool.specs.DissectAnswer.{stated_text, base_line, fragment_line, kind_name, missing_line};
 ghost use Rattle.ipexts_tool.specs.DissectAnswer.{in_header, truncated_text, end_line, dissect_answer};
 
@@ -13,8 +14,7 @@ use std::alloc::{AllocError, Global};
 /// Appends the answer to `dissect` with these bytes.
 #[tactic(auto, using(crate::proofs::DissectLemmas::answer_none))]
 pub(crate) fn push_dissect(alloc: Global, bytes: &[u8], text: &mut String) -> Result<(), AllocError>
-    ensures { OnOk result
-        (string_bytes text.new ≡ string_bytes text.old ++ dissect_answer bytes.now) }
+    ensures { OnOk result (AppendsText text.old text.new (dissect_answer bytes.now)) }
 {
     let packet = plain_dissection(alloc, bytes)?;
     if packet.version == 0 {
@@ -35,8 +35,7 @@ fn push_base(
     stated: Option<usize>,
     text: &mut String,
 ) -> Result<(), AllocError>
-    ensures { OnOk result (string_bytes text.new
-        ≡ string_bytes text.old ++ base_line version base_len stated) }
+    ensures { OnOk result (AppendsText text.old text.new (base_line version base_len stated)) }
 {
     write!(text, "ipv{version} base {base_len} stated ")?;
     push_stated(stated, text)?;
@@ -45,7 +44,7 @@ fn push_base(
 
 /// Appends a stated length, or that there is none.
 fn push_stated(stated: Option<usize>, text: &mut String) -> Result<(), AllocError>
-    ensures { OnOk result (string_bytes text.new ≡ string_bytes text.old ++ stated_text stated) }
+    ensures { OnOk result (AppendsText text.old text.new (stated_text stated)) }
 {
     match stated {
         Some(stated) => write!(text, "{stated}"),
@@ -55,8 +54,7 @@ fn push_stated(stated: Option<usize>, text: &mut String) -> Result<(), AllocErro
 
 /// Appends which fragment the packet is.
 fn push_fragment(fragment: Option<Fragment>, text: &mut String) -> Result<(), AllocError>
-    ensures { OnOk result
-        (string_bytes text.new ≡ string_bytes text.old ++ fragment_line fragment) }
+    ensures { OnOk result (AppendsText text.old text.new (fragment_line fragment)) }
 {
     let Some(fragment) = fragment else {
         return text.push_str("fragment none\n");
@@ -81,15 +79,14 @@ fn kind_name(kind: FragmentKind) -> &'static str
 
 /// Appends how many stated bytes are not here, and how many bytes follow the packet.
 fn push_missing(missing: usize, padding: usize, text: &mut String) -> Result<(), AllocError>
-    ensures { OnOk result
-        (string_bytes text.new ≡ string_bytes text.old ++ missing_line missing padding) }
+    ensures { OnOk result (AppendsText text.old text.new (missing_line missing padding)) }
 {
     writeln!(text, "missing {missing} padding {padding}")
 }
 
 /// Appends why the headers end.
 fn push_end(end: &End, text: &mut String) -> Result<(), AllocError>
-    ensures { OnOk result (string_bytes text.new ≡ string_bytes text.old ++ end_line end.now) }
+    ensures { OnOk result (AppendsText text.old text.new (end_line end.now)) }
 {
     match end {
         End::Payload => text.push_str("payload\n"),
@@ -107,7 +104,7 @@ fn push_end(end: &End, text: &mut String) -> Result<(), AllocError>
 
 /// Appends that a header is incomplete here.
 fn push_truncated(e: &LenError, text: &mut String) -> Result<(), AllocError>
-    ensures { OnOk result (string_bytes text.new ≡ string_bytes text.old ++ truncated_text e.now) }
+    ensures { OnOk result (AppendsText text.old text.new (truncated_text e.now)) }
 {
     text.push_str("truncated ")?;
     push_len(e, text)
@@ -115,8 +112,7 @@ fn push_truncated(e: &LenError, text: &mut String) -> Result<(), AllocError>
 
 /// Appends the IPv6 extension header that an error is in, if it is in one, and ends the line.
 fn push_in(header: Option<Layer>, text: &mut String) -> Result<(), AllocError>
-    ensures { OnOk result
-        (string_bytes text.new ≡ string_bytes text.old ++ (in_header header ++ codes "\n")) }
+    ensures { OnOk result (AppendsText text.old text.new (in_header header ++ codes "\n")) }
 {
     let Some(layer) = header else {
         return text.push_str("\n");

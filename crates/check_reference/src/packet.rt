@@ -1,5 +1,6 @@
 //! The answer to `packet`, built in the simplest way.
 ghost use Rattle.std.specs.Prelude.{◌≡◌, ◌++◌, codes, OnOk, string_bytes};
+ghost use Rattle.ipexts_tool.specs.Text.{AppendsText};
 ghost use Rattle.etherparse_ip.specs.Packet.{Parts};
 ghost use Rattle.ipexts_tool.specs.Faults.{len_text, len_fault_text, headers_fault_text, packet_fault_text};
 ghost use Rattle.ipexts_tool.specs.PacketAnswer.{yes_or_no, lengths_line, payload_line, parts_lines};
@@ -13,8 +14,7 @@ use std::alloc::{AllocError, Global};
 
 /// Appends the answer to `packet` with these bytes.
 pub(crate) fn push_packet(alloc: Global, bytes: &[u8], text: &mut String) -> Result<(), AllocError>
-    ensures { OnOk result
-        (string_bytes text.new ≡ string_bytes text.old ++ packet_answer bytes.now) }
+    ensures { OnOk result (AppendsText text.old text.new (packet_answer bytes.now)) }
 {
     match plain_packet(alloc, bytes)? {
         Ok((name, packet)) => push_parts(name, &packet, text),
@@ -24,8 +24,8 @@ pub(crate) fn push_packet(alloc: Global, bytes: &[u8], text: &mut String) -> Res
 
 /// Appends the parts of a packet of the version of this name.
 fn push_parts(name: &str, packet: &PlainPacket, text: &mut String) -> Result<(), AllocError>
-    ensures { (p : Parts) → HasLengthsOf p packet.now → OnOk result (string_bytes text.new
-        ≡ string_bytes text.old ++ parts_lines name.now p) }
+    ensures { (p : Parts) → HasLengthsOf p packet.now → OnOk result
+        (AppendsText text.old text.new (parts_lines name.now p)) }
 {
     push_lengths(
         name,
@@ -46,8 +46,8 @@ fn push_lengths(
     payload_len: usize,
     text: &mut String,
 ) -> Result<(), AllocError>
-    ensures { OnOk result (string_bytes text.new
-        ≡ string_bytes text.old ++ lengths_line name.now header_len exts_len payload_len) }
+    ensures { OnOk result
+        (AppendsText text.old text.new (lengths_line name.now header_len exts_len payload_len)) }
 {
     writeln!(
         text,
@@ -57,8 +57,8 @@ fn push_lengths(
 
 /// Appends the payload's number, whether it is a fragment, and the source of its length.
 fn push_payload(packet: &PlainPacket, text: &mut String) -> Result<(), AllocError>
-    ensures { OnOk result (string_bytes text.new ≡ string_bytes text.old
-        ++ payload_line packet.now.number packet.now.fragmented packet.now.len_source) }
+    ensures { OnOk result
+        (AppendsText text.old text.new (payload_line packet.now.number packet.now.fragmented packet.now.len_source)) }
 {
     let number = packet.number;
     let fragmented = yes_or_no(packet.fragmented);
@@ -78,14 +78,14 @@ fn yes_or_no(answer: bool) -> &'static str
 
 /// Appends that there is no error.
 fn push_ok(text: &mut String) -> Result<(), AllocError>
-    ensures { OnOk result (string_bytes text.new ≡ string_bytes text.old ++ codes "ok\n") }
+    ensures { OnOk result (AppendsText text.old text.new (codes "ok\n")) }
 {
     text.push_str("ok\n")
 }
 
 /// Appends a packet's error.
 fn push_fault(fault: &SliceError, text: &mut String) -> Result<(), AllocError>
-    ensures { OnOk result (string_bytes text.new ≡ string_bytes text.old ++ fault_line fault.now) }
+    ensures { OnOk result (AppendsText text.old text.new (fault_line fault.now)) }
 {
     push_fault_text(fault, text)?;
     text.push_str("\n")
@@ -93,8 +93,7 @@ fn push_fault(fault: &SliceError, text: &mut String) -> Result<(), AllocError>
 
 /// Appends the text of a packet's error, without a newline.
 pub(crate) fn push_fault_text(fault: &SliceError, text: &mut String) -> Result<(), AllocError>
-    ensures { OnOk result
-        (string_bytes text.new ≡ string_bytes text.old ++ packet_fault_text fault.now) }
+    ensures { OnOk result (AppendsText text.old text.new (packet_fault_text fault.now)) }
 {
     match fault {
         SliceError::Len(fault) => push_len_fault(fault, text),
@@ -104,7 +103,7 @@ pub(crate) fn push_fault_text(fault: &SliceError, text: &mut String) -> Result<(
 
 /// Appends a length error.
 fn push_len_fault(e: &LenError, text: &mut String) -> Result<(), AllocError>
-    ensures { OnOk result (string_bytes text.new ≡ string_bytes text.old ++ len_fault_text e.now) }
+    ensures { OnOk result (AppendsText text.old text.new (len_fault_text e.now)) }
 {
     text.push_str("fault ")?;
     push_len(e, text)
@@ -112,7 +111,7 @@ fn push_len_fault(e: &LenError, text: &mut String) -> Result<(), AllocError>
 
 /// Appends how many bytes are required and how many there are.
 pub(crate) fn push_len(e: &LenError, text: &mut String) -> Result<(), AllocError>
-    ensures { OnOk result (string_bytes text.new ≡ string_bytes text.old ++ len_text e.now) }
+    ensures { OnOk result (AppendsText text.old text.new (len_text e.now)) }
 {
     let (required, len, offset) = (e.required_len, e.len, e.layer_start_offset);
     let (source, layer) = (e.len_source.name(), e.layer.name());
@@ -121,8 +120,7 @@ pub(crate) fn push_len(e: &LenError, text: &mut String) -> Result<(), AllocError
 
 /// Appends the error in the bytes of a packet's headers.
 fn push_headers_fault(fault: &HeadersError, text: &mut String) -> Result<(), AllocError>
-    ensures { OnOk result
-        (string_bytes text.new ≡ string_bytes text.old ++ headers_fault_text fault.now) }
+    ensures { OnOk result (AppendsText text.old text.new (headers_fault_text fault.now)) }
 {
     match fault {
         HeadersError::Ip(HeaderError::UnsupportedIpVersion { version_number }) => {

@@ -1,10 +1,11 @@
--- A dissected packet and a parsed one have the same parts.
-use Rattle.std.specs.Prelude.{◌≡◌}
-use Rattle.etherparse_ip.specs.Packet.{Parts as ParsedParts}
-use Rattle.ip_dissect.specs.Dissection.{DissectedParts}
+-- Where a dissection and a parsed packet agree.
+use Rattle.std.specs.Prelude.{◌≡◌, ℕ, List}
+use Rattle.etherparse_ip.specs.Packet.{Parts}
+use Rattle.ip_dissect.specs.Dissection.{dissected}
 
-pub record HaveSameParts (d : DissectedParts) (p : ParsedParts) : Type 0 where
-  pub base : d.base ≡ p.base
-  pub headers : d.headers ≡ p.headers
-  pub payload : d.payload ≡ p.payload
-  pub number : d.number ≡ p.number
+-- the dissection of bytes s has the parts p of a parsed packet
+pub record Agree (s : List ℕ) (p : Parts) : Type 0 where
+  pub base : (dissected s).base ≡ p.base
+  pub headers : (dissected s).headers ≡ p.headers
+  pub payload : (dissected s).payload ≡ p.payload
+  pub number : (dissected s).number ≡ p.number

@@ -1,3 +1,4 @@
 pub mod Batch
 pub mod Blocks
 pub mod Plain
+pub mod Packets

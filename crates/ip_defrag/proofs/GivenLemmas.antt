@@ -5,7 +5,7 @@ use Rattle.std.proofs.lemmas.Option.{same_Some, none-some, option_and_then_some}
 use Rattle.ip_defrag.specs.Fragment.{has_byte}
 use Rattle.ip_defrag.specs.Payload.{payload_of}
 use Rattle.ip_defrag.specs.Refusal.{refusal}
-use Rattle.ip_defrag.specs.Received.{Received, received_nothing, with_fragment, received_after, received_all, outcome_of}
+use Rattle.ip_defrag.specs.Received.{Received, received_none, with_fragment, received_after, received_all, outcome_of}
 use Rattle.std.specs.Prelude.{Ok, IfSome}
 use Rattle.std.specs.Borrow.{Bor}
 use Rattle.std.specs.Option.{option_copied}
@@ -68,9 +68,9 @@ received_step s f g among = elim (cases_Bool s.abandoned) [
   by_refusal None e here = with_from s.fragments f g (subst (λ (t : Received). list_any (is_same g) t.fragments ≡ true) (outcome_accepted s f here e).1 among)
   by_refusal (Some error) e here = inr (subst (λ (t : Received). list_any (is_same g) t.fragments ≡ true) (outcome_refused s f error here e).1 among)
 
-pub received_given : (limit : ℕ) (abandons : Bool) (given : List Fragment) (g : Fragment) → list_any (is_same g) (received_all (received_nothing limit abandons) given).fragments ≡ true → list_any (is_same g) given ≡ true
+pub received_given : (limit : ℕ) (abandons : Bool) (given : List Fragment) (g : Fragment) → list_any (is_same g) (received_all (received_none limit abandons) given).fragments ≡ true → list_any (is_same g) given ≡ true
 received_given limit abandons [] g among = among
-received_given limit abandons (f ∷ fs) g among = elim (received_step (received_all (received_nothing limit abandons) fs) f g among) [
+received_given limit abandons (f ∷ fs) g among = elim (received_step (received_all (received_none limit abandons) fs) f g among) [
   | inl same ↦ or_left (is_same g f) (list_any (is_same g) fs) same
   | inr rest ↦ or_right (is_same g f) (list_any (is_same g) fs) (received_given limit abandons fs g rest)
 ]
@@ -95,9 +95,9 @@ unfolding payload_of
 payload_bytes fs payload i whole less = option_and_then_some (first_bytes fs) (end_in fs) payload whole (λ n e bytes.
     let each = first_bytes_each fs n payload bytes in each.1 i (omega (arith, less, each.0)))
 
-pub from_fragments : (limit : ℕ) (abandons : Bool) (given : List Fragment) (payload : List ℕ) (i : ℕ) → payload_of (received_all (received_nothing limit abandons) given).fragments ≡ Some payload → i < length payload → list_any (has_byte i (get_or payload i 0)) given ≡ true
+pub from_fragments : (limit : ℕ) (abandons : Bool) (given : List Fragment) (payload : List ℕ) (i : ℕ) → payload_of (received_all (received_none limit abandons) given).fragments ≡ Some payload → i < length payload → list_any (has_byte i (get_or payload i 0)) given ≡ true
 from_fragments limit abandons given payload i whole less =
-    let s = received_all (received_nothing limit abandons) given in
+    let s = received_all (received_none limit abandons) given in
     let found = byte_from s.fragments i (get_or payload i 0) (payload_bytes s.fragments payload i whole less) in
     any_from_member (has_byte i (get_or payload i 0)) given found.one (received_given limit abandons given found.one found.among) found.passes
 
@@ -131,11 +131,11 @@ piece_accepted payload pieces s f split fits in_f pieces_only c =
           )
     ]
 
-pieces_received : (payload : List ℕ) (pieces : List Fragment) (limit : ℕ) (abandons : Bool) (given : List Fragment) → IsSplit payload pieces → length payload ≤ limit → are_among given pieces ≡ true → HasPieces limit given (received_all (received_nothing limit abandons) given)
+pieces_received : (payload : List ℕ) (pieces : List Fragment) (limit : ℕ) (abandons : Bool) (given : List Fragment) → IsSplit payload pieces → length payload ≤ limit → are_among given pieces ≡ true → HasPieces limit given (received_all (received_none limit abandons) given)
 pieces_received payload pieces limit abandons [] split fits all = record { limit_is = refl; abandoned = refl; consistent = tt; onto = λ g among. among }
 pieces_received payload pieces limit abandons (f ∷ fs) split fits all =
     let parts = and_parts (list_any (is_same f) pieces) (are_among fs pieces) all in
-    let s = received_all (received_nothing limit abandons) fs in
+    let s = received_all (received_none limit abandons) fs in
     let before : HasPieces limit fs s = pieces_received payload pieces limit abandons fs split fits parts.1 in
     let accepted = piece_accepted payload pieces s f split (subst (λ (n : ℕ). length payload ≤ n) (sym before.limit_is) fits) parts.0 (λ g among. among_from fs pieces g parts.1 (received_given limit abandons fs g among)) before.consistent in
     subst (HasPieces limit (f ∷ fs)) (sym (outcome_accepted s f before.abandoned accepted.0).1) (record {
@@ -186,9 +186,9 @@ some_pieces payload pieces limit fs p split c only in_p missing = elim (cases_Bo
   with_hole fs n i less hole (Some t) e = absurd (none-some (get_or t i 0) (sym hole ∙ (first_bytes_each fs n t e).1 i less))
 
 -- After fragments of a payload, in any order and repeated, it is whole exactly if each was among them.
-pub payload_of_pieces : (payload : List ℕ) (pieces : List Fragment) (limit : ℕ) (abandons : Bool) (given : List Fragment) → IsSplit payload pieces → length payload ≤ limit → are_among given pieces ≡ true → payload_of (received_all (received_nothing limit abandons) given).fragments ≡ cond (are_among pieces given) (Some payload) None
+pub payload_of_pieces : (payload : List ℕ) (pieces : List Fragment) (limit : ℕ) (abandons : Bool) (given : List Fragment) → IsSplit payload pieces → length payload ≤ limit → are_among given pieces ≡ true → payload_of (received_all (received_none limit abandons) given).fragments ≡ cond (are_among pieces given) (Some payload) None
 payload_of_pieces payload pieces limit abandons given split fits all =
-    let s = received_all (received_nothing limit abandons) given in
+    let s = received_all (received_none limit abandons) given in
     let h : HasPieces limit given s = pieces_received payload pieces limit abandons given split fits all in
     elim (cases_Bool (are_among pieces given)) [
       | inl each ↦ all_pieces payload pieces s.limit s.fragments split h.consistent (λ g among. h.onto g (among_from pieces given g each among)) ∙ sym (cond-true (are_among pieces given) (Some payload) None each)
@@ -204,10 +204,10 @@ some_if payload true = refl
 some_if payload false = refl
 
 -- The outcome of a fragment of a payload.
-pub outcome_of_piece : (payload : List ℕ) (pieces : List Fragment) (limit : ℕ) (abandons : Bool) (given : List Fragment) (f : Fragment) → IsSplit payload pieces → length payload ≤ limit → are_among (f ∷ given) pieces ≡ true → outcome_of (received_all (received_nothing limit abandons) given) f ≡ Ok (cond (are_among pieces (f ∷ given)) Whole MoreWanted)
+pub outcome_of_piece : (payload : List ℕ) (pieces : List Fragment) (limit : ℕ) (abandons : Bool) (given : List Fragment) (f : Fragment) → IsSplit payload pieces → length payload ≤ limit → are_among (f ∷ given) pieces ≡ true → outcome_of (received_all (received_none limit abandons) given) f ≡ Ok (cond (are_among pieces (f ∷ given)) Whole MoreWanted)
 outcome_of_piece payload pieces limit abandons given f split fits all =
     let parts = and_parts (list_any (is_same f) pieces) (are_among given pieces) all in
-    let s = received_all (received_nothing limit abandons) given in
+    let s = received_all (received_none limit abandons) given in
     let before : HasPieces limit given s = pieces_received payload pieces limit abandons given split fits parts.1 in
     let accepted = piece_accepted payload pieces s f split (subst (λ (n : ℕ). length payload ≤ n) (sym before.limit_is) fits) parts.0 (λ g among. among_from given pieces g parts.1 (received_given limit abandons given g among)) before.consistent in
     let outcome = outcome_accepted s f before.abandoned accepted.0 in
@@ -215,16 +215,16 @@ outcome_of_piece payload pieces limit abandons given f split fits all =
     outcome.0 ∙ ap Ok (ap (λ (o : Option (List ℕ)). cond (is_some o) Whole MoreWanted) after ∙ some_if payload (are_among pieces (f ∷ given)))
 
 -- The payload after fragments of one payload, and after any.
-pub shown_pieces : (shown : Option (List ℕ)) (payload : List ℕ) (pieces : List Fragment) (limit : ℕ) (abandons : Bool) (given : List Fragment) → IsSplit payload pieces → length payload ≤ limit → are_among given pieces ≡ true → (let s = received_all (received_nothing limit abandons) given in shown ≡ cond s.abandoned None (payload_of s.fragments)) → shown ≡ cond (are_among pieces given) (Some payload) None
+pub shown_pieces : (shown : Option (List ℕ)) (payload : List ℕ) (pieces : List Fragment) (limit : ℕ) (abandons : Bool) (given : List Fragment) → IsSplit payload pieces → length payload ≤ limit → are_among given pieces ≡ true → (let s = received_all (received_none limit abandons) given in shown ≡ cond s.abandoned None (payload_of s.fragments)) → shown ≡ cond (are_among pieces given) (Some payload) None
 shown_pieces shown payload pieces limit abandons given split fits all e =
-    let s = received_all (received_nothing limit abandons) given in
+    let s = received_all (received_none limit abandons) given in
     e ∙ (cond-false s.abandoned None (payload_of s.fragments) (pieces_received payload pieces limit abandons given split fits all).abandoned
     ∙ payload_of_pieces payload pieces limit abandons given split fits all)
 
-pub shown_bytes : (shown : Option (Bor (List ℕ))) (limit : ℕ) (abandons : Bool) (given : List Fragment) → (let s = received_all (received_nothing limit abandons) given in option_copied shown ≡ cond s.abandoned None (payload_of s.fragments)) → IfSome shown (λ payload. (i : ℕ) → i < length payload.now → list_any (has_byte i (get_or payload.now i 0)) given ≡ true)
+pub shown_bytes : (shown : Option (Bor (List ℕ))) (limit : ℕ) (abandons : Bool) (given : List Fragment) → (let s = received_all (received_none limit abandons) given in option_copied shown ≡ cond s.abandoned None (payload_of s.fragments)) → IfSome shown (λ payload. (i : ℕ) → i < length payload.now → list_any (has_byte i (get_or payload.now i 0)) given ≡ true)
 shown_bytes None limit abandons given e = tt
 shown_bytes (Some x) limit abandons given e =
-    let s = received_all (received_nothing limit abandons) given in
+    let s = received_all (received_none limit abandons) given in
     elim (cases_Bool s.abandoned) [
       | inl gone ↦ absurd (none-some x.now (sym (e ∙ cond-true s.abandoned None (payload_of s.fragments) gone)))
       | inr here ↦ λ i less. from_fragments limit abandons given x.now i (sym (e ∙ cond-false s.abandoned None (payload_of s.fragments) here)) less

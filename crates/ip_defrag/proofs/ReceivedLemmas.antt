@@ -16,7 +16,7 @@ use Rattle.ip_defrag.specs.Refusal.{refusal}
 use Rattle.std.specs.Prelude.{Ok, Err}
 use Rattle.std.proofs.lemmas.List.{get_or-replicate, get_or_past, length-replicate}
 use Rattle.ip_defrag.specs.Refusal.{is_conflict}
-use Rattle.ip_defrag.specs.Received.{Received, received_nothing, with_fragment, progress_of, outcome_by, outcome_of, received_by, received_after}
+use Rattle.ip_defrag.specs.Received.{Received, received_none, with_fragment, progress_of, outcome_by, outcome_of, received_by, received_after}
 use Rattle.ip_defrag.specs.Reassembly.{Fields, AreReceived, IsNew}
 use Rattle.ip_defrag.proofs.FragmentLemmas.{same_among, whole_units, in_bounds, is_in_bounds, out_of_bounds, overlaps_at}
 use Rattle.ip_defrag.proofs.MemberLemmas.{any_from_member, member_sound, member_within, member_ended, member_last, ends_elsewhere, two_ends_from, one_end_from, member_one_end}
@@ -282,7 +282,7 @@ not_not true = refl
 not_not false = refl
 
 -- Nothing has been received.
-pub has_nothing : (r : Fields) (abandons : Bool) → ((i : ℕ) → mark_of r.marks i ≡ 0) → run_end r.run ≡ 0 → r.reach ≡ 0 → r.count ≡ 0 → r.is_ended ≡ false → r.is_abandoned ≡ false → r.abandons ≡ abandons → AreReceived r (received_nothing (min (length r.buffer) 65535) abandons)
+pub has_nothing : (r : Fields) (abandons : Bool) → ((i : ℕ) → mark_of r.marks i ≡ 0) → run_end r.run ≡ 0 → r.reach ≡ 0 → r.count ≡ 0 → r.is_ended ≡ false → r.is_abandoned ≡ false → r.abandons ≡ abandons → AreReceived r (received_none (min (length r.buffer) 65535) abandons)
 has_nothing r abandons marks run reach count ended abandoned same = record {
   limit = refl;
   abandons = same;
@@ -387,7 +387,7 @@ removed r s start end i m h last first is = is ∙ elim (cases_Bool (leb (4 * st
 ]
 
 -- Nothing has been received after the marks were removed.
-pub received_cleared : (r q : Fields) (s : Received) → AreReceived r s → ((i : ℕ) → mark_of q.marks i ≡ 0) → run_end q.run ≡ 0 → q.buffer ≡ r.buffer → q.reach ≡ 0 → q.count ≡ 0 → q.is_ended ≡ false → q.is_abandoned ≡ false → q.abandons ≡ r.abandons → AreReceived q (received_nothing s.limit s.abandons)
+pub received_cleared : (r q : Fields) (s : Received) → AreReceived r s → ((i : ℕ) → mark_of q.marks i ≡ 0) → run_end q.run ≡ 0 → q.buffer ≡ r.buffer → q.reach ≡ 0 → q.count ≡ 0 → q.is_ended ≡ false → q.is_abandoned ≡ false → q.abandons ≡ r.abandons → AreReceived q (received_none s.limit s.abandons)
 received_cleared r q s h marks run buffer reach count ended abandoned abandons =
-    subst (λ (n : ℕ). AreReceived q (received_nothing n s.abandons)) (ap (λ (b : List ℕ). min (length b) 65535) buffer ∙ sym h.limit)
+    subst (λ (n : ℕ). AreReceived q (received_none n s.abandons)) (ap (λ (b : List ℕ). min (length b) 65535) buffer ∙ sym h.limit)
     (has_nothing q s.abandons marks run reach count ended abandoned (abandons ∙ h.abandons))

@@ -1,5 +1,5 @@
 -- What a reassembly has received.
-use Rattle.std.specs.Prelude.{ℕ, ◌&&◌, Bool, false, List, [], ◌∷◌, Option, None, Some, is_some, Result, Ok, Err, if◌then◌else◌}
+use Rattle.std.specs.Prelude.{ℕ, ◌&&◌, Bool, true, false, List, [], ◌∷◌, Option, None, Some, is_some, Result, Ok, Err, if◌then◌else◌}
 use Rattle.std.specs.List.{list_any}
 use Rattle.ip_defrag.specs.Fragment.{Fragment, is_same}
 use Rattle.ip_defrag.specs.Payload.{payload_of}
@@ -18,12 +18,20 @@ pub record Received : Type 0 where
   pub fragments : List Fragment
 
 -- no fragments, of a packet that wasn't abandoned
-abbrev pub received_nothing : ℕ → Bool → Received
-received_nothing limit abandons = record { limit = limit; abandons = abandons; abandoned = false; fragments = [] }
+abbrev pub received_none : ℕ → Bool → Received
+received_none limit abandons = record { limit = limit; abandons = abandons; abandoned = false; fragments = [] }
 
 -- the fragments with one more, unless it is among them
 abbrev pub with_fragment : List Fragment → Fragment → List Fragment
 with_fragment fs f = if list_any (is_same f) fs then fs else f ∷ fs
+
+-- the packet was abandoned
+abbrev pub given_up : Received → Received
+given_up s = record s { abandoned = true }
+
+-- the payload, if it is whole and the packet wasn't abandoned
+abbrev pub payload_in : Received → Option (List ℕ)
+payload_in s = if s.abandoned then None else payload_of s.fragments
 
 -- whether the payload of these fragments is whole
 abbrev pub progress_of : List Fragment → Progress

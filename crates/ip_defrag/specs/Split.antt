@@ -2,7 +2,7 @@
 use Rattle.std.specs.Prelude.{◌≡◌, ℕ, ◌+◌, ◌%◌, ◌<◌, ◌≤◌, Bool, true, false, List, [], ◌∷◌, take, drop, length}
 use Rattle.std.specs.List.{list_any, list_all}
 use Rattle.ip_defrag.specs.Fragment.{Fragment, is_same}
-use Rattle.ip_defrag.specs.Received.{received_nothing, received_all}
+use Rattle.ip_defrag.specs.Received.{received_none, received_all}
 use Rattle.ip_defrag.specs.Reassembly.{HasReceived}
 use Rattle.ip_defrag.specs.declared.reassembly.Reassembly.{Reassembly}
 
@@ -24,4 +24,4 @@ are_among fs gs = list_all (λ f. list_any (is_same f) gs) fs
 
 -- The reassembly was new, with room for so many bytes, and then these fragments were added, the newest first.
 abbrev pub WasGiven : Reassembly → ℕ → Bool → List Fragment → Type 0
-WasGiven r limit abandons fs = HasReceived r (received_all (received_nothing limit abandons) fs)
+WasGiven r limit abandons fs = HasReceived r (received_all (received_none limit abandons) fs)

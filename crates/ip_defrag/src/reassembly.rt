@@ -20,8 +20,7 @@ impl<'a> Reassembly<'a> {
     ghost use Rattle.std.specs.List.{list_any};
     ghost use Rattle.std.specs.Option.{option_copied};
     ghost use Rattle.ip_defrag.specs.Fragment.{Fragment, fragment_at, has_byte};
-    ghost use Rattle.ip_defrag.specs.Payload.{payload_of};
-    ghost use Rattle.ip_defrag.specs.Received.{Received, received_nothing, outcome_of, received_after};
+    ghost use Rattle.ip_defrag.specs.Received.{given_up, payload_in, received_none, outcome_of, received_after};
     ghost use Rattle.ip_defrag.specs.Reassembly.{HasReceived};
     ghost use Rattle.ip_defrag.specs.Split.{IsSplit, are_among, WasGiven};
 
@@ -61,16 +60,15 @@ impl<'a> Reassembly<'a> {
         more: bool,
         bytes: &[u8],
     ) -> Result<Progress, AddError>
-        ensures outcome { (s : Received) → HasReceived self.old s
+        ensures outcome { (s : _) → HasReceived self.old s
             → result ≡ outcome_of s (fragment_at offset more bytes.now) }
-        ensures received { (s : Received) → HasReceived self.old s
+        ensures received { (s : _) → HasReceived self.old s
             → HasReceived self.new (received_after s (fragment_at offset more bytes.now)) }
-        ensures given { (limit : ℕ) (abandons : Bool) (given : List Fragment)
-            → WasGiven self.old limit abandons given
+        ensures given { (limit abandons given : _) → WasGiven self.old limit abandons given
             → WasGiven self.new limit abandons (fragment_at offset more bytes.now ∷ given) }
 
         // The fragments of one payload, in any order and repeated, make it whole once each of them was added.
-        ensures pieces { (payload : List ℕ) (pieces given : List Fragment) (limit : ℕ) (abandons : Bool)
+        ensures pieces { (payload pieces given limit abandons : _)
             → WasGiven self.old limit abandons given
             → IsSplit payload pieces → length payload ≤ limit
             → are_among (fragment_at offset more bytes.now ∷ given) pieces ≡ true
@@ -82,18 +80,16 @@ impl<'a> Reassembly<'a> {
 
     /// Returns the payload if it is whole and wasn't abandoned.
     pub fn payload(&self) -> Option<&[u8]>
-        ensures received { (s : Received) → HasReceived self.now s
-            → option_copied result ≡ (if s.abandoned then None else payload_of s.fragments) }
+        ensures received { (s : _) → HasReceived self.now s → option_copied result ≡ payload_in s }
 
         // After the fragments of one payload, in any order and repeated, it is that payload.
-        ensures pieces { (payload : List ℕ) (pieces given : List Fragment) (limit : ℕ) (abandons : Bool)
+        ensures pieces { (payload pieces given limit abandons : _)
             → WasGiven self.now limit abandons given
             → IsSplit payload pieces → length payload ≤ limit → are_among given pieces ≡ true
             → option_copied result ≡ (if are_among pieces given then Some payload else None) }
 
         // After any fragments, each byte is one that a fragment had at its offset.
-        ensures bytes { (given : List Fragment) (limit : ℕ) (abandons : Bool)
-            → WasGiven self.now limit abandons given
+        ensures bytes { (given limit abandons : _) → WasGiven self.now limit abandons given
             → IfSome result (λ payload. (i : ℕ) → i < length payload.now
             → list_any (has_byte i (slice_index payload.now i)) given ≡ true) }
     {
@@ -103,23 +99,21 @@ impl<'a> Reassembly<'a> {
     /// Abandons the packet, as after a conflict (RFC 5722). `add` refuses every further fragment, and `payload` returns
     /// `None`, until `clear` is called.
     pub fn abandon(&mut self)
-        ensures { (s : Received) → HasReceived self.old s
-            → HasReceived self.new (record s { abandoned = true }) }
+        ensures { (s : _) → HasReceived self.old s → HasReceived self.new (given_up s) }
     {
         self.state.abandon();
     }
 
     /// Returns whether the packet was abandoned.
     pub fn is_abandoned(&self) -> bool
-        ensures { (s : Received) → HasReceived self.now s → result ≡ s.abandoned }
+        ensures { (s : _) → HasReceived self.now s → result ≡ s.abandoned }
     {
         self.state.is_abandoned()
     }
 
     /// Forgets all fragments, so that another packet can be reassembled in the same buffer. It isn't abandoned.
     pub fn clear(&mut self)
-        ensures { (s : Received) → HasReceived self.old s
-            → WasGiven self.new s.limit s.abandons [] }
+        ensures { (s : _) → HasReceived self.old s → WasGiven self.new s.limit s.abandons [] }
     {
         self.state.clear();
     }

@@ -82,9 +82,8 @@ impl ReassemblyState {
     ghost use Rattle.std.specs.List.{list_any};
     ghost use Rattle.std.specs.Option.{option_copied};
     ghost use Rattle.ip_defrag.specs.Fragment.{fragment_at, is_same};
-    ghost use Rattle.ip_defrag.specs.Payload.{payload_of};
     ghost use Rattle.ip_defrag.specs.Refusal.{refusal, is_conflict};
-    ghost use Rattle.ip_defrag.specs.Received.{Received, received_nothing, with_fragment, progress_of, outcome_of, received_after};
+    ghost use Rattle.ip_defrag.specs.Received.{given_up, payload_in, received_none, with_fragment, progress_of, outcome_of, received_after};
     ghost use Rattle.ip_defrag.specs.Reassembly.{HasArrived, IsNew, IsSound, is_set};
     ghost use Rattle.ip_defrag.specs.Marks.{mark_of};
     ghost use Rattle.ip_defrag.specs.Run.{mark_by};
@@ -92,8 +91,7 @@ impl ReassemblyState {
     /// Returns a state in which nothing has arrived, of a packet that a conflict abandons or not: an overlap or two ends
     /// (RFC 5722; RFC 8200, section 4.5). The payload can be as long as the buffer, and at most 65,535 bytes.
     pub fn new(abandons: bool) -> ReassemblyState
-        ensures { (buffer : List ℕ)
-            → HasArrived result buffer (received_nothing (min (length buffer) 65535) abandons) }
+        ensures { (b : _) → HasArrived result b (received_none (min (length b) 65535) abandons) }
     {
         ReassemblyState {
             marks: [0; MARKS],
@@ -108,8 +106,7 @@ impl ReassemblyState {
 
     /// Forgets whatever the state was, so that nothing has arrived, of a packet that a conflict abandons or not.
     pub fn reset(&mut self, abandons: bool)
-        ensures { (buffer : List ℕ)
-            → HasArrived self.new buffer (received_nothing (min (length buffer) 65535) abandons) }
+        ensures { (b : _) → HasArrived self.new b (received_none (min (length b) 65535) abandons) }
     {
         *self = ReassemblyState::new(abandons);
     }
@@ -126,9 +123,9 @@ impl ReassemblyState {
         more: bool,
         bytes: &[u8],
     ) -> Result<Progress, AddError>
-        ensures outcome { (s : Received) → HasArrived self.old buffer.old s
+        ensures outcome { (s : _) → HasArrived self.old buffer.old s
             → result ≡ outcome_of s (fragment_at offset more bytes.now) }
-        ensures received { (s : Received) → HasArrived self.old buffer.old s
+        ensures received { (s : _) → HasArrived self.old buffer.old s
             → HasArrived self.new buffer.new (received_after s (fragment_at offset more bytes.now)) }
     {
         if is_set(self.abandoned) {
@@ -150,8 +147,7 @@ impl ReassemblyState {
 
     /// Returns the payload, in the buffer, if it is whole and the packet wasn't abandoned.
     pub fn payload<'b>(&self, buffer: &'b [u8]) -> Option<&'b [u8]>
-        ensures { (s : Received) → HasArrived self.now buffer.now s
-            → option_copied result ≡ (if s.abandoned then None else payload_of s.fragments) }
+        ensures { (s : _) → HasArrived self.now buffer.now s → option_copied result ≡ payload_in s }
     {
         if !self.has_payload() {
             return None;
@@ -162,24 +158,22 @@ impl ReassemblyState {
     /// Abandons the packet, as after a conflict (RFC 5722). `add` refuses every further fragment, and `payload` returns
     /// `None`, until `clear` is called.
     pub fn abandon(&mut self)
-        ensures { (buffer : List ℕ) (s : Received) → HasArrived self.old buffer s
-            → HasArrived self.new buffer (record s { abandoned = true }) }
+        ensures { (b s : _) → HasArrived self.old b s → HasArrived self.new b (given_up s) }
     {
         self.abandoned = 1;
     }
 
     /// Returns whether the packet was abandoned.
     pub fn is_abandoned(&self) -> bool
-        ensures { (buffer : List ℕ) (s : Received) → HasArrived self.now buffer s
-            → result ≡ s.abandoned }
+        ensures { (b s : _) → HasArrived self.now b s → result ≡ s.abandoned }
     {
         is_set(self.abandoned)
     }
 
     /// Forgets all fragments, so that another packet can be reassembled in the same buffer. It isn't abandoned.
     pub fn clear(&mut self)
-        ensures { (buffer : List ℕ) (s : Received) → HasArrived self.old buffer s
-            → HasArrived self.new buffer (received_nothing s.limit s.abandons) }
+        ensures { (b s : _) → HasArrived self.old b s
+            → HasArrived self.new b (received_none s.limit s.abandons) }
     {
         self.unmark();
         self.run = Run { units: 0, count: 0 };
@@ -192,7 +186,7 @@ impl ReassemblyState {
     /// Removes all marks. If all fragments are in the run, there are none, and their memory is not touched.
     #[inline(always)]
     fn unmark(&mut self)
-        ensures marks { (buffer : List ℕ) (s : Received) → HasArrived self.old buffer s
+        ensures marks { (b s : _) → HasArrived self.old b s
             → (i : ℕ) → mark_of self.new.marks i ≡ 0 }
         ensures kept { self.new.kept ≡ self.old.kept }
     {
@@ -231,7 +225,7 @@ impl ReassemblyState {
     /// Returns whether the payload is whole.
     #[inline(always)]
     fn progress(&self, buffer: &[u8]) -> Progress
-        ensures { (s : Received) → HasArrived self.now buffer.now s → result ≡ progress_of s.fragments }
+        ensures { (s : _) → HasArrived self.now buffer.now s → result ≡ progress_of s.fragments }
     {
         let _ = buffer;
         if self.is_whole() {
@@ -246,7 +240,7 @@ impl ReassemblyState {
         requires some { 0 < length bytes.now }
         requires within { 8 * first + length bytes.now ≤ length buffer.now }
         requires short { 8 * first + length bytes.now ≤ 65535 }
-        ensures { (s : Received) → HasArrived self.now buffer.now s
+        ensures { (s : _) → HasArrived self.now buffer.now s
             → IsSound s.limit (fragment_at first more bytes.now)
             → result ≡ list_any (is_same (fragment_at first more bytes.now)) s.fragments }
     {
@@ -280,7 +274,7 @@ impl ReassemblyState {
     fn are_free(&self, first: usize, end: usize) -> bool
         requires ordered { first ≤ end }
         requires within { end ≤ 8192 }
-        ensures free { (buffer : List ℕ) (s : Received) → HasArrived self.now buffer s → IsTrue result
+        ensures free { (b s : _) → HasArrived self.now b s → IsTrue result
             ↔ ((i : ℕ) → first ≤ i → i < end → mark_by self.now.run self.now.marks i ≡ 0) }
         ensures some { result ≡ false → first < end }
     {
@@ -293,7 +287,7 @@ impl ReassemblyState {
         ensures within { IfOk result (λ is_new. is_new ≡ true
             → (8 * first + length bytes.now ≤ length buffer.now)
             × (8 * first + length bytes.now ≤ 65535)) }
-        ensures verdict { (s : Received) → HasArrived self.now buffer.now s → MatchResult result
+        ensures verdict { (s : _) → HasArrived self.now buffer.now s → MatchResult result
             (λ is_new. MatchBool is_new (IsNew s (fragment_at first more bytes.now))
             ((refusal s.limit s.fragments (fragment_at first more bytes.now) ≡ None)
             × (list_any (is_same (fragment_at first more bytes.now)) s.fragments ≡ true)))
@@ -322,7 +316,7 @@ impl ReassemblyState {
     fn keep(&mut self, buffer: &mut [u8], first: usize, more: bool, bytes: &[u8])
         requires within { 8 * first + length bytes.now ≤ length buffer.old }
         requires short { 8 * first + length bytes.now ≤ 65535 }
-        ensures { (s : Received) → HasArrived self.old buffer.old s → IsNew s (fragment_at first more bytes.now)
+        ensures { (s : _) → HasArrived self.old buffer.old s → IsNew s (fragment_at first more bytes.now)
             → HasArrived self.new buffer.new
             (record s { fragments = with_fragment s.fragments (fragment_at first more bytes.now) }) }
     {

@@ -3,7 +3,7 @@ use Rattle.std.proofs.Common.{◌≡◌, ℕ, true, false, List, [], ◌∷◌, 
 use Rattle.std.specs.Prelude.{Option, Some, None}
 use Rattle.ip_defrag.specs.Fragment.{Fragment}
 use Rattle.ip_defrag.specs.Refusal.{refusal}
-use Rattle.ip_defrag.specs.Received.{Received, received_nothing, received_by, received_after, received_all}
+use Rattle.ip_defrag.specs.Received.{Received, received_none, received_by, received_after, received_all}
 use Rattle.ip_defrag.specs.declared.err.AddError.{AddError}
 use Rattle.ip_defragmenter.specs.FragmentOf.{FragmentParts}
 use Rattle.ip_defragmenter.specs.Memory.{is_too_long, piece_of, stored_after}
@@ -32,10 +32,10 @@ keeps_all s (f ∷ fs) =
     record { limit = after.limit ∙ before.limit; abandons = after.abandons ∙ before.abandons }
 
 -- what the payload has received after a fragment, by the fragments that the memory then holds
-pub stored_is : (limit : ℕ) (held : List Fragment) (f : FragmentParts) → stored_after (received_all (received_nothing limit true) held) f ≡ received_all (received_nothing limit true) (held_after held f)
+pub stored_is : (limit : ℕ) (held : List Fragment) (f : FragmentParts) → stored_after (received_all (received_none limit true) held) f ≡ received_all (received_none limit true) (held_after held f)
 stored_is limit held f =
-    let s : Received = received_all (received_nothing limit true) held in
-    elim (is_too_long f) as (λ b. cond b s (received_after s (piece_of f)) ≡ received_all (received_nothing limit true) (cond b held (piece_of f ∷ held))) [
+    let s : Received = received_all (received_none limit true) held in
+    elim (is_too_long f) as (λ b. cond b s (received_after s (piece_of f)) ≡ received_all (received_none limit true) (cond b held (piece_of f ∷ held))) [
       | true ↦ refl
       | false ↦ refl
     ]

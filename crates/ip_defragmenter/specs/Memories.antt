@@ -2,7 +2,7 @@
 use Rattle.std.specs.Prelude.{◌≡◌, ℕ, Bool, true, List, [], ◌∷◌, Option, Some, None, Result, if◌then◌else◌}
 use Rattle.std.specs.Result.{is_ok}
 use Rattle.ip_defrag.specs.Fragment.{Fragment}
-use Rattle.ip_defrag.specs.Received.{received_nothing, received_all}
+use Rattle.ip_defrag.specs.Received.{received_none, received_all}
 use Rattle.ip_defrag.specs.declared.progress.Progress.{Progress}
 use Rattle.ip_defragmenter.specs.FragmentOf.{FragmentParts}
 use Rattle.ip_defragmenter.specs.Memory.{WasStored, first_in, first_after, is_too_long, piece_of, stored_outcome}
@@ -21,7 +21,7 @@ held_after held f = if is_too_long f then held else piece_of f ∷ held
 pub record IsStored (m n : PacketMemory) (is_known : Bool) (f : FragmentParts) (r : Result Progress StoreError) : Type 0 where
   pub first : first_in n ≡ first_after (if is_known then first_in m else None) (is_ok r) f
   pub given : (limit : ℕ) (held : List Fragment) → WasStored m limit held → WasStored n limit (held_after (kept_in is_known held) f)
-  pub outcome : (limit : ℕ) (held : List Fragment) → WasStored m limit held → r ≡ stored_outcome (received_all (received_nothing limit true) (kept_in is_known held)) f
+  pub outcome : (limit : ℕ) (held : List Fragment) → WasStored m limit held → r ≡ stored_outcome (received_all (received_none limit true) (kept_in is_known held)) f
 
 -- and it is there
 abbrev pub IsStoredIn : PacketMemory → Option PacketMemory → Bool → FragmentParts → Result Progress StoreError → Type 0

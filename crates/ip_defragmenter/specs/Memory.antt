@@ -2,8 +2,7 @@
 use Rattle.std.specs.Prelude.{ℕ, Bool, true, ◌&&◌, ◌==◌, nat_lt, nat_le, List, length, take, Option, Some, None, is_some, not, Result, Err, if◌then◌else◌}
 use Rattle.std.specs.Result.{result_map_both}
 use Rattle.ip_defrag.specs.Fragment.{Fragment, fragment_at}
-use Rattle.ip_defrag.specs.Payload.{payload_of}
-use Rattle.ip_defrag.specs.Received.{Received, received_nothing, received_all, outcome_of, received_after}
+use Rattle.ip_defrag.specs.Received.{Received, received_none, received_all, outcome_of, received_after}
 use Rattle.ip_defrag.specs.Reassembly.{HasArrived, is_set}
 use Rattle.ip_defrag.specs.declared.progress.Progress.{Progress}
 use Rattle.ip_defragmenter.specs.FragmentOf.{FragmentParts}
@@ -17,7 +16,7 @@ HoldsReceived m s = HasArrived m.state m.payload s
 
 -- The memory was new, with room for so many bytes of payload, and then these fragments were added, the newest first.
 abbrev pub WasStored : PacketMemory → ℕ → List Fragment → Type 0
-WasStored m limit fs = HoldsReceived m (received_all (received_nothing limit true) fs)
+WasStored m limit fs = HoldsReceived m (received_all (received_none limit true) fs)
 
 -- what the whole packet takes from its first fragment: its headers, the offset in them of the field with the number of
 -- what follows them, and the number of what the payload starts with
@@ -57,7 +56,3 @@ stored_after s f = if is_too_long f then s else received_after s (piece_of f)
 -- what is kept of the first fragment, after this one was accepted or not
 abbrev pub first_after : Option FirstParts → Bool → FragmentParts → Option FirstParts
 first_after o accepted f = if accepted && (f.offset == 0) && not (is_some o) then Some (first_of f) else o
-
--- the payload, if it is whole and the packet wasn't abandoned
-abbrev pub payload_in : Received → Option (List ℕ)
-payload_in s = if s.abandoned then None else payload_of s.fragments

@@ -45,9 +45,9 @@ impl PacketMemory {
     ghost use Rattle.ip_defrag.specs.Fragment.{Fragment, fragment_at};
     ghost use Rattle.ip_defrag.specs.Split.{IsSplit, are_among};
     ghost use Rattle.ip_defragmenter.specs.Whole.{whole_packet, whole_fault};
-    ghost use Rattle.ip_defragmenter.specs.Memory.{WasStored, HoldsReceived, FirstParts, kept_headers, first_in, first_of, first_after, is_too_long, piece_of, stored_outcome, stored_after, payload_in};
+    ghost use Rattle.ip_defragmenter.specs.Memory.{WasStored, HoldsReceived, FirstParts, kept_headers, first_in, first_of, first_after, is_too_long, piece_of, stored_outcome, stored_after};
     ghost use Rattle.ip_defragmenter.specs.FragmentOf.{parts_of};
-    ghost use Rattle.ip_defrag.specs.Received.{Received};
+    ghost use Rattle.ip_defrag.specs.Received.{payload_in};
     ghost use Rattle.std.specs.Result.{result_err, is_ok};
 
     /// Returns a memory without fragments.
@@ -93,9 +93,9 @@ impl PacketMemory {
     /// fragment is the first and its headers are longer than their buffer. After a conflict, an overlap or two ends, the
     /// packet is abandoned (RFC 5722).
     pub fn add(&mut self, fragment: &IpFragment<'_>) -> Result<Progress, StoreError>
-        ensures outcome { (s : Received) → HoldsReceived self.old s
+        ensures outcome { (s : _) → HoldsReceived self.old s
             → result ≡ stored_outcome s (parts_of fragment.now) }
-        ensures received { (s : Received) → HoldsReceived self.old s
+        ensures received { (s : _) → HoldsReceived self.old s
             → HoldsReceived self.new (stored_after s (parts_of fragment.now)) }
         ensures first { first_in self.new
             ≡ first_after (first_in self.old) (is_ok result) (parts_of fragment.now) }
@@ -114,9 +114,9 @@ impl PacketMemory {
 
     /// Adds a fragment, by what has been received.
     fn add_received(&mut self, fragment: &IpFragment<'_>) -> Result<Progress, StoreError>
-        ensures outcome { (s : Received) → HoldsReceived self.old s
+        ensures outcome { (s : _) → HoldsReceived self.old s
             → result ≡ stored_outcome s (parts_of fragment.now) }
-        ensures received { (s : Received) → HoldsReceived self.old s
+        ensures received { (s : _) → HoldsReceived self.old s
             → HoldsReceived self.new (stored_after s (parts_of fragment.now)) }
         ensures first { first_in self.new
             ≡ first_after (first_in self.old) (is_ok result) (parts_of fragment.now) }
@@ -196,13 +196,13 @@ impl PacketMemory {
     /// Writes the whole packet to the start of `out`, as `write_packet` does, and returns its length in bytes. Returns
     /// `None` and leaves `out` as it is if the packet isn't whole, or was abandoned.
     pub fn write(&self, out: &mut [u8]) -> Result<Option<usize>, WholeError>
-        ensures not_whole { (s : Received) → HoldsReceived self.now s
+        ensures not_whole { (s : _) → HoldsReceived self.now s
             → payload_in s ≡ None → (result ≡ Ok None) × (out.new ≡ out.old) }
         ensures not_first { first_in self.now ≡ None → (result ≡ Ok None) × (out.new ≡ out.old) }
-        ensures fault { (s : Received) (f : FirstParts) (payload : List ℕ)
+        ensures fault { (s f payload : _)
             → HoldsReceived self.now s → payload_in s ≡ Some payload → first_in self.now ≡ Some f
             → result_err result ≡ whole_fault f.headers f.link (length payload) (length out.old) }
-        ensures written { (s : Received) (f : FirstParts) (payload : List ℕ)
+        ensures written { (s f payload : _)
             → HoldsReceived self.now s → payload_in s ≡ Some payload → first_in self.now ≡ Some f
             → OnOk result ((result ≡ Ok (Some (length f.headers + length payload)))
             × (out.new ≡ whole_packet f.headers f.link f.number payload
@@ -224,13 +224,13 @@ impl PacketMemory {
 
     /// Writes the whole packet, by what has been received.
     fn write_received(&self, out: &mut [u8]) -> Result<Option<usize>, WholeError>
-        ensures not_whole { (s : Received) → HoldsReceived self.now s
+        ensures not_whole { (s : _) → HoldsReceived self.now s
             → payload_in s ≡ None → (result ≡ Ok None) × (out.new ≡ out.old) }
         ensures not_first { first_in self.now ≡ None → (result ≡ Ok None) × (out.new ≡ out.old) }
-        ensures fault { (s : Received) (f : FirstParts) (payload : List ℕ)
+        ensures fault { (s f payload : _)
             → HoldsReceived self.now s → payload_in s ≡ Some payload → first_in self.now ≡ Some f
             → result_err result ≡ whole_fault f.headers f.link (length payload) (length out.old) }
-        ensures written { (s : Received) (f : FirstParts) (payload : List ℕ)
+        ensures written { (s f payload : _)
             → HoldsReceived self.now s → payload_in s ≡ Some payload → first_in self.now ≡ Some f
             → OnOk result ((result ≡ Ok (Some (length f.headers + length payload)))
             × (out.new ≡ whole_packet f.headers f.link f.number payload

@@ -1,11 +1,11 @@
 //! Packets from their fragments.
 ghost use Rattle.std.specs.Prelude.{◌≡◌, ◌+◌, ◌++◌, ℕ, List, length, drop, true, false, IsTrue, Ok, Err, Some, None};
 ghost use Rattle.ip_dissect.specs.Dissection.{dissected};
-ghost use Rattle.ip_defrag.specs.Received.{Received};
+ghost use Rattle.ip_defrag.specs.Received.{payload_in};
 ghost use Rattle.ip_defragmenter.specs.FragmentOf.{FragmentParts, fragment_in};
 ghost use Rattle.ip_defragmenter.specs.Added.{IsAdded, added_nothing};
 ghost use Rattle.ip_defragmenter.specs.Counts.{counted, counted_loss, added_fields};
-ghost use Rattle.ip_defragmenter.specs.Memory.{HoldsReceived, FirstParts, first_in, payload_in};
+ghost use Rattle.ip_defragmenter.specs.Memory.{HoldsReceived, first_in};
 ghost use Rattle.ip_defragmenter.specs.Whole.{whole_packet, whole_fault};
 ghost use Rattle.ip_defragmenter.specs.Slot.{free_slot};
 ghost use Rattle.ip_defragmenter.specs.Slots.{loss_of};
@@ -87,13 +87,13 @@ pub extern "C" fn wolfaren_write_whole_packet(
     out: &mut [u8],
     len: &mut usize,
 ) -> bool
-    ensures not_whole { (s : Received) → HoldsReceived memory.now s → payload_in s ≡ None → result ≡ false }
+    ensures not_whole { (s : _) → HoldsReceived memory.now s → payload_in s ≡ None → result ≡ false }
     ensures not_first { first_in memory.now ≡ None → result ≡ false }
-    ensures refused { (s : Received) (f : FirstParts) (payload : List ℕ)
+    ensures refused { (s f payload : _)
         → HoldsReceived memory.now s → payload_in s ≡ Some payload → first_in memory.now ≡ Some f
         → result ≡ false
         → whole_fault f.headers f.link (length payload) (length out.old) ≡ None → ⊥ }
-    ensures written { (s : Received) (f : FirstParts) (payload : List ℕ)
+    ensures written { (s f payload : _)
         → HoldsReceived memory.now s → payload_in s ≡ Some payload → first_in memory.now ≡ Some f
         → IsTrue result → (len.new ≡ length f.headers + length payload)
         × (out.new ≡ whole_packet f.headers f.link f.number payload ++ drop len.new out.old)

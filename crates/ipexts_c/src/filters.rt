@@ -69,8 +69,8 @@ pub extern "C" fn wolfaren_filter_packets(
 ) -> bool
     ensures matches { IsTrue result → matches.new ≡ filled
         (matches_of filter.now (packets_at bytes.entry.slice.now spans.now)) matches.old }
-    ensures within { IsTrue result → (first_outside bytes.entry.slice.now spans.now ≡ None)
-        × (outside.new ≡ outside.old) }
+    ensures within { IsTrue result → first_outside bytes.entry.slice.now spans.now ≡ None }
+    ensures kept { IsTrue result → outside.new ≡ outside.old }
     ensures outside { result ≡ false
         → first_outside bytes.entry.slice.now spans.now ≡ Some outside.new }
     ensures same { result ≡ false → matches.new ≡ matches.old }

@@ -27,8 +27,8 @@ pub extern "C" fn wolfaren_parse_packet(
     ensures packet { IsTrue result → IsPacketParts bytes.entry.slice.now spans.old packet.new spans.new }
     ensures within { IsTrue result
         → packet.new.payload_offset + packet.new.payload_len ≤ length bytes.entry.slice.now }
-    ensures no_fault { IsTrue result
-        → (ip_fault_fields bytes.entry.slice.now ≡ None) × (fault.new ≡ fault.old) }
+    ensures no_fault { IsTrue result → ip_fault_fields bytes.entry.slice.now ≡ None }
+    ensures kept { IsTrue result → fault.new ≡ fault.old }
     ensures fault { result ≡ false → ip_fault_fields bytes.entry.slice.now ≡ Some fault.new }
     ensures same { result ≡ false → (packet.new ≡ packet.old) × (spans.new ≡ spans.old) }
 {
@@ -46,8 +46,8 @@ pub extern "C" fn wolfaren_parse_packet_lax(
     ensures packet { IsTrue result → IsPacketParts bytes.entry.slice.now spans.old packet.new spans.new }
     ensures within { IsTrue result
         → packet.new.payload_offset + packet.new.payload_len ≤ length bytes.entry.slice.now }
-    ensures no_fault { IsTrue result
-        → (lax_ip_fault_fields bytes.entry.slice.now ≡ None) × (fault.new ≡ fault.old) }
+    ensures no_fault { IsTrue result → lax_ip_fault_fields bytes.entry.slice.now ≡ None }
+    ensures kept { IsTrue result → fault.new ≡ fault.old }
     ensures fault { result ≡ false → lax_ip_fault_fields bytes.entry.slice.now ≡ Some fault.new }
     ensures same { result ≡ false → (packet.new ≡ packet.old) × (spans.new ≡ spans.old) }
 {
@@ -66,10 +66,10 @@ pub extern "C" fn wolfaren_find_payload(
         → payload.new ≡ payload_span (version bytes.entry.slice.now) (parts_in bytes.entry.slice.now) }
     ensures within { IsTrue result
         → payload.new.offset + payload.new.len ≤ length bytes.entry.slice.now }
-    ensures no_fault { IsTrue result
-        → (ip_fault_fields bytes.entry.slice.now ≡ None) × (fault.new ≡ fault.old) }
-    ensures fault { result ≡ false
-        → (ip_fault_fields bytes.entry.slice.now ≡ Some fault.new) × (payload.new ≡ payload.old) }
+    ensures no_fault { IsTrue result → ip_fault_fields bytes.entry.slice.now ≡ None }
+    ensures kept { IsTrue result → fault.new ≡ fault.old }
+    ensures fault { result ≡ false → ip_fault_fields bytes.entry.slice.now ≡ Some fault.new }
+    ensures same { result ≡ false → payload.new ≡ payload.old }
 {
     put_result(find_payload(bytes.slice()), payload, fault)
 }
@@ -85,10 +85,10 @@ pub extern "C" fn wolfaren_find_payload_lax(
         → payload.new ≡ payload_span (version bytes.entry.slice.now) (parts_in bytes.entry.slice.now) }
     ensures within { IsTrue result
         → payload.new.offset + payload.new.len ≤ length bytes.entry.slice.now }
-    ensures no_fault { IsTrue result
-        → (lax_ip_fault_fields bytes.entry.slice.now ≡ None) × (fault.new ≡ fault.old) }
-    ensures fault { result ≡ false
-        → (lax_ip_fault_fields bytes.entry.slice.now ≡ Some fault.new) × (payload.new ≡ payload.old) }
+    ensures no_fault { IsTrue result → lax_ip_fault_fields bytes.entry.slice.now ≡ None }
+    ensures kept { IsTrue result → fault.new ≡ fault.old }
+    ensures fault { result ≡ false → lax_ip_fault_fields bytes.entry.slice.now ≡ Some fault.new }
+    ensures same { result ≡ false → payload.new ≡ payload.old }
 {
     put_result(find_payload_lax(bytes.slice()), payload, fault)
 }
@@ -120,8 +120,8 @@ pub extern "C" fn wolfaren_dissect_packets(
 ) -> bool
     ensures parts { IsTrue result → parts.new ≡ filled
         (all_parts (packets_at bytes.entry.slice.now spans.now)) parts.old }
-    ensures within { IsTrue result → (first_outside bytes.entry.slice.now spans.now ≡ None)
-        × (outside.new ≡ outside.old) }
+    ensures within { IsTrue result → first_outside bytes.entry.slice.now spans.now ≡ None }
+    ensures kept { IsTrue result → outside.new ≡ outside.old }
     ensures outside { result ≡ false
         → first_outside bytes.entry.slice.now spans.now ≡ Some outside.new }
     ensures same { result ≡ false → parts.new ≡ parts.old }

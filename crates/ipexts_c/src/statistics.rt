@@ -46,8 +46,8 @@ pub extern "C" fn wolfaren_count_packets(
       packets = merged statistics.old.packets
           (statistics_of (packets_at bytes.entry.slice.now spans.now));
     } }
-    ensures within { IsTrue result → (first_outside bytes.entry.slice.now spans.now ≡ None)
-        × (outside.new ≡ outside.old) }
+    ensures within { IsTrue result → first_outside bytes.entry.slice.now spans.now ≡ None }
+    ensures kept { IsTrue result → outside.new ≡ outside.old }
     ensures outside { result ≡ false
         → first_outside bytes.entry.slice.now spans.now ≡ Some outside.new }
     ensures same { result ≡ false → statistics.new ≡ statistics.old }

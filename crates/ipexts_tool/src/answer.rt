@@ -1,5 +1,6 @@
 //! The answer to a line.
 ghost use Rattle.std.specs.Prelude.{◌≡◌, ◌++◌, OnOk, string_bytes};
+ghost use Rattle.ipexts_tool.specs.Text.{AppendsText};
 ghost use Rattle.ipexts_tool.specs.Answers.{answer_of};
 ghost use Rattle.ipexts_tool.specs.Request.{request_in, answer_to};
 
@@ -33,8 +34,7 @@ fn push_answer<A: Allocator + Copy>(
     request: Request<'_>,
     text: &mut String<A>,
 ) -> Result<(), AllocError>
-    ensures { OnOk result
-        (string_bytes text.new ≡ string_bytes text.old ++ answer_to (request_in request.entry)) }
+    ensures { OnOk result (AppendsText text.old text.new (answer_to (request_in request.entry))) }
 {
     match request {
         Request::Exts6(number, bytes) => push_exts6(number, bytes, text),

@@ -1,5 +1,6 @@
 //! The answer to `dissect HEX`.
 ghost use Rattle.std.specs.Prelude.{◌≡◌, ◌++◌, ◌+◌, ◌<◌, ◌^◌, ℕ, List, length, codes, OnOk, string_bytes};
+ghost use Rattle.ipexts_tool.specs.Text.{AppendsText};
 ghost use Rattle.ip_ext_slices.specs.Ipv6ExtensionsSlice.{bytes, headers_in};
 ghost use Rattle.ip_dissect.specs.Dissection.{HasParts, dissected, version_in, base_bytes};
 ghost use Rattle.ipexts_tool.specs.Parts.{header_lines};
@@ -15,8 +16,7 @@ use std::alloc::{AllocError, Allocator};
 /// Appends the parts of the packet at the start of `bytes`, and why its headers end where they do.
 #[tactic(auto, using(crate::proofs::DissectLemmas::answer_none))]
 pub fn push_dissect<A: Allocator>(bytes: &[u8], text: &mut String<A>) -> Result<(), AllocError>
-    ensures { OnOk result
-        (string_bytes text.new ≡ string_bytes text.old ++ dissect_answer bytes.now) }
+    ensures { OnOk result (AppendsText text.old text.new (dissect_answer bytes.now)) }
 {
     let packet = dissect(bytes);
     let Some(base) = packet.base else {
@@ -36,8 +36,8 @@ fn push_base<A: Allocator>(
     stated_len: Option<usize>,
     text: &mut String<A>,
 ) -> Result<(), AllocError>
-    ensures { OnOk result (string_bytes text.new ≡ string_bytes text.old
-        ++ base_line (version_in base.now) (length (base_bytes base.now)) stated_len) }
+    ensures { OnOk result
+        (AppendsText text.old text.new (base_line (version_in base.now) (length (base_bytes base.now)) stated_len)) }
 {
     let version = base.version();
     let len = base.slice().len();
@@ -51,8 +51,7 @@ fn push_stated<A: Allocator>(
     stated_len: Option<usize>,
     text: &mut String<A>,
 ) -> Result<(), AllocError>
-    ensures { OnOk result
-        (string_bytes text.new ≡ string_bytes text.old ++ stated_text stated_len) }
+    ensures { OnOk result (AppendsText text.old text.new (stated_text stated_len)) }
 {
     match stated_len {
         Some(stated_len) => write!(text, "{stated_len}"),
@@ -68,8 +67,7 @@ fn push_headers<A: Allocator>(
 ) -> Result<(), AllocError>
     requires { offset + length packet.now.extensions.now < 2 ^ 64 }
     ensures { (s : List ℕ) → HasParts (dissected s) packet.now → OnOk result
-        (string_bytes text.new
-        ≡ string_bytes text.old ++ header_lines offset (dissected s).headers) }
+        (AppendsText text.old text.new (header_lines offset (dissected s).headers)) }
 {
     if let Some(headers) = packet.ipv6_extensions() {
         return push_ipv6_headers(headers, offset, text);
@@ -84,8 +82,8 @@ fn push_ipv6_headers<A: Allocator>(
     text: &mut String<A>,
 ) -> Result<(), AllocError>
     requires { offset + length (bytes headers) < 2 ^ 64 }
-    ensures { OnOk result (string_bytes text.new
-        ≡ string_bytes text.old ++ header_lines offset (headers_in headers.entry)) }
+    ensures { OnOk result
+        (AppendsText text.old text.new (header_lines offset (headers_in headers.entry))) }
 {
     let mut at = offset;
     for header in headers {
@@ -101,8 +99,7 @@ fn push_fragment<A: Allocator>(
     fragment: Option<Fragment>,
     text: &mut String<A>,
 ) -> Result<(), AllocError>
-    ensures { OnOk result
-        (string_bytes text.new ≡ string_bytes text.old ++ fragment_line fragment) }
+    ensures { OnOk result (AppendsText text.old text.new (fragment_line fragment)) }
 {
     let Some(fragment) = fragment else {
         return text.push_str("fragment none\n");
@@ -131,15 +128,14 @@ fn push_missing<A: Allocator>(
     padding: usize,
     text: &mut String<A>,
 ) -> Result<(), AllocError>
-    ensures { OnOk result
-        (string_bytes text.new ≡ string_bytes text.old ++ missing_line missing padding) }
+    ensures { OnOk result (AppendsText text.old text.new (missing_line missing padding)) }
 {
     writeln!(text, "missing {missing} padding {padding}")
 }
 
 /// Appends why the headers end.
 fn push_end<A: Allocator>(end: &End, text: &mut String<A>) -> Result<(), AllocError>
-    ensures { OnOk result (string_bytes text.new ≡ string_bytes text.old ++ end_line end.now) }
+    ensures { OnOk result (AppendsText text.old text.new (end_line end.now)) }
 {
     match end {
         End::Payload => text.push_str("payload\n"),
@@ -157,8 +153,7 @@ fn push_end<A: Allocator>(end: &End, text: &mut String<A>) -> Result<(), AllocEr
 
 /// Appends that a header is incomplete here.
 fn push_truncated<A: Allocator>(error: &LenError, text: &mut String<A>) -> Result<(), AllocError>
-    ensures { OnOk result
-        (string_bytes text.new ≡ string_bytes text.old ++ truncated_text error.now) }
+    ensures { OnOk result (AppendsText text.old text.new (truncated_text error.now)) }
 {
     text.push_str("truncated ")?;
     push_len(error, text)
@@ -166,8 +161,7 @@ fn push_truncated<A: Allocator>(error: &LenError, text: &mut String<A>) -> Resul
 
 /// Appends the IPv6 extension header that an error is in, if it is in one, and ends the line.
 fn push_in<A: Allocator>(header: Option<Layer>, text: &mut String<A>) -> Result<(), AllocError>
-    ensures { OnOk result
-        (string_bytes text.new ≡ string_bytes text.old ++ (in_header header ++ codes "\n")) }
+    ensures { OnOk result (AppendsText text.old text.new (in_header header ++ codes "\n")) }
 {
     let Some(layer) = header else {
         return text.push_str("\n");

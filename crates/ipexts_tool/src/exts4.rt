@@ -1,5 +1,6 @@
 //! The answer to `exts4 N HEX`.
 ghost use Rattle.std.specs.Prelude.{◌≡◌, ◌++◌, OnOk, string_bytes};
+ghost use Rattle.ipexts_tool.specs.Text.{AppendsText};
 ghost use Rattle.ipexts_tool.specs.Exts4.{exts4_answer};
 
 use crate::parts::{push_authentication, push_ipv4_end, push_next};
@@ -12,8 +13,7 @@ pub fn push_exts4<A: Allocator>(
     bytes: &[u8],
     text: &mut String<A>,
 ) -> Result<(), AllocError>
-    ensures { OnOk result
-        (string_bytes text.new ≡ string_bytes text.old ++ exts4_answer number.0 bytes.now) }
+    ensures { OnOk result (AppendsText text.old text.new (exts4_answer number.0 bytes.now)) }
 {
     let (headers, next, rest, fault) = Ipv4ExtensionsSlice::from_slice_lax(number, bytes);
     push_authentication(headers.auth, 0, text)?;

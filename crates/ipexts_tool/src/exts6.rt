@@ -1,5 +1,6 @@
 //! The answer to `exts6 N HEX`.
 ghost use Rattle.std.specs.Prelude.{◌≡◌, ◌++◌, OnOk, string_bytes};
+ghost use Rattle.ipexts_tool.specs.Text.{AppendsText};
 ghost use Rattle.ipexts_tool.specs.Exts6.{exts6_answer};
 
 use crate::parts::{push_chain_end, push_header, push_next};
@@ -13,8 +14,7 @@ pub fn push_exts6<A: Allocator>(
     bytes: &[u8],
     text: &mut String<A>,
 ) -> Result<(), AllocError>
-    ensures { OnOk result
-        (string_bytes text.new ≡ string_bytes text.old ++ exts6_answer number.0 bytes.now) }
+    ensures { OnOk result (AppendsText text.old text.new (exts6_answer number.0 bytes.now)) }
 {
     let mut headers = Ipv6ExtensionsCursor::new(number, bytes);
     let mut offset = 0;

@@ -1,5 +1,6 @@
 //! The texts of faults.
 ghost use Rattle.std.specs.Prelude.{◌≡◌, ◌++◌, OnOk, string_bytes};
+ghost use Rattle.ipexts_tool.specs.Text.{AppendsText};
 ghost use Rattle.ipexts_tool.specs.Faults.{len_text, len_fault_text, auth_fault_text, auth_slice_fault_text, content_fault_text, chain_fault_text, base_fault_text, packet_fault_text};
 
 use etherparse_ip::err::ipv6_exts::{HeaderError, HeaderSliceError};
@@ -8,7 +9,7 @@ use std::alloc::{AllocError, Allocator};
 
 /// Appends the lengths, the layer and the offset of a length error.
 pub fn push_len<A: Allocator>(fault: &LenError, text: &mut String<A>) -> Result<(), AllocError>
-    ensures { OnOk result (string_bytes text.new ≡ string_bytes text.old ++ len_text fault.now) }
+    ensures { OnOk result (AppendsText text.old text.new (len_text fault.now)) }
 {
     let required_len = fault.required_len;
     let len = fault.len;
@@ -23,8 +24,7 @@ pub fn push_len<A: Allocator>(fault: &LenError, text: &mut String<A>) -> Result<
 
 /// Appends a length error's text.
 fn push_len_fault<A: Allocator>(fault: &LenError, text: &mut String<A>) -> Result<(), AllocError>
-    ensures { OnOk result
-        (string_bytes text.new ≡ string_bytes text.old ++ len_fault_text fault.now) }
+    ensures { OnOk result (AppendsText text.old text.new (len_fault_text fault.now)) }
 {
     text.push_str("fault ")?;
     push_len(fault, text)
@@ -35,8 +35,7 @@ fn push_auth_fault<A: Allocator>(
     fault: &ip_auth::HeaderError,
     text: &mut String<A>,
 ) -> Result<(), AllocError>
-    ensures { OnOk result
-        (string_bytes text.new ≡ string_bytes text.old ++ auth_fault_text fault.now) }
+    ensures { OnOk result (AppendsText text.old text.new (auth_fault_text fault.now)) }
 {
     text.push_str(match fault {
         ip_auth::HeaderError::ZeroPayloadLen => "fault ZeroPayloadLen",
@@ -48,8 +47,7 @@ pub fn push_auth_slice_fault<A: Allocator>(
     fault: &ip_auth::HeaderSliceError,
     text: &mut String<A>,
 ) -> Result<(), AllocError>
-    ensures { OnOk result
-        (string_bytes text.new ≡ string_bytes text.old ++ auth_slice_fault_text fault.now) }
+    ensures { OnOk result (AppendsText text.old text.new (auth_slice_fault_text fault.now)) }
 {
     match fault {
         ip_auth::HeaderSliceError::Len(fault) => push_len_fault(fault, text),
@@ -62,8 +60,7 @@ fn push_content_fault<A: Allocator>(
     fault: &HeaderError,
     text: &mut String<A>,
 ) -> Result<(), AllocError>
-    ensures { OnOk result
-        (string_bytes text.new ≡ string_bytes text.old ++ content_fault_text fault.now) }
+    ensures { OnOk result (AppendsText text.old text.new (content_fault_text fault.now)) }
 {
     match fault {
         HeaderError::HopByHopNotAtStart => text.push_str("fault HopByHopNotAtStart"),
@@ -76,8 +73,7 @@ pub fn push_chain_fault<A: Allocator>(
     fault: &HeaderSliceError,
     text: &mut String<A>,
 ) -> Result<(), AllocError>
-    ensures { OnOk result
-        (string_bytes text.new ≡ string_bytes text.old ++ chain_fault_text fault.now) }
+    ensures { OnOk result (AppendsText text.old text.new (chain_fault_text fault.now)) }
 {
     match fault {
         HeaderSliceError::Len(fault) => push_len_fault(fault, text),
@@ -90,8 +86,7 @@ fn push_base_fault<A: Allocator>(
     fault: &ip::HeaderError,
     text: &mut String<A>,
 ) -> Result<(), AllocError>
-    ensures { OnOk result
-        (string_bytes text.new ≡ string_bytes text.old ++ base_fault_text fault.now) }
+    ensures { OnOk result (AppendsText text.old text.new (base_fault_text fault.now)) }
 {
     match fault {
         ip::HeaderError::UnsupportedIpVersion { version_number } => {
@@ -108,8 +103,7 @@ pub fn push_packet_fault<A: Allocator>(
     fault: &ip::SliceError,
     text: &mut String<A>,
 ) -> Result<(), AllocError>
-    ensures { OnOk result
-        (string_bytes text.new ≡ string_bytes text.old ++ packet_fault_text fault.now) }
+    ensures { OnOk result (AppendsText text.old text.new (packet_fault_text fault.now)) }
 {
     match fault {
         ip::SliceError::Len(fault) => push_len_fault(fault, text),

@@ -1,5 +1,6 @@
 //! The answer to `packet HEX`.
 ghost use Rattle.std.specs.Prelude.{◌≡◌, ◌++◌, length, codes, OnOk, string_bytes};
+ghost use Rattle.ipexts_tool.specs.Text.{AppendsText};
 ghost use Rattle.ip_spec.specs.Chain.{bytes_of};
 ghost use Rattle.ip_ext_chains.specs.Ipv4ExtensionsSlice.{headers_in};
 ghost use Rattle.etherparse_ip.specs.Ipv4Slice.{ipv4_parts};
@@ -17,8 +18,7 @@ use std::alloc::{AllocError, Allocator};
 /// Appends the answer for `bytes` as a packet.
 #[tactic(auto, using(crate::proofs::PacketLemmas::fault_answer))]
 pub fn push_packet<A: Allocator>(bytes: &[u8], text: &mut String<A>) -> Result<(), AllocError>
-    ensures { OnOk result
-        (string_bytes text.new ≡ string_bytes text.old ++ packet_answer bytes.now) }
+    ensures { OnOk result (AppendsText text.old text.new (packet_answer bytes.now)) }
 {
     one_packet();
     match IpSlice::from_slice(bytes) {
@@ -30,7 +30,7 @@ pub fn push_packet<A: Allocator>(bytes: &[u8], text: &mut String<A>) -> Result<(
 
 /// Appends the text of a packet's error.
 fn push_fault<A: Allocator>(fault: &SliceError, text: &mut String<A>) -> Result<(), AllocError>
-    ensures { OnOk result (string_bytes text.new ≡ string_bytes text.old ++ fault_line fault.now) }
+    ensures { OnOk result (AppendsText text.old text.new (fault_line fault.now)) }
 {
     push_packet_fault(fault, text)?;
     text.push_str("\n")
@@ -38,8 +38,8 @@ fn push_fault<A: Allocator>(fault: &SliceError, text: &mut String<A>) -> Result<
 
 /// Appends the parts of an IPv4 packet.
 fn push_ipv4<A: Allocator>(packet: &Ipv4Slice<'_>, text: &mut String<A>) -> Result<(), AllocError>
-    ensures { OnOk result (string_bytes text.new
-        ≡ string_bytes text.old ++ parts_lines (codes "ipv4") (ipv4_parts packet.now)) }
+    ensures { OnOk result
+        (AppendsText text.old text.new (parts_lines (codes "ipv4") (ipv4_parts packet.now))) }
 {
     let header_len = packet.header().slice().len();
     let exts_len = ipv4_exts_len(packet.extensions());
@@ -61,8 +61,8 @@ fn ipv4_exts_len(headers: Ipv4ExtensionsSlice<'_>) -> usize
 
 /// Appends the parts of an IPv6 packet.
 fn push_ipv6<A: Allocator>(packet: &Ipv6Slice<'_>, text: &mut String<A>) -> Result<(), AllocError>
-    ensures { OnOk result (string_bytes text.new
-        ≡ string_bytes text.old ++ parts_lines (codes "ipv6") (ipv6_parts packet.now)) }
+    ensures { OnOk result
+        (AppendsText text.old text.new (parts_lines (codes "ipv6") (ipv6_parts packet.now))) }
 {
     let header_len = packet.header().slice().len();
     let exts_len = packet.extensions().slice().len();
@@ -80,8 +80,8 @@ fn push_lengths<A: Allocator>(
     payload_len: usize,
     text: &mut String<A>,
 ) -> Result<(), AllocError>
-    ensures { OnOk result (string_bytes text.new
-        ≡ string_bytes text.old ++ lengths_line name.now header_len exts_len payload_len) }
+    ensures { OnOk result
+        (AppendsText text.old text.new (lengths_line name.now header_len exts_len payload_len)) }
 {
     writeln!(
         text,
@@ -94,8 +94,8 @@ fn push_payload<A: Allocator>(
     payload: &IpPayloadSlice<'_>,
     text: &mut String<A>,
 ) -> Result<(), AllocError>
-    ensures { OnOk result (string_bytes text.new ≡ string_bytes text.old
-        ++ payload_line payload.now.ip_number.0 payload.now.fragmented payload.now.len_source) }
+    ensures { OnOk result
+        (AppendsText text.old text.new (payload_line payload.now.ip_number.0 payload.now.fragmented payload.now.len_source)) }
 {
     let number = payload.ip_number.0;
     let fragmented = yes_or_no(payload.fragmented);

@@ -1,5 +1,6 @@
 //! Parts of answers that several forms share.
 ghost use Rattle.std.specs.Prelude.{◌≡◌, ◌++◌, OnOk, string_bytes};
+ghost use Rattle.ipexts_tool.specs.Text.{AppendsText};
 ghost use Rattle.ip_ext_slices.specs.Ipv4Longest.{authentication_chain};
 ghost use Rattle.ipexts_tool.specs.Parts.{header_name, header_line, header_lines, next_line, written_line, ok_line, chain_end_line, ipv4_end_line};
 
@@ -30,8 +31,7 @@ pub fn push_header<A: Allocator>(
     len: usize,
     text: &mut String<A>,
 ) -> Result<(), AllocError>
-    ensures { OnOk result
-        (string_bytes text.new ≡ string_bytes text.old ++ header_line offset number.0 len) }
+    ensures { OnOk result (AppendsText text.old text.new (header_line offset number.0 len)) }
 {
     let name = header_name(number);
     writeln!(text, "{offset} {name} {len}")
@@ -44,8 +44,7 @@ pub fn push_authentication<A: Allocator>(
     text: &mut String<A>,
 ) -> Result<(), AllocError>
     ensures { OnOk result
-        (string_bytes text.new
-        ≡ string_bytes text.old ++ header_lines offset (authentication_chain header.entry)) }
+        (AppendsText text.old text.new (header_lines offset (authentication_chain header.entry))) }
 {
     match header {
         Some(header) => push_header(offset, ip_number::AUTH, header.slice().len(), text),
@@ -59,8 +58,7 @@ pub fn push_next<A: Allocator>(
     len: usize,
     text: &mut String<A>,
 ) -> Result<(), AllocError>
-    ensures { OnOk result
-        (string_bytes text.new ≡ string_bytes text.old ++ next_line number.0 len) }
+    ensures { OnOk result (AppendsText text.old text.new (next_line number.0 len)) }
 {
     let number = number.0;
     writeln!(text, "next {number} rest {len}")
@@ -72,8 +70,7 @@ pub fn push_written<A: Allocator + Copy>(
     bytes: &[u8],
     text: &mut String<A>,
 ) -> Result<(), AllocError>
-    ensures { OnOk result
-        (string_bytes text.new ≡ string_bytes text.old ++ written_line bytes.now) }
+    ensures { OnOk result (AppendsText text.old text.new (written_line bytes.now)) }
 {
     if bytes.is_empty() {
         return text.push_str("written -\n");
@@ -84,7 +81,7 @@ pub fn push_written<A: Allocator + Copy>(
 
 /// Appends that there is no error.
 pub fn push_ok<A: Allocator>(text: &mut String<A>) -> Result<(), AllocError>
-    ensures { OnOk result (string_bytes text.new ≡ string_bytes text.old ++ ok_line) }
+    ensures { OnOk result (AppendsText text.old text.new ok_line) }
 {
     text.push_str("ok\n")
 }
@@ -94,7 +91,7 @@ pub fn push_chain_end<A: Allocator>(
     fault: Option<(HeaderSliceError, Layer)>,
     text: &mut String<A>,
 ) -> Result<(), AllocError>
-    ensures { OnOk result (string_bytes text.new ≡ string_bytes text.old ++ chain_end_line fault) }
+    ensures { OnOk result (AppendsText text.old text.new (chain_end_line fault)) }
 {
     let Some((fault, layer)) = fault else {
         return push_ok(text);
@@ -109,7 +106,7 @@ pub fn push_ipv4_end<A: Allocator>(
     fault: Option<ip_auth::HeaderSliceError>,
     text: &mut String<A>,
 ) -> Result<(), AllocError>
-    ensures { OnOk result (string_bytes text.new ≡ string_bytes text.old ++ ipv4_end_line fault) }
+    ensures { OnOk result (AppendsText text.old text.new (ipv4_end_line fault)) }
 {
     let Some(fault) = fault else {
         return push_ok(text);

@@ -1,5 +1,6 @@
 //! The answer to `rewriteall6 N HEX`.
 ghost use Rattle.std.specs.Prelude.{◌≡◌, ◌++◌, OnOk, string_bytes};
+ghost use Rattle.ipexts_tool.specs.Text.{AppendsText};
 ghost use Rattle.ipexts_tool.specs.RewriteAll6.{rewriteall6_answer};
 
 use crate::parts::{push_chain_end, push_next, push_written};
@@ -15,8 +16,7 @@ pub fn push_rewriteall6<A: Allocator + Copy>(
     bytes: &[u8],
     text: &mut String<A>,
 ) -> Result<(), AllocError>
-    ensures { OnOk result
-        (string_bytes text.new ≡ string_bytes text.old ++ rewriteall6_answer number.0 bytes.now) }
+    ensures { OnOk result (AppendsText text.old text.new (rewriteall6_answer number.0 bytes.now)) }
 {
     let (headers, next, rest, fault) = Ipv6ExtensionsSlice::from_slice_lax(number, bytes);
     let mut written = Vec::from_slice(alloc, headers.slice())?;

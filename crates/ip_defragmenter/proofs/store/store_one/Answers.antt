@@ -1,7 +1,7 @@
 use Rattle.std.proofs.Common.{true, ap, subst, ◌∙◌}
 use Rattle.std.specs.Prelude.{Option}
 use Rattle.std.specs.Result.{is_ok}
-use Rattle.ip_defrag.specs.Received.{Received, received_nothing, received_all}
+use Rattle.ip_defrag.specs.Received.{Received, received_none, received_all}
 use Rattle.ip_defragmenter.specs.FragmentOf.{parts_of}
 use Rattle.ip_defragmenter.specs.Memory.{HoldsReceived, FirstParts, first_after}
 use Rattle.ip_defragmenter.specs.Memories.{kept_in}
@@ -15,6 +15,6 @@ returns c = record {
       let kept = kept_in c.args.is_known held in
       let f = parts_of c.args.fragment.now in
       subst (λ (s : Received). HoldsReceived c.add.new.self s) (stored_is limit kept f)
-      (c.add.ensures.received (received_all (received_nothing limit true) kept) (c.prepare.ensures.given limit held h));
-  outcome = λ limit held h. c.add.ensures.outcome (received_all (received_nothing limit true) (kept_in c.args.is_known held)) (c.prepare.ensures.given limit held h);
+      (c.add.ensures.received (received_all (received_none limit true) kept) (c.prepare.ensures.given limit held h));
+  outcome = λ limit held h. c.add.ensures.outcome (received_all (received_none limit true) (kept_in c.args.is_known held)) (c.prepare.ensures.given limit held h);
 }

@@ -4,11 +4,7 @@ use Rattle.ip_spans.specs.PacketParts.{lax_ip_fault_fields}
 use Rattle.ipexts_c.proofs.packets.wolfaren_find_payload_lax.Goals as goal
 
 pub returns-clause-no_fault : goal.returns-clause-no_fault
-returns-clause-no_fault c = λ e.
-    let found = c.put_result.ensures.found e in
-    (ap lax_ip_fault_fields (sym c.slice.ensures) ∙ sym c.find_payload_lax.ensures.fault ∙ ap result_err found.0, found.1)
+returns-clause-no_fault c = λ e. ap lax_ip_fault_fields (sym c.slice.ensures) ∙ sym c.find_payload_lax.ensures.fault ∙ ap result_err (c.put_result.ensures.found e).0
 
 pub returns-clause-fault : goal.returns-clause-fault
-returns-clause-fault c = λ e.
-    let found = c.put_result.ensures.fault e in
-    (ap lax_ip_fault_fields (sym c.slice.ensures) ∙ sym c.find_payload_lax.ensures.fault ∙ ap result_err found.0, found.1)
+returns-clause-fault c = λ e. ap lax_ip_fault_fields (sym c.slice.ensures) ∙ sym c.find_payload_lax.ensures.fault ∙ ap result_err (c.put_result.ensures.fault e).0

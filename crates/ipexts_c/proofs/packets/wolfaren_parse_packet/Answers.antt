@@ -4,6 +4,4 @@ use Rattle.ip_spans.specs.PacketParts.{ip_fault_fields}
 use Rattle.ipexts_c.proofs.packets.wolfaren_parse_packet.Goals as goal
 
 pub returns-clause-no_fault : goal.returns-clause-no_fault
-returns-clause-no_fault c = λ e.
-    let found = c.put_result.ensures.found e in
-    (ap ip_fault_fields (sym c.slice.ensures) ∙ sym c.parse_packet.ensures.fault ∙ ap result_err found.0, found.1)
+returns-clause-no_fault c = λ e. ap ip_fault_fields (sym c.slice.ensures) ∙ sym c.parse_packet.ensures.fault ∙ ap result_err (c.put_result.ensures.found e).0

@@ -1,0 +1,8 @@
+-- The packets of a batch.
+use Rattle.std.specs.Prelude.{ℕ, List}
+use Rattle.ip_batches.specs.Batch.{packets_at}
+use Rattle.ip_batches.specs.declared.batch.Batch.{Batch}
+
+-- the bytes of each, in order
+abbrev pub packets_in : Batch → List (List ℕ)
+packets_in batch = packets_at batch.buffer.now batch.spans.now

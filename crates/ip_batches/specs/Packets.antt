@@ -4,5 +4,5 @@ use Rattle.ip_batches.specs.Batch.{packets_at}
 use Rattle.ip_batches.specs.declared.batch.Batch.{Batch}
 
 -- the bytes of each, in order
-abbrev pub packets_in : Batch → List (List ℕ)
-packets_in batch = packets_at batch.buffer.now batch.spans.now
+abbrev pub batch_packets : Batch → List (List ℕ)
+batch_packets batch = packets_at batch.buffer.now batch.spans.now

@@ -4,7 +4,7 @@ ghost use Rattle.std.specs.List.{All};
 ghost use Rattle.ip_spans.specs.HeaderSpan.{filled};
 ghost use Rattle.ip_filter.specs.Program.{passes, tests_of};
 ghost use Rattle.ip_filter.specs.declared.brief.Brief.{Brief as TheBrief};
-ghost use Rattle.ip_batches.specs.Packets.{packets_in};
+ghost use Rattle.ip_batches.specs.Packets.{batch_packets};
 ghost use Rattle.ip_batches.specs.Batch.{packet_at, matches_of};
 ghost use Rattle.ip_batches.specs.Blocks.{after_test, met_by, IsBrief};
 ghost use Rattle.ip_batches.specs.declared.batch.PacketSpan.{PacketSpan as TheSpan};
@@ -26,7 +26,7 @@ impl<'a> Batch<'a> {
     #[tactic(auto, using(crate::proofs::BatchLemmas::all_stored))]
     pub(crate) fn filter_blocks(&self, filter: &Filter, matches: &mut [u8])
         requires { All IsBrief (tests_of filter.now) }
-        ensures { matches.new ≡ filled (matches_of filter.now (packets_in self.now)) matches.old }
+        ensures { matches.new ≡ filled (matches_of filter.now (batch_packets self.now)) matches.old }
     {
         let count = self.spans.len().min(matches.len());
         let mut briefs = [Brief::of(&[]); BLOCK_LEN];
@@ -53,8 +53,8 @@ impl<'a> Batch<'a> {
         requires spans { first + length briefs.old ≤ length self.now.spans.now }
         requires room { first + length briefs.old ≤ length matches.old }
         ensures { (old : List ℕ) → length old ≡ length matches.old
-            → matches.old ≡ take first (matches_of filter.now (packets_in self.now)) ++ drop first old
-            → matches.new ≡ take (first + length briefs.old) (matches_of filter.now (packets_in self.now))
+            → matches.old ≡ take first (matches_of filter.now (batch_packets self.now)) ++ drop first old
+            → matches.new ≡ take (first + length briefs.old) (matches_of filter.now (batch_packets self.now))
             ++ drop (first + length briefs.old) old }
     {
         self.put_briefs(first, briefs);

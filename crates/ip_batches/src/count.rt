@@ -6,7 +6,7 @@ ghost use Rattle.ip_statistics.specs.HeaderCounts.{AreCounts};
 ghost use Rattle.ip_statistics.specs.Packet.{counts_of};
 ghost use Rattle.ip_statistics.specs.Statistics.{nothing, merged};
 ghost use Rattle.ip_statistics.specs.Lists.{statistics_of};
-ghost use Rattle.ip_batches.specs.Packets.{packets_in};
+ghost use Rattle.ip_batches.specs.Packets.{batch_packets};
 ghost use Rattle.ip_batches.specs.Plain.{with_plain};
 
 use crate::Batch;
@@ -18,9 +18,9 @@ impl Batch<'_> {
     /// Counts each packet, in order. What packets without extension headers count alike is added once, after the last one.
     #[inline(always)]
     pub fn count(&self, statistics: &mut Statistics)
-        ensures counts { statistics.new ≡ merged statistics.old (statistics_of (packets_in self.now)) }
+        ensures counts { statistics.new ≡ merged statistics.old (statistics_of (batch_packets self.now)) }
         ensures packets { (xs : _) → statistics.old ≡ statistics_of xs
-            → statistics.new ≡ statistics_of (packets_in self.now ++ xs) }
+            → statistics.new ≡ statistics_of (batch_packets self.now ++ xs) }
     {
         add_nothing(statistics);
         let mut plain = PlainCounts {

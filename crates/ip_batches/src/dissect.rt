@@ -3,7 +3,7 @@ ghost use Rattle.std.specs.Prelude.{◌≡◌};
 ghost use Rattle.ip_dissect.specs.Dissection.{dissected};
 ghost use Rattle.ip_spans.specs.HeaderSpan.{filled};
 ghost use Rattle.ip_spans.specs.DissectionParts.{dissection_parts};
-ghost use Rattle.ip_batches.specs.Packets.{packets_in};
+ghost use Rattle.ip_batches.specs.Packets.{batch_packets};
 ghost use Rattle.ip_batches.specs.Batch.{all_parts};
 
 use crate::Batch;
@@ -16,7 +16,7 @@ impl Batch<'_> {
     #[inline(always)]
     #[tactic(auto, using(crate::proofs::BatchLemmas::all_stored))]
     pub fn dissect(&self, parts: &mut [DissectionParts])
-        ensures { parts.new ≡ filled (all_parts (packets_in self.now)) parts.old }
+        ensures { parts.new ≡ filled (all_parts (batch_packets self.now)) parts.old }
     {
         let count = self.spans.len().min(parts.len());
         let mut next = self.begins_as_ipv6(0);

@@ -4,7 +4,7 @@ ghost use Rattle.std.specs.List.{All};
 ghost use Rattle.ip_filter.specs.Program.{tests_of};
 ghost use Rattle.ip_spans.specs.HeaderSpan.{filled};
 ghost use Rattle.ip_statistics.specs.Counts.{one_if};
-ghost use Rattle.ip_batches.specs.Packets.{packets_in};
+ghost use Rattle.ip_batches.specs.Packets.{batch_packets};
 ghost use Rattle.ip_batches.specs.Batch.{matches_of};
 ghost use Rattle.ip_batches.specs.Blocks.{IsBrief};
 
@@ -16,7 +16,7 @@ impl Batch<'_> {
     /// many as fit; the other elements are unchanged.
     #[inline(always)]
     pub fn filter(&self, filter: &Filter, matches: &mut [u8])
-        ensures { matches.new ≡ filled (matches_of filter.now (packets_in self.now)) matches.old }
+        ensures { matches.new ≡ filled (matches_of filter.now (batch_packets self.now)) matches.old }
     {
         // one test alone is faster on its own path
         if filter.used_tests().len() > 1 && is_brief(filter) {
@@ -30,7 +30,7 @@ impl Batch<'_> {
     #[inline(always)]
     #[tactic(auto, using(crate::proofs::BatchLemmas::all_stored))]
     fn filter_each(&self, filter: &Filter, matches: &mut [u8])
-        ensures { matches.new ≡ filled (matches_of filter.now (packets_in self.now)) matches.old }
+        ensures { matches.new ≡ filled (matches_of filter.now (batch_packets self.now)) matches.old }
     {
         let count = self.spans.len().min(matches.len());
         'packets: for index in 0..count {

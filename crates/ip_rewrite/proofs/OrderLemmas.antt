@@ -64,9 +64,9 @@ rises_more k e i j (g ∷ c) h at =
     regroup false y z = refl
 
 -- The ranks by the index of the last routing header are those by the headers that follow.
-abbrev Agree : ℕ → ℕ → List ExtHeader → Type 0
-Agree e i [] = Unit {0}
-Agree e i (h ∷ c) = (rank_at e i h ≡ rank h c) × Agree e (i + 1) c
+abbrev RanksAgree : ℕ → ℕ → List ExtHeader → Type 0
+RanksAgree e i [] = Unit {0}
+RanksAgree e i (h ∷ c) = (rank_at e i h ≡ rank h c) × RanksAgree e (i + 1) c
 
 rank_same : (e i : ℕ) (h : ExtHeader) (c : List ExtHeader) → nat_lt i e ≡ list_any is_routing c → rank_at e i h ≡ rank h c
 rank_same e i h c same = rw same refl
@@ -81,34 +81,34 @@ second : (a b : Bool) → (a || b) ≡ false → b ≡ false
 second true b e = absurd (false≢true (sym e))
 second false b e = e
 
-agree_none : (e i : ℕ) (c : List ExtHeader) → e ≤ i → list_any is_routing c ≡ false → Agree e i c
+agree_none : (e i : ℕ) (c : List ExtHeader) → e ≤ i → list_any is_routing c ≡ false → RanksAgree e i c
 agree_none e i [] beyond none = tt
 agree_none e i (h ∷ c) beyond none =
     let rest : list_any is_routing c ≡ false = second (is_routing h) (list_any is_routing c) none in
     (rank_same e i h c (not_less i e beyond ∙ sym rest), agree_none e (i + 1) c (omega (arith, beyond)) rest)
 
-agree : (i : ℕ) (c : List ExtHeader) → Agree (i + routing_index c) i c
+agree : (i : ℕ) (c : List ExtHeader) → RanksAgree (i + routing_index c) i c
 agree i [] = tt
 agree i (h ∷ c) = elim (cases_Bool (list_any is_routing c)) [
   | inl some ↦
       let e : ℕ = i + routing_index (h ∷ c) in
       let size : routing_index (h ∷ c) ≡ routing_index c + 1 = cond-true (list_any is_routing c) (routing_index c + 1) 0 some in
       let next : i + 1 + routing_index c ≡ e = omega (arith, size) in
-      (rank_same e i h c (less i e (omega (arith, size)) ∙ sym some), subst (λ n. Agree n (i + 1) c) next (agree (i + 1) c))
+      (rank_same e i h c (less i e (omega (arith, size)) ∙ sym some), subst (λ n. RanksAgree n (i + 1) c) next (agree (i + 1) c))
   | inr none ↦
       let e : ℕ = i + routing_index (h ∷ c) in
       let size : routing_index (h ∷ c) ≡ 0 = cond-false (list_any is_routing c) (routing_index c + 1) 0 none in
       (rank_same e i h c (not_less i e (omega (arith, size)) ∙ sym none), agree_none e (i + 1) c (omega (arith, size)) none)
 ]
 
-agreed : (c : List ExtHeader) → Agree (routing_index c) 0 c
-agreed c = let same : 0 + routing_index c ≡ routing_index c = omega arith in subst (λ e. Agree e 0 c) same (agree 0 c)
+agreed : (c : List ExtHeader) → RanksAgree (routing_index c) 0 c
+agreed c = let same : 0 + routing_index c ≡ routing_index c = omega arith in subst (λ e. RanksAgree e 0 c) same (agree 0 c)
 
-of_rank_same : (k e i : ℕ) (c : List ExtHeader) → Agree e i c → of_rank_from k e i c ≡ of_rank k c
+of_rank_same : (k e i : ℕ) (c : List ExtHeader) → RanksAgree e i c → of_rank_from k e i c ≡ of_rank k c
 of_rank_same k e i [] a = refl
 of_rank_same k e i (h ∷ c) a = ap (λ n. if n == k then h ∷ of_rank_from k e (i + 1) c else of_rank_from k e (i + 1) c) a.0 ∙ ap (λ x. if rank h c == k then h ∷ x else x) (of_rank_same k e (i + 1) c a.1)
 
-rises_same : (k e i : ℕ) (c : List ExtHeader) → Agree e i c → rises_at k e i c ≡ rises_from k c
+rises_same : (k e i : ℕ) (c : List ExtHeader) → RanksAgree e i c → rises_at k e i c ≡ rises_from k c
 rises_same k e i [] a = refl
 rises_same k e i (h ∷ c) a = ap (λ n. nat_le k n && rises_at n e (i + 1) c) a.0 ∙ ap (λ b. nat_le k (rank h c) && b) (rises_same (rank h c) e (i + 1) c a.1)
 
@@ -118,7 +118,7 @@ rises_is c = rises_same 0 (routing_index c) 0 c (agreed c)
 pub below_is : (c : List ExtHeader) → below_rank 5 (routing_index c) c ≡ in_order c
 below_is c =
     let e : ℕ = routing_index c in
-    let a : Agree e 0 c = agreed c in
+    let a : RanksAgree e 0 c = agreed c in
     rw (of_rank_same 0 e 0 c a, of_rank_same 1 e 0 c a, of_rank_same 2 e 0 c a, of_rank_same 3 e 0 c a, of_rank_same 4 e 0 c a) refl
 
 abbrev chosen : Bool → Bool → Bool → Bool → ℕ
@@ -302,7 +302,7 @@ above_more k e i j (g ∷ c) h at =
     inside true x y = refl
     inside false x y = refl
 
-above_is : (n e i : ℕ) (c : List ExtHeader) → Agree e i c → unwrap_or (first_above (rank_of n false) e i c) (i + length c) ≡ i + recommended_index n c
+above_is : (n e i : ℕ) (c : List ExtHeader) → RanksAgree e i c → unwrap_or (first_above (rank_of n false) e i c) (i + length c) ≡ i + recommended_index n c
 above_is n e i [] a = refl
 above_is n e i (h ∷ c) a =
     let step : i + length (h ∷ c) ≡ i + 1 + length c = omega arith in

@@ -4,12 +4,11 @@ use Rattle.ip_spec.specs.Header.{IsRawHeader, IsFragmentHeader, IsAuthHeader}
 use Rattle.ip_spec.specs.Fields.{RawFields, FragmentFields, AuthFields, raw_fields, fragment_fields, auth_fields}
 
 -- Bytes s are a header whose fields are v, followed by the rest r.
-module _ {V : Type 0} (IsOne : List ℕ → Type 0) (fields_of : List ℕ → V) where
-  pub record IsDecoding (s : List ℕ) (v : V) (r : List ℕ) : Type 0 where
-    pub bytes : List ℕ
-    pub header : IsOne bytes
-    pub fields : fields_of bytes ≡ v
-    pub joined : bytes ++ r ≡ s
+pub record IsDecoding {V : Type 0} (IsOne : List ℕ → Type 0) (fields_of : List ℕ → V) (s : List ℕ) (v : V) (r : List ℕ) : Type 0 where
+  pub bytes : List ℕ
+  pub header : IsOne bytes
+  pub fields : fields_of bytes ≡ v
+  pub joined : bytes ++ r ≡ s
 
 abbrev pub IsRawDecoding : List ℕ → RawFields → List ℕ → Type 0
 IsRawDecoding s v r = IsDecoding IsRawHeader raw_fields s v r

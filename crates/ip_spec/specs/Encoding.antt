@@ -32,11 +32,10 @@ abbrev pub cleared_chain : List ExtHeader → List ExtHeader
 cleared_chain c = map (λ h. record { number = h.number; bytes = cleared_header h.number h.bytes }) c
 
 -- Bytes b are a header whose fields are v, and its reserved bits as one of number n are zero.
-module _ {V : Type 0} (IsOne : List ℕ → Type 0) (fields_of : List ℕ → V) (n : ℕ) where
-  pub record IsEncoding (v : V) (b : List ℕ) : Type 0 where
-    pub header : IsOne b
-    pub fields : fields_of b ≡ v
-    pub cleared : IsCleared (record { number = n; bytes = b })
+pub record IsEncoding {V : Type 0} (IsOne : List ℕ → Type 0) (fields_of : List ℕ → V) (n : ℕ) (v : V) (b : List ℕ) : Type 0 where
+  pub header : IsOne b
+  pub fields : fields_of b ≡ v
+  pub cleared : IsCleared (record { number = n; bytes = b })
 
 -- in the uniform format (RFC 6564), in which nothing is reserved: hop-by-hop options and the others
 abbrev pub IsRawEncoding : RawFields → List ℕ → Type 0

@@ -1,4 +1,4 @@
--- The longest of the lists that have a property, and that there is at most one.
+-- The longest list with a property, and properties of at most one thing.
 use Rattle.std.specs.Prelude.{◌≡◌, ◌≢◌, ◌<◌, List, length}
 
 -- c has the property P, and is longer than any other list that has it
@@ -7,5 +7,5 @@ pub record IsLongestOf {X : Type 0} (P : List X → Type 0) (c : List X) : Type 
   pub longest : (d : List X) → P d → d ≢ c → length d < length c
 
 -- no two things have the property P
-abbrev pub IsUnique : {X : Type 0} → (X → Type 0) → Type 0
-IsUnique {X} P = (x y : X) → P x → P y → x ≡ y
+abbrev pub OnlyOne : {X : Type 0} → (X → Type 0) → Type 0
+OnlyOne {X} P = (x y : X) → P x → P y → x ≡ y

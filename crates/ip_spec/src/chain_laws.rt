@@ -1,6 +1,6 @@
 //! Laws of longest chains, proved as the contracts of calls.
 ghost use Rattle.std.specs.Prelude.{◌≡◌, ℕ, List, length, drop};
-ghost use Rattle.ip_spec.specs.LongestOf.{IsUnique};
+ghost use Rattle.ip_spec.specs.LongestOf.{OnlyOne};
 ghost use Rattle.ip_spec.specs.Chain.{IsLongestChain};
 ghost use Rattle.ip_spec.specs.Parse.{IsEndAfter};
 
@@ -8,7 +8,7 @@ ghost use Rattle.ip_spec.specs.Parse.{IsEndAfter};
 #[tactic(auto, using(crate::proofs::ChainLemmas::some_longest, crate::proofs::ChainLemmas::one_longest))]
 pub fn one_longest_chain()
     ensures some { (n s : _) → (c : _) × IsLongestChain n s c }
-    ensures only { (n s : _) → IsUnique (IsLongestChain n s) }
+    ensures only { (n s : _) → OnlyOne (IsLongestChain n s) }
 {}
 
 /// Proves that no header follows a longest chain.

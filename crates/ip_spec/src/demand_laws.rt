@@ -1,6 +1,6 @@
 //! Laws of longest chains under a demand, proved as the contracts of calls.
 ghost use Rattle.std.specs.Prelude.{◌≡◌, ◌<◌, ◌↔◌, IsSome, ℕ, List, [], ◌∷◌, ◌++◌, Bool, length, take, drop, map};
-ghost use Rattle.ip_spec.specs.LongestOf.{IsUnique};
+ghost use Rattle.ip_spec.specs.LongestOf.{OnlyOne};
 ghost use Rattle.ip_spec.specs.Header.{IsExtensionNumber, IsLaterNumber};
 ghost use Rattle.ip_spec.specs.Chain.{ExtHeader, IsLongestChain, IsNext, IsEnd, leads_to, bytes_of, headers_within, is_empty};
 ghost use Rattle.ip_spec.specs.Demand.{IsDemand, KeepsBeginning, IsLongestUnder, IsEndUnder, Passes, NoDemand, AtMost, AtMostOneOf};
@@ -11,7 +11,7 @@ ghost use Rattle.ip_spec.specs.Places.{header_in, next_place};
 /// Proves that bytes have exactly one longest chain from each number under each demand.
 pub fn one_longest_chain_under_a_demand()
     ensures some { (q n s : _) → IsDemand (Passes q) → (c : _) × IsLongestUnder (Passes q) n s c }
-    ensures only { (q n s : _) → IsDemand (Passes q) → IsUnique (IsLongestUnder (Passes q) n s) }
+    ensures only { (q n s : _) → IsDemand (Passes q) → OnlyOne (IsLongestUnder (Passes q) n s) }
 {}
 
 /// Proves that a demand keeps exactly the longest chain under it, of the longest chain.
@@ -53,7 +53,7 @@ pub fn longest_chains_under_demands()
 /// Proves that exactly one longest chain fits six places.
 pub fn one_longest_fitting_chain()
     ensures some { (n s : _) → (c : _) × IsLongestUnder FitsPlaces n s c }
-    ensures only { (n s : _) → IsUnique (IsLongestUnder FitsPlaces n s) }
+    ensures only { (n s : _) → OnlyOne (IsLongestUnder FitsPlaces n s) }
     ensures kept { (n s d c : _) → IsLongestChain n s d → IsLongestUnder FitsPlaces n s c
         → KeepsBeginning FitsPlaces d c }
 {}

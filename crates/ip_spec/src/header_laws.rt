@@ -1,6 +1,6 @@
 //! Laws of single headers, proved as the contracts of calls.
 ghost use Rattle.std.specs.Prelude.{◌≡◌, ℕ, List, length, slice_range};
-ghost use Rattle.ip_spec.specs.LongestOf.{IsUnique};
+ghost use Rattle.ip_spec.specs.LongestOf.{OnlyOne};
 ghost use Rattle.ip_spec.specs.Numbers.{FRAGMENT, AUTHENTICATION};
 ghost use Rattle.ip_spec.specs.Header.{IsRawHeader, IsFragmentHeader, IsAuthHeader};
 ghost use Rattle.ip_spec.specs.Fields.{RawFields, FragmentFields, AuthFields, raw_fields, fragment_fields, auth_fields, raw_len, auth_len};
@@ -19,9 +19,9 @@ pub fn one_decoding()
 
 /// Proves that fields have at most one encoding.
 pub fn one_encoding()
-    ensures raw { (v : _) → IsUnique (IsRawEncoding v) }
-    ensures fragment { (v : _) → IsUnique (IsFragmentEncoding v) }
-    ensures auth { (v : _) → IsUnique (IsAuthEncoding v) }
+    ensures raw { (v : _) → OnlyOne (IsRawEncoding v) }
+    ensures fragment { (v : _) → OnlyOne (IsFragmentEncoding v) }
+    ensures auth { (v : _) → OnlyOne (IsAuthEncoding v) }
 {}
 
 /// Proves that a header whose reserved bits are set to zero is a header with the same fields, and that setting them

@@ -1,7 +1,7 @@
 //! Laws of runs, proved as the contracts of calls.
 ghost use Rattle.std.specs.Prelude.{◌≡◌, ℕ, ◌+◌, ◌/◌, ◌≤◌, List, [], ◌∷◌, length, drop};
 ghost use Rattle.std.specs.List.{flat_map, AllByRecursion};
-ghost use Rattle.ip_spec.specs.LongestOf.{IsUnique};
+ghost use Rattle.ip_spec.specs.LongestOf.{OnlyOne};
 ghost use Rattle.ip_spec.specs.Chain.{ExtHeader, IsChain, IsLongestChain, leads_to, bytes_of};
 ghost use Rattle.ip_spec.specs.Demand.{IsLongestUnder};
 ghost use Rattle.ip_spec.specs.Parse.{rest_after};
@@ -12,7 +12,7 @@ ghost use Rattle.ip_spec.specs.Runs.{AreRuns, AreChains, joined, how_many};
 /// Proves that headers and the number to which they lead have exactly one list of runs.
 pub fn one_list_of_runs()
     ensures some { (m c : _) → (ps : _) × AreRuns m c ps }
-    ensures only { (m c : _) → IsUnique (AreRuns m c) }
+    ensures only { (m c : _) → OnlyOne (AreRuns m c) }
 {}
 
 /// Proves that the runs are the fewest: any other list of pieces that fit six places and join to the same headers has

@@ -2,7 +2,7 @@
 ghost use Rattle.std.specs.Prelude.{◌≡◌, ◌<◌, ◌↔◌, ℕ, List, ◌++◌, length, Result, Ok};
 ghost use Rattle.ip_base.specs.declared.ip_number_impl.IpNumber.{IpNumber};
 ghost use Rattle.ip_base.specs.declared.err.ipv6_exts.exts_walk_error.ExtsWalkError.{ExtsWalkError};
-ghost use Rattle.ip_spec.specs.LongestOf.{IsLongestOf, IsUnique};
+ghost use Rattle.ip_spec.specs.LongestOf.{IsLongestOf, OnlyOne};
 ghost use Rattle.ip_spec.specs.Header.{IsExtensionNumber};
 ghost use Rattle.ip_spec.specs.Encoding.{AreBytes, cleared_chain};
 ghost use Rattle.ip_spec.specs.Chain.{ExtHeader, leads_to, bytes_of};
@@ -18,9 +18,9 @@ ghost use Rattle.ip_spec.specs.Encodable.{IsEncodable, placed_len};
 /// has exactly one result.
 pub fn one_walk_answer()
     ensures some_reach { (v f : _) → IsEncodable v → (c : _) × IsLongestOf (IsReachable v f) c }
-    ensures only_reach { (v f : _) → IsUnique (IsLongestOf (IsReachable v f)) }
+    ensures only_reach { (v f : _) → OnlyOne (IsLongestOf (IsReachable v f)) }
     ensures some_answer { (v f : _) → IsEncodable v → (a : _) × IsWalkAnswer v f a }
-    ensures only_answer { (v f : _) → IsUnique (IsWalkAnswer v f) }
+    ensures only_answer { (v f : _) → OnlyOne (IsWalkAnswer v f) }
 {}
 
 /// Proves that a walk leads to a number if and only if the value is parsed from some bytes with that number and
@@ -36,7 +36,7 @@ pub fn walk_leads_where_the_value_is_parsed()
 
 /// Proves that at most one chain encodes a value from a number, and that equal bytes encode equal values only.
 pub fn one_spelling()
-    ensures only { (v f : _) → IsUnique (IsSpelling v f) }
+    ensures only { (v f : _) → OnlyOne (IsSpelling v f) }
     ensures alike { (v w f c d : _) → IsSpelling v f c → IsSpelling w f d
         → (bytes_of c ≡ bytes_of d) ↔ ((p : _) → v p ≡ w p) }
     ensures len { (v f c : _) → IsSpelling v f c → length (bytes_of c) ≡ placed_len v }

@@ -1,7 +1,7 @@
 //! The tool's answers computed in the simplest way, in memory and line by line. It is slow, and shares no code with
 //! the tool. It uses the library's parse and `write` for `rewrite6`, and its runs for `rewriteall6`.
-ghost use Rattle.std.specs.Prelude.{◌≡◌, ◌++◌, ◌==◌, ◌+◌, ◌^◌, ◌<◌, length, map};
-ghost use Rattle.std.specs.Prelude.{[], ◌∷◌, slice_index, IfOk, OnOk, string_bytes};
+ghost use Rattle.std.specs.Prelude.{◌≡◌, ◌==◌, ◌+◌, ◌^◌, ◌<◌, length, map};
+ghost use Rattle.std.specs.Prelude.{[], ◌∷◌, slice_index, IfOk, OnOk};
 ghost use Rattle.std.specs.List.{slice_split};
 ghost use Rattle.std.specs.Option.{option_map};
 ghost use Rattle.ipexts_tool.specs.Text.{AppendsText};

@@ -1,5 +1,5 @@
 //! The answer to `dissect`, built in the simplest way.
-ghost use Rattle.std.specs.Prelude.{◌≡◌, ◌++◌, codes, OnOk, string_bytes};
+ghost use Rattle.std.specs.Prelude.{◌≡◌, ◌++◌, codes, OnOk};
 ghost use Rattle.ipexts_tool.specs.Text.{AppendsText};
 ghost use Rattle.ipexts_tool.specs.DissectAnswer.{stated_text, base_line, fragment_line, kind_name, missing_line};
 ghost use Rattle.ipexts_tool.specs.DissectAnswer.{in_header, truncated_text, end_line, dissect_answer};

@@ -1,5 +1,5 @@
 //! The answer to `packet`, built in the simplest way.
-ghost use Rattle.std.specs.Prelude.{◌≡◌, ◌++◌, codes, OnOk, string_bytes};
+ghost use Rattle.std.specs.Prelude.{◌≡◌, codes, OnOk};
 ghost use Rattle.ipexts_tool.specs.Text.{AppendsText};
 ghost use Rattle.etherparse_ip.specs.Packet.{Parts};
 ghost use Rattle.ipexts_tool.specs.Faults.{len_text, len_fault_text, headers_fault_text, packet_fault_text};

@@ -1,5 +1,5 @@
 //! How dissections and the strict parse of packets agree, proved as the contracts of calls.
-ghost use Rattle.std.specs.Prelude.{◌≡◌, ◌↔◌, ℕ, List, Some, None, IsSome, false};
+ghost use Rattle.std.specs.Prelude.{◌≡◌, ◌↔◌, Some, None, IsSome, false};
 ghost use Rattle.ip_base.specs.Ipv4Header.{ipv4_fragment_offset};
 ghost use Rattle.etherparse_ip.specs.Packet.{IsIpv4Packet, IsIpv6Packet};
 ghost use Rattle.etherparse_ip.specs.PacketFault.{ip_fault};

@@ -1,5 +1,5 @@
 //! Counts the packets of a batch.
-ghost use Rattle.std.specs.Prelude.{◌≡◌, ℕ, List, ◌++◌, length, replicate, IfSome, IfNone};
+ghost use Rattle.std.specs.Prelude.{◌≡◌, ℕ, ◌++◌, length, replicate, IfSome, IfNone};
 ghost use Rattle.ip_dissect.specs.Dissection.{dissected};
 ghost use Rattle.ip_statistics.specs.Counts.{added, all_added};
 ghost use Rattle.ip_statistics.specs.HeaderCounts.{AreCounts};

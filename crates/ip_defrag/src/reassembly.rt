@@ -16,11 +16,11 @@ pub struct Reassembly<'a> {
 }
 
 impl<'a> Reassembly<'a> {
-    ghost use Rattle.std.specs.Prelude.{◌≡◌, ◌≤◌, ◌<◌, if◌then◌else◌, ℕ, Bool, List, [], ◌∷◌, min, length, true, false, Ok, None, Some, IfSome, slice_index};
+    ghost use Rattle.std.specs.Prelude.{◌≡◌, ◌≤◌, ◌<◌, if◌then◌else◌, ℕ, [], ◌∷◌, min, length, true, false, Ok, None, Some, IfSome, slice_index};
     ghost use Rattle.std.specs.List.{list_any};
     ghost use Rattle.std.specs.Option.{option_copied};
-    ghost use Rattle.ip_defrag.specs.Fragment.{Fragment, fragment_at, has_byte};
-    ghost use Rattle.ip_defrag.specs.Received.{given_up, payload_in, received_none, outcome_of, received_after};
+    ghost use Rattle.ip_defrag.specs.Fragment.{fragment_at, has_byte};
+    ghost use Rattle.ip_defrag.specs.Received.{given_up, payload_in, outcome_of, received_after};
     ghost use Rattle.ip_defrag.specs.Reassembly.{HasReceived};
     ghost use Rattle.ip_defrag.specs.Split.{IsSplit, are_among, WasGiven};
 

@@ -78,7 +78,7 @@ pub struct ReassemblyState {
 }
 
 impl ReassemblyState {
-    ghost use Rattle.std.specs.Prelude.{◌≡◌, ◌+◌, ◌-◌, ◌*◌, ◌≤◌, ◌<◌, ◌==◌, ◌&&◌, ◌||◌, if◌then◌else◌, not, nat_lt, ℕ, Bool, List, min, length, true, false, Ok, None, Some, IfOk, MatchResult, MatchBool, IsTrue, ◌↔◌, slice_index};
+    ghost use Rattle.std.specs.Prelude.{◌≡◌, ◌+◌, ◌-◌, ◌*◌, ◌≤◌, ◌<◌, ◌==◌, ◌&&◌, ◌||◌, if◌then◌else◌, not, nat_lt, ℕ, min, length, true, false, Ok, None, Some, IfOk, MatchResult, MatchBool, IsTrue, ◌↔◌};
     ghost use Rattle.std.specs.List.{list_any};
     ghost use Rattle.std.specs.Option.{option_copied};
     ghost use Rattle.ip_defrag.specs.Fragment.{fragment_at, is_same};

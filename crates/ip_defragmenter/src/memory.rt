@@ -41,8 +41,8 @@ pub struct PacketMemory {
 }
 
 impl PacketMemory {
-    ghost use Rattle.std.specs.Prelude.{is_some, ◌≡◌, ◌+◌, ◌++◌, ◌≤◌, ℕ, Bool, List, [], ◌∷◌, length, min, true, false, None, Some, Ok, OnOk, OnErr, IfOk, IfErr, IsOk, drop, if◌then◌else◌};
-    ghost use Rattle.ip_defrag.specs.Fragment.{Fragment, fragment_at};
+    ghost use Rattle.std.specs.Prelude.{is_some, ◌≡◌, ◌+◌, ◌++◌, ◌≤◌, ℕ, List, [], ◌∷◌, length, true, false, None, Some, Ok, OnOk, OnErr, drop, if◌then◌else◌};
+    ghost use Rattle.ip_defrag.specs.Fragment.{Fragment};
     ghost use Rattle.ip_defrag.specs.Split.{IsSplit, are_among};
     ghost use Rattle.ip_defragmenter.specs.Whole.{whole_packet, whole_fault};
     ghost use Rattle.ip_defragmenter.specs.Memory.{WasStored, HoldsReceived, FirstParts, kept_headers, first_in, first_of, first_after, is_too_long, piece_of, stored_outcome, stored_after};

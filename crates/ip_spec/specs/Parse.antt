@@ -2,16 +2,12 @@
 -- error there.
 use Rattle.std.specs.Prelude.{◌≡◌, ℕ, List, Option, length, drop}
 use Rattle.ip_spec.specs.Encoding.{AreBytes}
-use Rattle.ip_spec.specs.Chain.{ExtHeader, IsEnd, is_empty, leads_to, bytes_of}
+use Rattle.ip_spec.specs.Chain.{ExtHeader, leads_to, bytes_of}
 use Rattle.ip_spec.specs.Demand.{IsLongestUnder}
 
 -- the rest of s after the chain c, whose bytes are its prefix
 abbrev pub rest_after : List ExtHeader → List ℕ → List ℕ
 rest_after c s = drop (length (bytes_of c)) s
-
--- no header follows the chain c from n, whose bytes are a prefix of s
-abbrev pub IsEndAfter : List ExtHeader → ℕ → List ℕ → Type 0
-IsEndAfter c n s = IsEnd (is_empty c) (leads_to n c) (rest_after c s)
 
 -- The error after the chain c from n, whose bytes are a prefix of s. `faults` computes it for each chain, from the
 -- number to which the chain leads and the rest after it.

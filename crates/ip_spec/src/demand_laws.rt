@@ -1,10 +1,10 @@
 //! Laws of longest chains under a demand, proved as the contracts of calls.
-ghost use Rattle.std.specs.Prelude.{◌≡◌, ◌<◌, ◌↔◌, IsSome, ℕ, List, [], ◌∷◌, ◌++◌, Bool, length, take, drop, map};
+ghost use Rattle.std.specs.Prelude.{◌≡◌, ◌<◌, ◌↔◌, IsSome, [], ◌∷◌, ◌++◌, length, take, map};
 ghost use Rattle.ip_spec.specs.LongestOf.{OnlyOne};
 ghost use Rattle.ip_spec.specs.Header.{IsExtensionNumber, IsLaterNumber};
-ghost use Rattle.ip_spec.specs.Chain.{ExtHeader, IsLongestChain, IsNext, IsEnd, leads_to, bytes_of, headers_within, is_empty};
+ghost use Rattle.ip_spec.specs.Chain.{IsEnd, ExtHeader, IsLongestChain, IsNext, leads_to, headers_within, is_empty};
 ghost use Rattle.ip_spec.specs.Demand.{IsDemand, KeepsBeginning, IsLongestUnder, IsEndUnder, Passes, NoDemand, AtMost, AtMostOneOf};
-ghost use Rattle.ip_spec.specs.Parse.{IsEndAfter, rest_after};
+ghost use Rattle.ip_spec.specs.Parse.{rest_after};
 ghost use Rattle.ip_spec.specs.Fits.{Fits, FitsPlaces, IsOccupied};
 ghost use Rattle.ip_spec.specs.Places.{header_in, next_place};
 
@@ -62,7 +62,7 @@ pub fn one_longest_fitting_chain()
 #[tactic(auto, using(crate::proofs::FitsLemmas::fitting_ends))]
 pub fn fitting_chain_ends()
     ensures { (n s c : _) → IsLongestUnder FitsPlaces n s c
-        → (IsOccupied (leads_to n c) c → ⊥) → IsEndAfter c n s }
+        → (IsOccupied (leads_to n c) c → ⊥) → IsEnd (is_empty c) (leads_to n c) (rest_after c s) }
 {}
 
 /// Proves that it is shorter than the longest chain if and only if a header follows whose place is occupied.

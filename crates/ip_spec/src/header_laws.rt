@@ -1,9 +1,9 @@
 //! Laws of single headers, proved as the contracts of calls.
-ghost use Rattle.std.specs.Prelude.{◌≡◌, ℕ, List, length, slice_range};
+ghost use Rattle.std.specs.Prelude.{◌≡◌, length, slice_range};
 ghost use Rattle.ip_spec.specs.LongestOf.{OnlyOne};
 ghost use Rattle.ip_spec.specs.Numbers.{FRAGMENT, AUTHENTICATION};
 ghost use Rattle.ip_spec.specs.Header.{IsRawHeader, IsFragmentHeader, IsAuthHeader};
-ghost use Rattle.ip_spec.specs.Fields.{RawFields, FragmentFields, AuthFields, raw_fields, fragment_fields, auth_fields, raw_len, auth_len};
+ghost use Rattle.ip_spec.specs.Fields.{raw_fields, fragment_fields, auth_fields, raw_len, auth_len};
 ghost use Rattle.ip_spec.specs.Encoding.{cleared_header, AreBytes, IsRawEncoding, IsFragmentEncoding, IsAuthEncoding};
 ghost use Rattle.ip_spec.specs.Decoding.{IsRawDecoding, IsFragmentDecoding, IsAuthDecoding};
 

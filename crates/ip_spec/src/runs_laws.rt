@@ -1,8 +1,8 @@
 //! Laws of runs, proved as the contracts of calls.
-ghost use Rattle.std.specs.Prelude.{◌≡◌, ℕ, ◌+◌, ◌/◌, ◌≤◌, List, [], ◌∷◌, length, drop};
+ghost use Rattle.std.specs.Prelude.{◌≡◌, ◌+◌, ◌/◌, ◌≤◌, [], ◌∷◌, length};
 ghost use Rattle.std.specs.List.{flat_map, AllByRecursion};
 ghost use Rattle.ip_spec.specs.LongestOf.{OnlyOne};
-ghost use Rattle.ip_spec.specs.Chain.{ExtHeader, IsChain, IsLongestChain, leads_to, bytes_of};
+ghost use Rattle.ip_spec.specs.Chain.{IsChain, IsLongestChain, leads_to, bytes_of};
 ghost use Rattle.ip_spec.specs.Demand.{IsLongestUnder};
 ghost use Rattle.ip_spec.specs.Parse.{rest_after};
 ghost use Rattle.ip_spec.specs.Fits.{FitsPlaces, IsOccupied};

@@ -1,15 +1,13 @@
 //! Laws of walks over six places, proved as the contracts of calls.
-ghost use Rattle.std.specs.Prelude.{◌≡◌, ◌<◌, ◌↔◌, ℕ, List, ◌++◌, length, Result, Ok};
-ghost use Rattle.ip_base.specs.declared.ip_number_impl.IpNumber.{IpNumber};
-ghost use Rattle.ip_base.specs.declared.err.ipv6_exts.exts_walk_error.ExtsWalkError.{ExtsWalkError};
+ghost use Rattle.std.specs.Prelude.{◌≡◌, ◌<◌, ◌↔◌, ◌++◌, length, Ok};
 ghost use Rattle.ip_spec.specs.LongestOf.{IsLongestOf, OnlyOne};
 ghost use Rattle.ip_spec.specs.Header.{IsExtensionNumber};
 ghost use Rattle.ip_spec.specs.Encoding.{AreBytes, cleared_chain};
-ghost use Rattle.ip_spec.specs.Chain.{ExtHeader, leads_to, bytes_of};
+ghost use Rattle.ip_spec.specs.Chain.{leads_to, bytes_of};
 ghost use Rattle.ip_spec.specs.Demand.{IsLongestUnder};
 ghost use Rattle.ip_spec.specs.Fits.{FitsPlaces, IsOccupied};
-ghost use Rattle.ip_spec.specs.Places.{Place, places};
-ghost use Rattle.ip_spec.specs.Walk.{PlacedFields, IsValueOf, IsSpelling, IsReachable, IsWalkAnswer};
+ghost use Rattle.ip_spec.specs.Places.{places};
+ghost use Rattle.ip_spec.specs.Walk.{IsValueOf, IsSpelling, IsReachable, IsWalkAnswer};
 ghost use Rattle.ip_spec.specs.Parse.{IsParsed};
 ghost use Rattle.ip_spec.specs.Links.{first_number, linked};
 ghost use Rattle.ip_spec.specs.Encodable.{IsEncodable, placed_len};

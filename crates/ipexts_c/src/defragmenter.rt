@@ -1,5 +1,5 @@
 //! Packets from their fragments.
-ghost use Rattle.std.specs.Prelude.{◌≡◌, ◌+◌, ◌++◌, ℕ, List, length, drop, true, false, IsTrue, Ok, Err, Some, None};
+ghost use Rattle.std.specs.Prelude.{◌≡◌, ◌+◌, ◌++◌, length, drop, true, false, IsTrue, Ok, Err, Some, None};
 ghost use Rattle.ip_dissect.specs.Dissection.{dissected};
 ghost use Rattle.ip_defrag.specs.Received.{payload_in};
 ghost use Rattle.ip_defragmenter.specs.FragmentOf.{FragmentParts, fragment_in};

@@ -1,5 +1,5 @@
 //! The answer to `dissect HEX`.
-ghost use Rattle.std.specs.Prelude.{◌≡◌, ◌++◌, ◌+◌, ◌<◌, ◌^◌, ℕ, List, length, codes, OnOk, string_bytes};
+ghost use Rattle.std.specs.Prelude.{◌≡◌, ◌++◌, ◌+◌, ◌<◌, ◌^◌, ℕ, List, length, codes, OnOk};
 ghost use Rattle.ipexts_tool.specs.Text.{AppendsText};
 ghost use Rattle.ip_ext_slices.specs.Ipv6ExtensionsSlice.{bytes, headers_in};
 ghost use Rattle.ip_dissect.specs.Dissection.{HasParts, dissected, version_in, base_bytes};

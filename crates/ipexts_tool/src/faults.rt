@@ -1,5 +1,5 @@
 //! The texts of faults.
-ghost use Rattle.std.specs.Prelude.{◌≡◌, ◌++◌, OnOk, string_bytes};
+ghost use Rattle.std.specs.Prelude.{OnOk};
 ghost use Rattle.ipexts_tool.specs.Text.{AppendsText};
 ghost use Rattle.ipexts_tool.specs.Faults.{len_text, len_fault_text, auth_fault_text, auth_slice_fault_text, content_fault_text, chain_fault_text, base_fault_text, packet_fault_text};
 

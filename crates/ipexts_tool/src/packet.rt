@@ -1,5 +1,5 @@
 //! The answer to `packet HEX`.
-ghost use Rattle.std.specs.Prelude.{◌≡◌, ◌++◌, length, codes, OnOk, string_bytes};
+ghost use Rattle.std.specs.Prelude.{◌≡◌, length, codes, OnOk};
 ghost use Rattle.ipexts_tool.specs.Text.{AppendsText};
 ghost use Rattle.ip_spec.specs.Chain.{bytes_of};
 ghost use Rattle.ip_ext_chains.specs.Ipv4ExtensionsSlice.{headers_in};

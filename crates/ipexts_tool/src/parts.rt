@@ -1,5 +1,5 @@
 //! Parts of answers that several forms share.
-ghost use Rattle.std.specs.Prelude.{◌≡◌, ◌++◌, OnOk, string_bytes};
+ghost use Rattle.std.specs.Prelude.{◌≡◌, OnOk};
 ghost use Rattle.ipexts_tool.specs.Text.{AppendsText};
 ghost use Rattle.ip_ext_slices.specs.Ipv4Longest.{authentication_chain};
 ghost use Rattle.ipexts_tool.specs.Parts.{header_name, header_line, header_lines, next_line, written_line, ok_line, chain_end_line, ipv4_end_line};

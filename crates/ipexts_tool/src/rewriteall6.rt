@@ -1,5 +1,5 @@
 //! The answer to `rewriteall6 N HEX`.
-ghost use Rattle.std.specs.Prelude.{◌≡◌, ◌++◌, OnOk, string_bytes};
+ghost use Rattle.std.specs.Prelude.{OnOk};
 ghost use Rattle.ipexts_tool.specs.Text.{AppendsText};
 ghost use Rattle.ipexts_tool.specs.RewriteAll6.{rewriteall6_answer};
 

@@ -3,7 +3,6 @@ ghost use Rattle.std.specs.Prelude.{◌≡◌, ◌≤◌, ◌<◌, ◌+◌, ◌^
 ghost use Rattle.std.specs.List.{list_any};
 ghost use Rattle.std.specs.Result.{result_err};
 ghost use Rattle.std.proofs.Common.{rules};
-ghost use Rattle.ip_spec.specs.Chain.{ExtHeader, bytes_of};
 ghost use Rattle.ip_dissect.specs.Dissection.{DissectedParts, dissected};
 ghost use Rattle.ip_dissect.specs.Outline.{outline_of};
 ghost use Rattle.ip_rewrite.specs.Rewritten.{is_extension, is_read_on, rewritten, rewritten_len, rewritten_field, rewritten_parts};
@@ -43,7 +42,7 @@ impl HeaderVisitor for Seen {
 
 /// Returns whether a packet is a fragment, but not a whole packet with a fragment header.
 #[inline(always)]
-fn is_fragmented(outline: &Outline) -> bool
+fn is_non_atomic(outline: &Outline) -> bool
     ensures { (p : DissectedParts) → outline.now ≡ outline_of p → result ≡ is_non_atomic p }
 {
     match outline.fragment {
@@ -85,7 +84,7 @@ fn test_replacement(
         → has_authentication ≡ list_any is_authentication p.headers
         → result_err result ≡ replacement_fault authentication number.0 p }
 {
-    if is_fragmented(outline) {
+    if is_non_atomic(outline) {
         return Err(RewriteError::Fragmented);
     }
     if has_authentication && authentication == Authentication::Valid {

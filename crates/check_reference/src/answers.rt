@@ -14,7 +14,7 @@ ghost use Rattle.ipexts_tool.specs.Exts4.{exts4_answer};
 ghost use Rattle.ipexts_tool.specs.Rewrite6.{rewrite6_answer};
 ghost use Rattle.ipexts_tool.specs.RewriteAll6.{rewriteall6_answer};
 ghost use Rattle.ipexts_tool.specs.Faults.{chain_fault_text};
-ghost use Rattle.ipexts_tool.specs.LineFields.{number_of, bytes_of_hex, number_and_bytes};
+ghost use Rattle.ipexts_tool.specs.LineFields.{decimal_of, bytes_of_hex, number_and_bytes};
 ghost use Rattle.ipexts_tool.specs.Lines.{lines_of};
 ghost use Rattle.ipexts_tool.specs.Request.{request_of_form, request_of_fields};
 ghost use Rattle.ipexts_tool.specs.Parts.{header_name, header_line, header_lines, next_line};
@@ -195,7 +195,7 @@ fn plain_arguments(
 
 /// Parses a decimal numeral of a number below 256.
 fn plain_number(alloc: Global, text: &[u8]) -> Result<Option<u8>, AllocError>
-    ensures { IfOk result (λ number. number ≡ number_of text.now) }
+    ensures { IfOk result (λ number. number ≡ decimal_of text.now) }
 {
     for number in 0..256u16 {
         if format!(in alloc; "{number}")?.as_bytes() == text {

@@ -3,7 +3,7 @@ ghost use Rattle.std.specs.Prelude.{◌≡◌, ◌≤◌, ◌++◌, ℕ, List, l
 ghost use Rattle.ip_dissect.specs.Dissection.{dissected};
 ghost use Rattle.ip_defrag.specs.Fragment.{Fragment};
 ghost use Rattle.ip_defrag.specs.Split.{IsSplit, are_among};
-ghost use Rattle.ip_defragmenter.specs.FragmentOf.{fragment_in};
+ghost use Rattle.ip_defragmenter.specs.FragmentOf.{packet_fragment};
 ghost use Rattle.ip_defragmenter.specs.Added.{added_nothing};
 ghost use Rattle.ip_defragmenter.specs.Counts.{counted};
 ghost use Rattle.ip_defragmenter.specs.Memory.{WasStored, first_in};
@@ -26,8 +26,8 @@ pub fn whole_packet(
     out: &mut [u8],
 ) -> Option<usize>
     requires { length slots.old ≡ length memories.old }
-    ensures other { fragment_in (dissected packet.now) ≡ Ok None → IsNone result × (slots.new ≡ slots.old) }
-    ensures unusable { (e : FragmentError) → fragment_in (dissected packet.now) ≡ Err e
+    ensures other { packet_fragment (dissected packet.now) ≡ Ok None → IsNone result × (slots.new ≡ slots.old) }
+    ensures unusable { (e : FragmentError) → packet_fragment (dissected packet.now) ≡ Err e
         → IsNone result × (slots.new ≡ slots.old) }
 {
     match defragment(slots, memories, factor, time, packet).outcome {
@@ -51,9 +51,9 @@ pub fn counted_packet(
     out: &mut [u8],
 ) -> Option<usize>
     requires { length defragmenter.old.slots.now ≡ length defragmenter.old.memories.now }
-    ensures other { fragment_in (dissected packet.now) ≡ Ok None → IsNone result
+    ensures other { packet_fragment (dissected packet.now) ≡ Ok None → IsNone result
         × (defragmenter.new.counts.now ≡ counted defragmenter.old.counts.now (added_nothing Outcome.NotFragment)) }
-    ensures unusable { (e : FragmentError) → fragment_in (dissected packet.now) ≡ Err e → IsNone result
+    ensures unusable { (e : FragmentError) → packet_fragment (dissected packet.now) ≡ Err e → IsNone result
         × (defragmenter.new.counts.now ≡ counted defragmenter.old.counts.now (added_nothing (Outcome.Dropped (DropReason.Unusable e)))) }
 {
     match defragmenter.add(time, packet).outcome {

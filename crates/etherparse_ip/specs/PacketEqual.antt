@@ -10,7 +10,7 @@ use Rattle.ip_base.specs.Ipv6HeaderSlice as ipv6_header
 use Rattle.ip_base.specs.contracts.len_source.LenSource.{the_type}
 use Rattle.ip_base.specs.declared.ip_payload_slice.IpPayloadSlice.{IpPayloadSlice}
 use Rattle.ip_ext_headers.specs.IpAuthHeaderSlice as auth
-use Rattle.ip_ext_slices.specs.Ipv6ExtensionsSlice.{first_number, bytes, same_slice}
+use Rattle.ip_ext_slices.specs.Ipv6ExtensionsSlice.{first_header_number, bytes, same_slice}
 use Rattle.ip_ext_chains.specs.Ipv4ExtensionsSlice.{same_slices}
 use Rattle.etherparse_ip.specs.IpSlice.{ipv4_of, ipv6_of}
 use Rattle.etherparse_ip.specs.declared.ipv4_slice.Ipv4Slice.{Ipv4Slice}
@@ -58,7 +58,7 @@ pub ipv6_packet_equivalence : IsEquivalence ipv6_packet_equal
 ipv6_packet_equivalence =
     and_equiv (on_equiv (λ p. ipv6_header.bytes p.header) (lists_equiv nat_eq_equiv))
     (and_equiv
-    (and_equiv (on_equiv (λ p. first_number p.exts) (options_equiv (on_equiv (λ n. n.0) nat_eq_equiv)))
+    (and_equiv (on_equiv (λ p. first_header_number p.exts) (options_equiv (on_equiv (λ n. n.0) nat_eq_equiv)))
     (on_equiv (λ p. bytes p.exts) (lists_equiv nat_eq_equiv)))
     (on_equiv (λ p. p.payload) payload_equivalence))
 

@@ -17,7 +17,7 @@ use Rattle.ip_statistics.specs.Statistics.{merged, nothing}
 use Rattle.ip_statistics.specs.declared.statistics.Statistics.{Statistics}
 use Rattle.ip_statistics.proofs.CountLemmas.{added-zero, all_added_comm, all_added_assoc, is_all_added, length-each_below, get_or-each_below, sum_by_place}
 use Rattle.ip_statistics.proofs.LengthLemmas.{one_index, quarter}
-use Rattle.ip_batches.specs.Plain.{first_of, packets_of, with_plain, IsPlain}
+use Rattle.ip_batches.specs.Plain.{first_count, packets_of, with_plain, IsPlain}
 use Rattle.ip_batches.specs.declared.plain.PlainCounts.{PlainCounts}
 
 -- Zeros leave counts as they are.
@@ -36,14 +36,14 @@ same a n none zero = sym (ap (added a) zero ∙ none)
 at_place : (n i m : ℕ) → m ≡ one_if (0 == i) → (if i == 0 then added n 1 else 0) ≡ added (if i == 0 then n else 0) m
 at_place n i m e = grind (arith, common_steps, e)
 
-one_first : (k n : ℕ) (f : ℕ → ℕ) → ((i : ℕ) → i < k → f i ≡ one_if (0 == i)) → first_of k (added n 1) ≡ all_added (first_of k n) (each_below k f)
-one_first k n f ones = is_all_added (first_of k n) (each_below k f) (first_of k (added n 1)) (length-each_below k _ ∙ sym (length-each_below k f)) (length-each_below k _ ∙ sym (length-each_below k _)) (λ i l.
+one_first : (k n : ℕ) (f : ℕ → ℕ) → ((i : ℕ) → i < k → f i ≡ one_if (0 == i)) → first_count k (added n 1) ≡ all_added (first_count k n) (each_below k f)
+one_first k n f ones = is_all_added (first_count k n) (each_below k f) (first_count k (added n 1)) (length-each_below k _ ∙ sym (length-each_below k f)) (length-each_below k _ ∙ sym (length-each_below k _)) (λ i l.
     let below : i < k = omega (arith, l, length-each_below k (λ j. if j == 0 then n else 0)) in
     get_or-each_below k _ i 0 below ∙ at_place n i (f i) (ones i below)
     ∙ sym (ap (λ x. added x (get_or (each_below k f) i 0)) (get_or-each_below k _ i 0 below) ∙ ap (added (if i == 0 then n else 0)) (get_or-each_below k f i 0 below)))
 
-next_first : (xs : List ℕ) (k m n : ℕ) (f : ℕ → ℕ) → m ≡ added n 1 → ((i : ℕ) → i < k → f i ≡ one_if (0 == i)) → all_added xs (first_of k m) ≡ all_added (all_added xs (first_of k n)) (each_below k f)
-next_first xs k m n f e ones = ap (λ x. all_added xs (first_of k x)) e ∙ ap (all_added xs) (one_first k n f ones) ∙ sym (all_added_assoc xs (first_of k n) (each_below k f))
+next_first : (xs : List ℕ) (k m n : ℕ) (f : ℕ → ℕ) → m ≡ added n 1 → ((i : ℕ) → i < k → f i ≡ one_if (0 == i)) → all_added xs (first_count k m) ≡ all_added (all_added xs (first_count k n)) (each_below k f)
+next_first xs k m n f e ones = ap (λ x. all_added xs (first_count k x)) e ∙ ap (all_added xs) (one_first k n f ones) ∙ sym (all_added_assoc xs (first_count k n) (each_below k f))
 
 -- what such a packet counts
 has_version : (v : ℕ) → one_if (v == 4) + one_if (v == 6) ≡ 1 → (v == 0) ≡ false
@@ -118,8 +118,8 @@ other_counted a c p = cc (
   sum_other a.at_payload (packets_of p) c.at_payload,
   sum_other a.incomplete p.incomplete c.incomplete,
   sum_other a.payload_bytes p.payload_bytes c.payload_bytes,
-  list_other a.chain_headers c.chain_headers (first_of 17 (packets_of p)),
-  list_other a.chain_bytes c.chain_bytes (first_of 73 (packets_of p)),
+  list_other a.chain_headers c.chain_headers (first_count 17 (packets_of p)),
+  list_other a.chain_bytes c.chain_bytes (first_count 73 (packets_of p)),
 )
 
 -- No such packets leave statistics as they are.
@@ -127,7 +127,7 @@ either_same : (b : Bool) (z : ℕ) → (if b then z else z) ≡ z
 either_same true z = refl
 either_same false z = refl
 
-first_zero : (xs : List ℕ) (k : ℕ) → all_added xs (replicate k 0) ≡ xs → all_added xs (first_of k 0) ≡ xs
+first_zero : (xs : List ℕ) (k : ℕ) → all_added xs (replicate k 0) ≡ xs → all_added xs (first_count k 0) ≡ xs
 first_zero xs k none = ap (all_added xs) (zeros_each k (λ i. if i == 0 then 0 else 0) (λ i l. either_same (i == 0) 0)) ∙ none
 
 pub no_plain : (a : Statistics) (p : PlainCounts) → merged a nothing ≡ a → p ≡ record { ipv4 = 0; ipv6 = 0; incomplete = 0; payload_bytes = 0 } → with_plain p a ≡ a
@@ -139,15 +139,15 @@ no_plain a p none e = let zero : added 0 0 ≡ 0 = omega arith in ap (λ q. with
   ap (added a.at_payload) zero ∙ ap (λ m. m.at_payload) none,
   ap (λ m. m.incomplete) none,
   ap (λ m. m.payload_bytes) none,
-  ap (λ n. all_added a.chain_headers (first_of 17 n)) zero ∙ first_zero a.chain_headers 17 (ap (λ m. m.chain_headers) none),
-  ap (λ n. all_added a.chain_bytes (first_of 73 n)) zero ∙ first_zero a.chain_bytes 73 (ap (λ m. m.chain_bytes) none),
+  ap (λ n. all_added a.chain_headers (first_count 17 n)) zero ∙ first_zero a.chain_headers 17 (ap (λ m. m.chain_headers) none),
+  ap (λ n. all_added a.chain_bytes (first_count 73 n)) zero ∙ first_zero a.chain_bytes 73 (ap (λ m. m.chain_bytes) none),
 )
 
 -- A number is added to the first count.
 not_first : (i n : ℕ) → i ≢ 0 → (if i == 0 then n else 0) ≡ 0
 not_first i n other = grind (arith, common_steps)
 
-pub first_added : (xs ys : List ℕ) (n : ℕ) → 0 < length xs → ((i : ℕ) → Fits w64 (get_or ys i 0)) → ys ≡ set xs 0 (added (get_or xs 0 0) n) → ys ≡ all_added xs (first_of (length xs) n)
+pub first_added : (xs ys : List ℕ) (n : ℕ) → 0 < length xs → ((i : ℕ) → Fits w64 (get_or ys i 0)) → ys ≡ set xs 0 (added (get_or xs 0 0) n) → ys ≡ all_added xs (first_count (length xs) n)
 first_added xs ys n l fits e = sum_by_place xs ys (length xs) (λ i. if i == 0 then n else 0) refl (ap length e ∙ length-set xs 0 _) (λ i m.
     elim (cases_eq i 0) [
       | inl same ↦ ap (λ zs. get_or zs i 0) e ∙ subst (λ j. get_or (set xs 0 (added (get_or xs 0 0) n)) j 0 ≡ added (get_or xs j 0) (if j == 0 then n else 0)) (sym same) (get_or-set_same xs 0 _ 0 l)
@@ -155,7 +155,7 @@ first_added xs ys n l fits e = sum_by_place xs ys (length xs) (λ i. if i == 0 t
           kept ∙ sym (ap (added (get_or xs i 0)) (not_first i n other) ∙ added-zero (get_or xs i 0) (subst (Fits w64) kept (fits i)))
     ])
 
-pub none_added : (xs : List ℕ) (n : ℕ) → length xs ≤ 0 → xs ≡ all_added xs (first_of (length xs) n)
+pub none_added : (xs : List ℕ) (n : ℕ) → length xs ≤ 0 → xs ≡ all_added xs (first_count (length xs) n)
 unfolding all_added
 none_added [] n l = refl
 none_added (x ∷ xs) n l = absurd (let h : ⊥ = omega (arith, l) in h)

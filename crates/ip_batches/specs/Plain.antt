@@ -9,8 +9,8 @@ use Rattle.ip_statistics.specs.declared.statistics.Statistics.{Statistics}
 use Rattle.ip_batches.specs.declared.plain.PlainCounts.{PlainCounts}
 
 -- k counts, of which the first is n and the others are 0
-abbrev pub first_of : ℕ → ℕ → List ℕ
-first_of k n = each_below k (λ i. if i == 0 then n else 0)
+abbrev pub first_count : ℕ → ℕ → List ℕ
+first_count k n = each_below k (λ i. if i == 0 then n else 0)
 
 -- how many such packets were counted
 abbrev pub packets_of : PlainCounts → ℕ
@@ -25,8 +25,8 @@ with_plain p a = record a {
   at_payload = added a.at_payload (packets_of p);
   incomplete = added a.incomplete p.incomplete;
   payload_bytes = added a.payload_bytes p.payload_bytes;
-  chain_headers = all_added a.chain_headers (first_of 17 (packets_of p));
-  chain_bytes = all_added a.chain_bytes (first_of 73 (packets_of p));
+  chain_headers = all_added a.chain_headers (first_count 17 (packets_of p));
+  chain_bytes = all_added a.chain_bytes (first_count 73 (packets_of p));
 }
 
 -- the packet with the parts d is such a packet

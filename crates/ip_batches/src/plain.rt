@@ -3,7 +3,7 @@ ghost use Rattle.std.specs.Prelude.{◌≡◌, ◌==◌, ◌<◌, ◌&&◌, not,
 ghost use Rattle.ip_dissect.specs.Dissection.{DissectedParts, dissected};
 ghost use Rattle.ip_dissect.specs.Outline.{outline_of};
 ghost use Rattle.ip_statistics.specs.Counts.{added, all_added, each_below, one_if};
-ghost use Rattle.ip_batches.specs.Plain.{first_of, with_plain, IsPlain};
+ghost use Rattle.ip_batches.specs.Plain.{first_count, with_plain, IsPlain};
 
 use ip_dissect::{Outline, Packet};
 use ip_statistics::Statistics;
@@ -101,7 +101,7 @@ pub(crate) fn count_at(counts: &mut [u64], index: usize)
 /// Adds a number to the first count.
 #[inline(always)]
 fn add_first(counts: &mut [u64], number: u64)
-    ensures { counts.new ≡ all_added counts.old (first_of (length counts.old) number) }
+    ensures { counts.new ≡ all_added counts.old (first_count (length counts.old) number) }
 {
     if 0 < counts.len() {
         add_at(counts, 0, number);

@@ -68,8 +68,8 @@ pub record Fields : Type 0 where
   pub is_abandoned : Bool
   pub abandons : Bool
 
-abbrev pub fields_of : ReassemblyState → List ℕ → Fields
-fields_of r buffer = record {
+abbrev pub state_fields : ReassemblyState → List ℕ → Fields
+state_fields r buffer = record {
   buffer = buffer;
   run = r.run;
   marks = r.marks;
@@ -95,7 +95,7 @@ pub record AreReceived (r : Fields) (s : Received) : Type 0 where
 
 -- By the state, with its buffer, this has arrived.
 abbrev pub HasArrived : ReassemblyState → List ℕ → Received → Type 0
-HasArrived r buffer s = AreReceived (fields_of r buffer) s
+HasArrived r buffer s = AreReceived (state_fields r buffer) s
 
 -- The reassembly has received this.
 abbrev pub HasReceived : Reassembly → Received → Type 0

@@ -16,10 +16,10 @@ use Rattle.ip_defragmenter.specs.declared.outcome.Outcome.TheVariants.{MoreWante
 use Rattle.ip_defragmenter.specs.declared.outcome.DropReason.TheVariants.{Refused, NoSlot}
 
 -- what became of a fragment, by what the memory with this index returned
-abbrev pub outcome_of : ℕ → Result Progress StoreError → Outcome
-outcome_of i (Ok progress.MoreWanted) = MoreWanted
-outcome_of i (Ok progress.Whole) = Whole i
-outcome_of i (Err e) = Dropped (Refused e)
+abbrev pub outcome_in : ℕ → Result Progress StoreError → Outcome
+outcome_in i (Ok progress.MoreWanted) = MoreWanted
+outcome_in i (Ok progress.Whole) = Whole i
+outcome_in i (Err e) = Dropped (Refused e)
 
 -- The packet is whole.
 abbrev pub is_whole : Result Progress StoreError → Bool
@@ -39,7 +39,7 @@ added_nothing o = record { outcome = o; slot = None; lost = None }
 -- the packet is whole, and its packet's otherwise.
 pub record IsAddedAt (slots : List Slot) (memories : List PacketMemory) (f : FragmentParts) (p : Placement) (slots' : List Slot) (memories' : List PacketMemory) (a : Added) (r : Result Progress StoreError) : Type 0 where
   pub lost : a.lost ≡ p.lost
-  pub outcome : a.outcome ≡ outcome_of p.index r
+  pub outcome : a.outcome ≡ outcome_in p.index r
   pub index : a.slot ≡ Some p.index
   pub slot : slots' ≡ freed (is_whole r) p.index (slots_after slots f.key (Some p))
   pub others : (j : ℕ) → (j ≡ p.index → ⊥) → slice_get memories' j ≡ slice_get memories j

@@ -32,14 +32,14 @@ add_code TwoEnds = 9
 add_code Abandoned = 10
 
 -- the code of why a memory refuses a fragment
-abbrev pub refusal_code : StoreError → ℕ
-refusal_code (Payload e) = add_code e
-refusal_code HeadersTooLong = 11
+abbrev pub store_error_code : StoreError → ℕ
+store_error_code (Payload e) = add_code e
+store_error_code HeadersTooLong = 11
 
 -- the code of why a fragment was dropped
 abbrev pub drop_code : DropReason → ℕ
 drop_code (Unusable e) = error_code e
-drop_code (Refused e) = refusal_code e
+drop_code (Refused e) = store_error_code e
 drop_code NoSlot = 12
 
 -- the code of what became of a packet

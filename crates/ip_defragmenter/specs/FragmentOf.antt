@@ -43,8 +43,8 @@ parts_of f = record {
 }
 
 -- of an IPv4 packet: its base header says it
-abbrev pub ipv4_parts : DissectedParts → Option FragmentParts
-ipv4_parts p = if is_ipv4_fragmenting p.base then Some (record {
+abbrev pub ipv4_fragment_parts : DissectedParts → Option FragmentParts
+ipv4_fragment_parts p = if is_ipv4_fragmenting p.base then Some (record {
   key = key.Ipv4 (ipv4_source_octets p.base) (ipv4_destination_octets p.base) (record { 0 = protocol p.base }) (ipv4_identification p.base);
   headers = p.base;
   link = 9;
@@ -55,8 +55,8 @@ ipv4_parts p = if is_ipv4_fragmenting p.base then Some (record {
 }) else None
 
 -- of an IPv6 packet with this fragment header
-abbrev pub ipv6_parts_by : DissectedParts → ExtHeader → FragmentParts
-ipv6_parts_by p h = record {
+abbrev pub ipv6_fragment_parts_by : DissectedParts → ExtHeader → FragmentParts
+ipv6_fragment_parts_by p h = record {
   key = key.Ipv6 (ipv6_source_octets p.base) (ipv6_destination_octets p.base) (fragment_fields h.bytes).identification;
   headers = p.base ++ bytes_of (before_fragment p.headers);
   link = link_after (length p.base) (before_fragment p.headers);
@@ -67,12 +67,12 @@ ipv6_parts_by p h = record {
 }
 
 -- of an IPv6 packet: its first fragment header that fragments the payload says it
-abbrev pub ipv6_parts : DissectedParts → Option FragmentParts
-ipv6_parts p = option_map (ipv6_parts_by p) (find fragments p.headers)
+abbrev pub ipv6_fragment_parts : DissectedParts → Option FragmentParts
+ipv6_fragment_parts p = option_map (ipv6_fragment_parts_by p) (find fragments p.headers)
 
 -- the fragment that the packet with the dissected parts p is
 abbrev pub fragmented : DissectedParts → Option FragmentParts
-fragmented p = if p.version == 4 then ipv4_parts p else if p.version == 6 then ipv6_parts p else None
+fragmented p = if p.version == 4 then ipv4_fragment_parts p else if p.version == 6 then ipv6_fragment_parts p else None
 
 -- why it can't be used: its headers end with an error (RFC 7112), it states no length, or bytes are missing
 abbrev pub unusable : DissectedParts → Option FragmentError
@@ -86,5 +86,5 @@ unusable p =
 abbrev pub fragment_by : DissectedParts → FragmentParts → Result (Option FragmentParts) FragmentError
 fragment_by p f = option_map_or Err (unusable p) (Ok (Some f))
 
-unfoldable pub fragment_in : DissectedParts → Result (Option FragmentParts) FragmentError
-fragment_in p = option_map_or (fragment_by p) (fragmented p) (Ok None)
+unfoldable pub packet_fragment : DissectedParts → Result (Option FragmentParts) FragmentError
+packet_fragment p = option_map_or (fragment_by p) (fragmented p) (Ok None)

@@ -66,17 +66,17 @@ place_in slots k time =
 
 -- The index of the first slot of the set that the hash of a key selects, among so many slots. Each set has 8 slots, but
 -- for the last one, which may have fewer.
-abbrev pub first_of : ℕ → ℕ → FragmentKey → ℕ
-first_of n factor k = 8 * (hash_of factor k % ((n - 1) / 8 + 1))
+abbrev pub first_slot_of : ℕ → ℕ → FragmentKey → ℕ
+first_slot_of n factor k = 8 * (hash_of factor k % ((n - 1) / 8 + 1))
 
 -- that set
 abbrev pub set_of : List Slot → ℕ → FragmentKey → List Slot
-set_of slots factor k = slice_range slots (first_of (length slots) factor k) (min (first_of (length slots) factor k + 8) (length slots))
+set_of slots factor k = slice_range slots (first_slot_of (length slots) factor k) (min (first_slot_of (length slots) factor k + 8) (length slots))
 
 -- the place of the packet with this key among all slots
 unfoldable pub place_of : List Slot → ℕ → FragmentKey → ℕ → Option Placement
 place_of slots factor k time =
-    option_map (λ (p : Placement). record p { index = first_of (length slots) factor k + p.index }) (place_in (set_of slots factor k) k time)
+    option_map (λ (p : Placement). record p { index = first_slot_of (length slots) factor k + p.index }) (place_in (set_of slots factor k) k time)
 
 -- the slots when the packet with this key has this place, if any
 abbrev pub slots_after : List Slot → FragmentKey → Option Placement → List Slot

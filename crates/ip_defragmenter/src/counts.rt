@@ -1,6 +1,6 @@
 //! Counts of what became of packets.
 ghost use Rattle.std.specs.Prelude.{◌≡◌, ◌<◌, ◌≤◌, length, slice_index, slice_set};
-ghost use Rattle.ip_defragmenter.specs.Counts.{outcome_code, error_code, refusal_code, drop_code, reason_code, loss_code, counted, counted_loss, one_more, no_counts};
+ghost use Rattle.ip_defragmenter.specs.Counts.{outcome_code, error_code, store_error_code, drop_code, reason_code, loss_code, counted, counted_loss, one_more, no_counts};
 
 use crate::{Added, DropReason, FragmentError, Loss, LossReason, Outcome, StoreError};
 use ip_defrag::AddError;
@@ -27,7 +27,7 @@ fn error_code(error: FragmentError) -> u8
 /// Returns the code of why a memory refuses a fragment.
 #[inline(always)]
 fn refusal_code(error: StoreError) -> u8
-    ensures code { result ≡ refusal_code error }
+    ensures code { result ≡ store_error_code error }
     ensures within { result < 13 }
 {
     match error {

@@ -1,8 +1,8 @@
 //! Packets from their fragments.
 ghost use Rattle.std.specs.Prelude.{◌≡◌, ◌<◌, length, Ok, Err, None, Some};
 ghost use Rattle.ip_dissect.specs.Dissection.{dissected};
-ghost use Rattle.ip_defragmenter.specs.FragmentOf.{FragmentParts, parts_of, fragment_in};
-ghost use Rattle.ip_defragmenter.specs.Added.{outcome_of, is_whole, freed, IsAdded, added_nothing};
+ghost use Rattle.ip_defragmenter.specs.FragmentOf.{FragmentParts, parts_of, packet_fragment};
+ghost use Rattle.ip_defragmenter.specs.Added.{outcome_in, is_whole, freed, IsAdded, added_nothing};
 ghost use Rattle.ip_defragmenter.specs.declared.err.FragmentError.{FragmentError};
 
 use crate::fragment::Reading;
@@ -16,7 +16,7 @@ use ip_defrag::Progress;
 /// Returns what became of a fragment, by what the memory with this index returned for it.
 #[inline(always)]
 fn outcome_of(index: usize, stored: Result<Progress, StoreError>) -> Outcome
-    ensures { result ≡ outcome_of index stored }
+    ensures { result ≡ outcome_in index stored }
 {
     match stored {
         Ok(Progress::MoreWanted) => Outcome::MoreWanted,
@@ -80,11 +80,11 @@ pub fn defragment(
     bytes: &[u8],
 ) -> Added
     requires { length slots.old ≡ length memories.old }
-    ensures not_fragment { fragment_in (dissected bytes.now) ≡ Ok None
+    ensures not_fragment { packet_fragment (dissected bytes.now) ≡ Ok None
         → (result ≡ added_nothing Outcome.NotFragment) × (slots.new ≡ slots.old) × (memories.new ≡ memories.old) }
-    ensures unusable { (e : FragmentError) → fragment_in (dissected bytes.now) ≡ Err e
+    ensures unusable { (e : FragmentError) → packet_fragment (dissected bytes.now) ≡ Err e
         → (result ≡ added_nothing (Outcome.Dropped (DropReason.Unusable e))) × (slots.new ≡ slots.old) × (memories.new ≡ memories.old) }
-    ensures added { (f : FragmentParts) → fragment_in (dissected bytes.now) ≡ Ok (Some f)
+    ensures added { (f : FragmentParts) → packet_fragment (dissected bytes.now) ≡ Ok (Some f)
         → IsAdded slots.old memories.old factor time f slots.new memories.new result }
 {
     let mut reading = Reading::new();
@@ -123,7 +123,7 @@ pub struct Defragmenter<'m> {
 impl<'m> Defragmenter<'m> {
     ghost use Rattle.std.specs.Prelude.{◌≡◌, length, Ok, Err, None, Some};
     ghost use Rattle.ip_dissect.specs.Dissection.{dissected};
-    ghost use Rattle.ip_defragmenter.specs.FragmentOf.{FragmentParts, fragment_in};
+    ghost use Rattle.ip_defragmenter.specs.FragmentOf.{FragmentParts, packet_fragment};
     ghost use Rattle.ip_defragmenter.specs.Added.{IsAdded, added_nothing};
     ghost use Rattle.ip_defragmenter.specs.Counts.{counted};
     ghost use Rattle.ip_defragmenter.specs.declared.err.FragmentError.{FragmentError};
@@ -133,13 +133,13 @@ impl<'m> Defragmenter<'m> {
     #[inline(always)]
     pub fn add(&mut self, time: u64, bytes: &[u8]) -> Added
         requires { length self.old.slots.now ≡ length self.old.memories.now }
-        ensures not_fragment { fragment_in (dissected bytes.now) ≡ Ok None
+        ensures not_fragment { packet_fragment (dissected bytes.now) ≡ Ok None
             → (result ≡ added_nothing Outcome.NotFragment)
             × (self.new.slots.now ≡ self.old.slots.now) × (self.new.memories.now ≡ self.old.memories.now) }
-        ensures unusable { (e : FragmentError) → fragment_in (dissected bytes.now) ≡ Err e
+        ensures unusable { (e : FragmentError) → packet_fragment (dissected bytes.now) ≡ Err e
             → (result ≡ added_nothing (Outcome.Dropped (DropReason.Unusable e)))
             × (self.new.slots.now ≡ self.old.slots.now) × (self.new.memories.now ≡ self.old.memories.now) }
-        ensures added { (f : FragmentParts) → fragment_in (dissected bytes.now) ≡ Ok (Some f)
+        ensures added { (f : FragmentParts) → packet_fragment (dissected bytes.now) ≡ Ok (Some f)
             → IsAdded self.old.slots.now self.old.memories.now self.old.factor time f
             self.new.slots.now self.new.memories.now result }
         ensures counts { self.new.counts.now ≡ counted self.old.counts.now result }

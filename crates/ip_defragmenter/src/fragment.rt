@@ -10,7 +10,7 @@ ghost use Rattle.ip_base.specs.Ipv4Header.{is_ipv4_fragmenting};
 ghost use Rattle.ip_base.specs.Ipv4HeaderSlice as ipv4_header;
 ghost use Rattle.ip_base.specs.Ipv6HeaderSlice as ipv6_header;
 ghost use Rattle.ip_defragmenter.specs.Finder.{found_after};
-ghost use Rattle.ip_defragmenter.specs.FragmentOf.{parts_of, fragment_in, ipv4_parts, ipv6_parts, unusable, fragmented};
+ghost use Rattle.ip_defragmenter.specs.FragmentOf.{parts_of, packet_fragment, ipv4_fragment_parts, ipv6_fragment_parts, unusable, fragmented};
 
 use crate::finder::{Finder, FoundHeader};
 use crate::{FragmentError, FragmentKey};
@@ -45,7 +45,7 @@ pub struct IpFragment<'a> {
 /// or bytes are missing.
 #[inline(always)]
 pub fn fragment_of(bytes: &[u8]) -> Result<Option<IpFragment<'_>>, FragmentError>
-    ensures { result_map_both (option_map parts_of) (λ e. e) result ≡ fragment_in (dissected bytes.now) }
+    ensures { result_map_both (option_map parts_of) (λ e. e) result ≡ packet_fragment (dissected bytes.now) }
 {
     let mut reading = Reading::new();
     reading.read(bytes);
@@ -72,7 +72,7 @@ impl<'a> Reading<'a> {
         requires { finder.now ≡ found_after (length (dissected packet.now.bytes.now).base)
             (dissected packet.now.bytes.now).headers }
         ensures { result_map_both (option_map parts_of) (λ e. e) self.new.fragment
-            ≡ fragment_in (dissected packet.now.bytes.now) }
+            ≡ packet_fragment (dissected packet.now.bytes.now) }
     {
         match packet.base {
             Some(BaseHeader::Ipv4(base)) => self.read_ipv4(packet, base),
@@ -86,7 +86,7 @@ impl<'a> Reading<'a> {
     fn read_ipv4(&mut self, packet: &Packet<'a>, base: Ipv4HeaderSlice<'a>)
         requires { packet.now.base ≡ Some (Ipv4 base) }
         ensures { result_map_both (option_map parts_of) (λ e. e) self.new.fragment
-            ≡ fragment_in (dissected packet.now.bytes.now) }
+            ≡ packet_fragment (dissected packet.now.bytes.now) }
     {
         if !base.is_fragmenting_payload() {
             self.fragment = Ok(None);
@@ -105,7 +105,7 @@ impl<'a> Reading<'a> {
         requires found { finder.now ≡ found_after (length (dissected packet.now.bytes.now).base)
             (dissected packet.now.bytes.now).headers }
         ensures { result_map_both (option_map parts_of) (λ e. e) self.new.fragment
-            ≡ fragment_in (dissected packet.now.bytes.now) }
+            ≡ packet_fragment (dissected packet.now.bytes.now) }
     {
         match finder.header {
             Some(header) => match test(&packet.outline) {
@@ -120,7 +120,7 @@ impl<'a> Reading<'a> {
     #[inline(always)]
     pub(crate) fn read(&mut self, bytes: &'a [u8])
         ensures { result_map_both (option_map parts_of) (λ e. e) self.new.fragment
-            ≡ fragment_in (dissected bytes.now) }
+            ≡ packet_fragment (dissected bytes.now) }
     {
         let _ = Packet::visit(bytes, self);
     }
@@ -131,9 +131,9 @@ impl<'a> PacketVisitor<'a> for Reading<'a> {
 
     type Slow = ();
 
-    ghost plain = { λ old s new _. result_map_both (option_map parts_of) (λ e. e) new.fragment ≡ fragment_in (dissected s) };
+    ghost plain = { λ old s new _. result_map_both (option_map parts_of) (λ e. e) new.fragment ≡ packet_fragment (dissected s) };
 
-    ghost slow = { λ old s new _. result_map_both (option_map parts_of) (λ e. e) new.fragment ≡ fragment_in (dissected s) };
+    ghost slow = { λ old s new _. result_map_both (option_map parts_of) (λ e. e) new.fragment ≡ packet_fragment (dissected s) };
 
     #[inline(always)]
     fn visit_plain(&mut self, packet: Packet<'a>) {
@@ -171,7 +171,7 @@ fn test(outline: &Outline) -> Result<(), FragmentError>
 fn ipv4_fragment<'a>(packet: &Packet<'a>, base: Ipv4HeaderSlice<'a>) -> IpFragment<'a>
     requires base { packet.now.base ≡ Some (Ipv4 base) }
     requires fragments { is_ipv4_fragmenting (ipv4_header.bytes base) ≡ true }
-    ensures { Some (parts_of result) ≡ ipv4_parts (dissected packet.now.bytes.now) }
+    ensures { Some (parts_of result) ≡ ipv4_fragment_parts (dissected packet.now.bytes.now) }
 {
     let start = packet.outline.base_len;
     IpFragment {
@@ -202,7 +202,7 @@ fn ipv6_fragment<'a>(
     requires found { finder.now ≡ found_after (length (dissected packet.now.bytes.now).base)
         (dissected packet.now.bytes.now).headers }
     requires header { finder.now.header ≡ Some header.now }
-    ensures { Some (parts_of result) ≡ ipv6_parts (dissected packet.now.bytes.now) }
+    ensures { Some (parts_of result) ≡ ipv6_fragment_parts (dissected packet.now.bytes.now) }
 {
     IpFragment {
         key: FragmentKey::Ipv6 {

@@ -1,7 +1,7 @@
 //! Which slot a packet has.
 ghost use Rattle.std.specs.Prelude.{◌≡◌, ◌<◌, ◌≤◌, nat_le, min, length, Some, None, IfSome, is_some, if◌then◌else◌, position, true, false};
 ghost use Rattle.std.specs.List.{fold};
-ghost use Rattle.ip_defragmenter.specs.Slots.{has_key, is_oldest, is_expired, since_of, own_place, own_in, new_place, displaced_place, displaced_in, slot_at, place_in, first_of, place_of, slots_after, loss_of};
+ghost use Rattle.ip_defragmenter.specs.Slots.{has_key, is_oldest, is_expired, since_of, own_place, own_in, new_place, displaced_place, displaced_in, slot_at, place_in, first_slot_of, place_of, slots_after, loss_of};
 ghost use Rattle.ip_defragmenter.specs.Slot.{free_slot, is_free};
 
 use crate::{FragmentKey, Loss, LossReason, Pending, Slot};
@@ -190,7 +190,7 @@ fn place_in(slots: &[Slot], key: &FragmentKey, time: u64) -> Option<Placement>
 /// Returns the index of the first slot of a packet's set, of at most 8 slots, by the hash of its key.
 #[inline(always)]
 fn first_of(len: usize, factor: u32, key: &FragmentKey) -> usize
-    ensures first { result ≡ first_of len factor key.now }
+    ensures first { result ≡ first_slot_of len factor key.now }
     ensures within { result ≤ len }
 {
     let sets = len.saturating_sub(1) / 8 + 1;

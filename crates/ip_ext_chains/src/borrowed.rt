@@ -4,7 +4,7 @@ ghost use Rattle.ip_spec.specs.Chain.{ExtHeader, bytes_of, headers_within};
 ghost use Rattle.ip_spec.specs.Demand.{IsLongestUnder};
 ghost use Rattle.ip_spec.specs.Encoding.{cleared_chain};
 ghost use Rattle.ip_spec.specs.Fits.{FitsPlaces};
-ghost use Rattle.ip_ext_slices.specs.Ipv6ExtensionsSlice.{first_number, bytes as bytes_in, headers_in};
+ghost use Rattle.ip_ext_slices.specs.Ipv6ExtensionsSlice.{first_header_number, bytes as bytes_in, headers_in};
 ghost use Rattle.ip_ext_slices.specs.Ipv6ExtensionSlice.{header_of};
 ghost use Rattle.ip_ext_slices.specs.Ipv6ExtensionSliceIter.{headers_left};
 ghost use Rattle.ip_ext_chains.specs.Clearing.{Clearing};
@@ -40,7 +40,7 @@ pub fn fitting_headers(
     ensures truncated { (j : ℕ) → fitting_chain start_ip_number.0 (take j start_slice.now)
         ≡ headers_within j (headers_in result.0) }
     ensures bytes { bytes_in result.0 ≡ bytes_of (fitting_chain start_ip_number.0 start_slice.now) }
-    ensures first { first_number result.0
+    ensures first { first_header_number result.0
         ≡ (if length (bytes_in result.0) == 0 then None else Some start_ip_number) }
 {
     let (places, number, rest, fault) = take_fitting(start_ip_number, start_slice);

@@ -8,8 +8,8 @@ use Rattle.ip_ext_slices.specs.Longest.{longest_chain}
 use Rattle.ip_ext_slices.specs.declared.ipv6_exts_slice.Ipv6ExtensionsSlice.{Ipv6ExtensionsSlice}
 
 -- the number of its first header
-abbrev pub first_number : Ipv6ExtensionsSlice → Option IpNumber
-first_number x = x.first_header
+abbrev pub first_header_number : Ipv6ExtensionsSlice → Option IpNumber
+first_header_number x = x.first_header
 
 -- its bytes
 abbrev pub bytes : Ipv6ExtensionsSlice → List ℕ
@@ -21,4 +21,4 @@ headers_in x = option_map_or (λ n. longest_chain n.0 x.slice.now) x.first_heade
 
 -- two have the same first number and bytes
 abbrev pub same_slice : Ipv6ExtensionsSlice → Ipv6ExtensionsSlice → Bool
-same_slice a b = option_eq (λ m n. m.0 == n.0) (first_number a) (first_number b) && pointwise nat_eq (bytes a) (bytes b)
+same_slice a b = option_eq (λ m n. m.0 == n.0) (first_header_number a) (first_header_number b) && pointwise nat_eq (bytes a) (bytes b)

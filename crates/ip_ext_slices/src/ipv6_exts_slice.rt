@@ -31,7 +31,7 @@ pub struct Ipv6ExtensionsSlice<'a> {
 }
 
 impl<'a> Ipv6ExtensionsSlice<'a> {
-    ghost use Rattle.ip_ext_slices.specs.Ipv6ExtensionsSlice.{first_number, bytes, headers_in};
+    ghost use Rattle.ip_ext_slices.specs.Ipv6ExtensionsSlice.{first_header_number, bytes, headers_in};
 
     /// Returns the chain from `start` that is all of `slice`, without parsing it: the caller knows its headers, and
     /// whether one of them fragments the payload.
@@ -41,7 +41,7 @@ impl<'a> Ipv6ExtensionsSlice<'a> {
         requires flag { fragmented ≡ has_fragmenting (longest_chain start.0 slice.now) }
         ensures bytes { bytes result ≡ slice.now }
         ensures headers { headers_in result ≡ longest_chain start.0 slice.now }
-        ensures first { first_number result ≡ (if length slice.now == 0 then None else Some start) }
+        ensures first { first_header_number result ≡ (if length slice.now == 0 then None else Some start) }
     {
         let first_header = if slice.is_empty() { None } else { Some(start) };
         Ipv6ExtensionsSlice {
@@ -64,7 +64,7 @@ impl<'a> Ipv6ExtensionsSlice<'a> {
         requires flag { fragmented ≡ has_fragmenting (longest_chain start.0 input.now) }
         ensures headers { headers_in result ≡ longest_chain start.0 input.now }
         ensures bytes { bytes result ≡ bytes_of (longest_chain start.0 input.now) }
-        ensures first { first_number result
+        ensures first { first_header_number result
             ≡ (if length (bytes result) == 0 then None else Some start) }
     {
         Self::new(start, &input[..len], fragmented)
@@ -93,7 +93,7 @@ impl<'a> Ipv6ExtensionsSlice<'a> {
         ensures bytes { bytes result.0
             ≡ bytes_of (longest_chain start_ip_number.0 start_slice.now) }
         ensures prefix { IsPrefix (bytes result.0) start_slice.now }
-        ensures first { first_number result.0
+        ensures first { first_header_number result.0
             ≡ (if length (bytes result.0) == 0 then None else Some start_ip_number) }
     {
         let (number, rest, len, fragmented) = Self::scan(start_ip_number, start_slice);
@@ -139,7 +139,7 @@ impl<'a> Ipv6ExtensionsSlice<'a> {
             (chain_fault start_ip_number.0 start_slice.now) ≡ Some e) }
         ensures bytes { IfOk result (λ x. bytes x.0
             ≡ bytes_of (longest_chain start_ip_number.0 start_slice.now)) }
-        ensures first { IfOk result (λ x. first_number x.0
+        ensures first { IfOk result (λ x. first_header_number x.0
             ≡ (if length (bytes x.0) == 0 then None else Some start_ip_number)) }
     {
         let (number, rest, len, fragmented) = Self::scan(start_ip_number, start_slice);
@@ -152,7 +152,7 @@ impl<'a> Ipv6ExtensionsSlice<'a> {
 
     /// Returns the number of the first header, if there is one.
     pub fn first_header(&self) -> Option<IpNumber>
-        ensures number { result ≡ first_number self.now }
+        ensures number { result ≡ first_header_number self.now }
         ensures none { is_none result ≡ is_empty (headers_in self.now) }
     {
         self.first_header
@@ -187,7 +187,7 @@ impl<'a> IntoIterator for Ipv6ExtensionsSlice<'a> {
     type IntoIter = Ipv6ExtensionSliceIter<'a>;
 
     ghost use Rattle.std.specs.Prelude.{◌*◌, ◌≤◌};
-    ghost use Rattle.ip_ext_slices.specs.Ipv6ExtensionsSlice.{headers_in, bytes, first_number};
+    ghost use Rattle.ip_ext_slices.specs.Ipv6ExtensionsSlice.{headers_in, bytes, first_header_number};
     ghost use Rattle.ip_ext_slices.specs.Ipv6ExtensionSliceIter.{headers_left, number_left, bytes_left};
 
     ghost into_iter_gives = { λ x it. headers_left it ≡ headers_in x };
@@ -197,7 +197,7 @@ impl<'a> IntoIterator for Ipv6ExtensionsSlice<'a> {
         ensures headers { headers_left result ≡ headers_in self.entry }
         ensures joined { bytes_of (headers_left result) ≡ bytes self.entry }
         ensures bound { 8 * length (headers_in self.entry) ≤ length (bytes self.entry) }
-        ensures number { number_left result ≡ option_map_or (λ n. n.0) (first_number self.entry) UDP }
+        ensures number { number_left result ≡ option_map_or (λ n. n.0) (first_header_number self.entry) UDP }
         ensures bytes { bytes_left result ≡ bytes self.entry }
     {
         Ipv6ExtensionSliceIter {
@@ -209,9 +209,9 @@ impl<'a> IntoIterator for Ipv6ExtensionsSlice<'a> {
 
 impl<'a> Clone for Ipv6ExtensionsSlice<'a> {
     ghost use Rattle.std.specs.Prelude.{⊤};
-    ghost use Rattle.ip_ext_slices.specs.Ipv6ExtensionsSlice.{first_number, bytes};
+    ghost use Rattle.ip_ext_slices.specs.Ipv6ExtensionsSlice.{first_header_number, bytes};
 
-    ghost is_clone = { λ x copy. (first_number copy ≡ first_number x) × (bytes copy ≡ bytes x) };
+    ghost is_clone = { λ x copy. (first_header_number copy ≡ first_header_number x) × (bytes copy ≡ bytes x) };
 
     ghost is_infallible = { λ _. ⊤ };
 
@@ -228,7 +228,7 @@ impl PartialEq for Ipv6ExtensionsSlice<'_> {
     ghost use Rattle.std.specs.Prelude.{◌↔◌, IsTrue};
     ghost use Rattle.std.specs.Cmp.Rules.{comparing};
     ghost use Rattle.std.proofs.Common.{rules};
-    ghost use Rattle.ip_ext_slices.specs.Ipv6ExtensionsSlice.{first_number, bytes, headers_in, same_slice};
+    ghost use Rattle.ip_ext_slices.specs.Ipv6ExtensionsSlice.{first_header_number, bytes, headers_in, same_slice};
 
     ghost eq = { same_slice };
 
@@ -237,7 +237,7 @@ impl PartialEq for Ipv6ExtensionsSlice<'_> {
     #[tactic(auto, using(crate::proofs::SameLemmas::same_headers))]
     fn eq(&self, other: &Self) -> bool
         ensures answer { result ≡ same_slice self.now other.now }
-        ensures same { IsTrue result ↔ ((first_number self.now ≡ first_number other.now)
+        ensures same { IsTrue result ↔ ((first_header_number self.now ≡ first_header_number other.now)
             × (bytes self.now ≡ bytes other.now)) }
         ensures headers { IsTrue result ↔ (headers_in self.now ≡ headers_in other.now) }
     {
@@ -253,9 +253,9 @@ impl Eq for Ipv6ExtensionsSlice<'_> {
 }
 
 impl Default for Ipv6ExtensionsSlice<'_> {
-    ghost use Rattle.ip_ext_slices.specs.Ipv6ExtensionsSlice.{first_number, bytes};
+    ghost use Rattle.ip_ext_slices.specs.Ipv6ExtensionsSlice.{first_header_number, bytes};
 
-    ghost is_default = { λ x. (first_number x ≡ None) × (bytes x ≡ []) };
+    ghost is_default = { λ x. (first_header_number x ≡ None) × (bytes x ≡ []) };
 
     /// Returns a chain without headers.
     fn default() -> Self {

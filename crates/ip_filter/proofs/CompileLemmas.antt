@@ -7,7 +7,7 @@ use Rattle.std.proofs.Math.Seq.{get_or-append_seam}
 use Rattle.ip_filter.specs.Formula.{Formula, single, negation, both, either, truth, negated, after_step, read_after}
 use Rattle.ip_filter.specs.Tests.{frame_meets, meets}
 use Rattle.ip_filter.specs.Program.{led_to, passes, frame_holds}
-use Rattle.ip_filter.specs.Compiled.{terms_of, terms_of_all, joined, Decide, AreCompiled, index_moved, redirected, redirected_from}
+use Rattle.ip_filter.specs.Compiled.{terms_of, terms_of_all, joined_by, Decide, AreCompiled, index_moved, redirected, redirected_from}
 use Rattle.ip_filter.specs.declared.filter.Test.{Test}
 use Rattle.ip_filter.specs.declared.term.Term.{Term}
 use Rattle.ip_dissect.specs.Dissection.{dissected}
@@ -287,7 +287,7 @@ module _ (frame : Option (List ℕ)) (k : ℕ) where
   -- the last two formulas are joined, and the result is negated
   pub two_joined : (is_and : Bool) (fs : List Formula) (starts mid more last : List ℕ) (j : ℕ) (xs ys zs : List Test) → 2 ≤ length starts → starts ≡ mid ++ j ∷ []
       → terms_of_all (after_step (if is_and then And else Or) k fs) ≤ 64
-      → ((f g : Formula) (gs : List Formula) → terms_of g + (terms_of f + terms_of_all gs) ≤ 64 → AreCompiled frame (g ∷ f ∷ gs) (mid ++ j ∷ []) xs → AreCompiled frame (joined is_and f g ∷ gs) more ys)
+      → ((f g : Formula) (gs : List Formula) → terms_of g + (terms_of f + terms_of_all gs) ≤ 64 → AreCompiled frame (g ∷ f ∷ gs) (mid ++ j ∷ []) xs → AreCompiled frame (joined_by is_and f g ∷ gs) more ys)
       → ((h : Formula) (gs : List Formula) → terms_of h + terms_of_all gs ≤ 64 → AreCompiled frame (h ∷ gs) more ys → AreCompiled frame (negated k h ∷ gs) last zs)
       → AreCompiled frame fs starts xs → AreCompiled frame (after_step (if is_and then And else Or) k fs) last zs
   two_joined is_and [] starts mid more last j xs ys zs two popped few join negate are = absurd (omega (arith, two, compiled_starts frame [] starts xs are))
@@ -300,7 +300,7 @@ module _ (frame : Option (List ℕ)) (k : ℕ) where
 -- the tests of the first of two formulas lead on to those of the second
 pub in_order : (frame : Option (List ℕ)) (is_and : Bool) (f g : Formula) (fs : List Formula) (mid : List ℕ) (j : ℕ) (xs ys : List Test) → terms_of g + (terms_of f + terms_of_all fs) ≤ 64
     → ((rest : List ℕ) (i : ℕ) → mid ≡ rest ++ i ∷ [] → i ≤ j → j ≤ length xs → ys ≡ redirected_from i (if is_and then j else 64) (if is_and then 65 else j) (take j xs) ++ drop j xs)
-    → AreCompiled frame (g ∷ f ∷ fs) (mid ++ j ∷ []) xs → AreCompiled frame (joined is_and f g ∷ fs) mid ys
+    → AreCompiled frame (g ∷ f ∷ fs) (mid ++ j ∷ []) xs → AreCompiled frame (joined_by is_and f g ∷ fs) mid ys
 in_order frame true f g fs mid j xs ys few to are =
     two_compiled frame f g fs (mid ++ j ∷ []) mid j xs ys j 65 few refl to (both f g) refl (λ i front df dg seam fits small. decide_both frame f g i j front (drop j xs) df dg seam fits small) are
 in_order frame false f g fs mid j xs ys few to are =

@@ -17,20 +17,20 @@ use Rattle.ip_dissect.specs.declared.dissection.BaseHeader.TheVariants.{Ipv4, Ip
 use Rattle.ip_dissect.proofs.Ipv4Lemmas.{ipv4_prefix}
 use Rattle.ip_dissect.proofs.DissectedLemmas.{begins4, begins6, begins_none}
 use Rattle.ip_dissect.proofs.LaterLemmas.{chain_to_later-longest}
-use Rattle.ip_filter.specs.Facts.{first_number}
+use Rattle.ip_filter.specs.Facts.{number_after}
 use Rattle.ip_filter.specs.HeaderConditions.{is_asked, meets_condition}
 use Rattle.ip_filter.specs.declared.header_condition.HeaderCondition.{HeaderCondition}
 use Rattle.ip_filter.specs.declared.header_condition.HeaderCondition.TheVariants as asks
 
 -- They are a chain from the number after the base header.
-pub packet_chain : (s : List ℕ) (o : Option BaseHeader) → IsBaseOf s o → IsChain (first_number o) (dissected s).headers
+pub packet_chain : (s : List ℕ) (o : Option BaseHeader) → IsBaseOf s o → IsChain (number_after o) (dissected s).headers
 packet_chain s None is = rw (begins_none s is).is (search rules)
 packet_chain s (Some (Ipv4 h)) is = rw (begins4 s (Some (Ipv4 h)) (ipv4_header.bytes h) is refl refl).is (ipv4_prefix (ipv4_header.bytes h) _).chain
 packet_chain s (Some (Ipv6 h)) is = rw (begins6 s (Some (Ipv6 h)) (ipv6_header.bytes h) is refl refl).is (chain_to_later-longest _ _).has.0.chain
 
 -- So they are the longest chain of their own bytes.
-pub headers_again : (s : List ℕ) (o : Option BaseHeader) → IsBaseOf s o → longest_chain (first_number o) (bytes_of (dissected s).headers) ≡ (dissected s).headers
-headers_again s o is = longest_chain-bytes_of (first_number o) (dissected s).headers (packet_chain s o is)
+pub headers_again : (s : List ℕ) (o : Option BaseHeader) → IsBaseOf s o → longest_chain (number_after o) (bytes_of (dissected s).headers) ≡ (dissected s).headers
+headers_again s o is = longest_chain-bytes_of (number_after o) (dissected s).headers (packet_chain s o is)
 
 -- The number of a header is below 64.
 pub small_number : (n : ℕ) (b : List ℕ) → IsHeader n b → n < 64

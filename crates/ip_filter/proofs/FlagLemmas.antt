@@ -11,7 +11,7 @@ use Rattle.ip_dissect.specs.End.{has_error}
 use Rattle.ip_dissect.specs.declared.end.End.{End}
 use Rattle.ip_dissect.specs.declared.end.End.TheVariants as end
 use Rattle.ip_filter.specs.Truth.{is_version, is_first_kind, is_later_kind, says_fragment, is_truncated, fault_in, kind_index}
-use Rattle.ip_filter.specs.Flags.{known_flag, header_flag, flag, any_flag}
+use Rattle.ip_filter.specs.Flags.{known_flag, header_flag, flag_says, any_flag}
 use Rattle.ip_filter.specs.declared.term.FaultKind.{FaultKind}
 use Rattle.ip_filter.specs.declared.term.FaultKind.TheVariants as kind
 use Rattle.ip_filter.proofs.FactsLemmas.{one_bit, bit_same, bit_other, any_more}
@@ -50,8 +50,8 @@ flags_joined a v w x y f l g m =
     ∙ sym (rw (distributed x f g, distributed y l m) refl)
 
 -- The bits w are the flags of a packet with the parts p that the mask m selects.
-module _ (p : DissectedParts) (w m : ℕ) (are : (n : ℕ) → n < 64 → bit_at m n ≡ 1 → (bit_at w n == 1) ≡ flag n p) where
-  both_bits : (n : ℕ) → n < 64 → ((bit_at m n == 1) && flag n p) ≡ (bit_at (bit_and w m) n == 1)
+module _ (p : DissectedParts) (w m : ℕ) (are : (n : ℕ) → n < 64 → bit_at m n ≡ 1 → (bit_at w n == 1) ≡ flag_says n p) where
+  both_bits : (n : ℕ) → n < 64 → ((bit_at m n == 1) && flag_says n p) ≡ (bit_at (bit_and w m) n == 1)
   both_bits n less = rw (bit_at_and w m n) (elim (cases_eq (bit_at m n) 1) [
     | inl selected ↦ rw (sym (are n less selected), selected) (grind (arith, common_steps, bit_at-lt w n))
     | inr other ↦ grind (arith, common_steps, other, bit_at-lt w n, bit_at-lt m n)
@@ -61,7 +61,7 @@ module _ (p : DissectedParts) (w m : ℕ) (are : (n : ℕ) → n < 64 → bit_at
   unfolding any_flag
   no_bit zero n most none less = absurd (omega (arith, less))
   no_bit (suc k) n most none less =
-      let parts = or_parts (any_flag k m p) ((bit_at m k == 1) && flag k p) none in
+      let parts = or_parts (any_flag k m p) ((bit_at m k == 1) && flag_says k p) none in
       elim (cases_eq n k) [
         | inl same ↦ rw same (grind (arith, common_steps, both_bits k (omega (arith, most)), bit_at-lt (bit_and w m) k, parts.1))
         | inr other ↦ no_bit k n (omega (arith, most)) parts.0 (omega (arith, less, other))
@@ -73,7 +73,7 @@ module _ (p : DissectedParts) (w m : ℕ) (are : (n : ℕ) → n < 64 → bit_at
   some_bit (suc k) most some none = elim (cases_Bool (any_flag k m p)) [
     | inl here ↦ some_bit k (omega (arith, most)) here none
     | inr not_here ↦
-        let bit : (bit_at (bit_and w m) k == 1) ≡ true = sym (both_bits k (omega (arith, most))) ∙ sym (ap (λ x. x || ((bit_at m k == 1) && flag k p)) not_here) ∙ some in
+        let bit : (bit_at (bit_and w m) k == 1) ≡ true = sym (both_bits k (omega (arith, most))) ∙ sym (ap (λ x. x || ((bit_at m k == 1) && flag_says k p)) not_here) ∙ some in
         sym bit ∙ ap (λ x. bit_at x k == 1) none ∙ ap (λ x. x == 1) (bit_at-zero k)
   ]
 
@@ -141,14 +141,14 @@ or_twelve n (inr more) = inr more
 
 module _ (p : DissectedParts) (w m : ℕ) (known : (n : ℕ) → n < 64 → (bit_at w n == 1) ≡ known_flag n p) where
   -- without an error all flags are known
-  pub without_error : has_error p.end ≡ false → (n : ℕ) → n < 64 → bit_at m n ≡ 1 → (bit_at w n == 1) ≡ flag n p
+  pub without_error : has_error p.end ≡ false → (n : ℕ) → n < 64 → bit_at m n ≡ 1 → (bit_at w n == 1) ≡ flag_says n p
   without_error none n less selected = rw (not_truncated p.end none, no_fault p.end none, known n less) (grind (arith, common_steps))
 
   no_error_bit : bit_and m 129024 ≡ 0 → (n : ℕ) → bit_at m n ≡ 1 → bit_at 129024 n ≡ 0
   no_error_bit none n selected = grind (arith, common_steps, bit_at_and m 129024 n, bit_at-zero n, none, selected, bit_at-lt 129024 n)
 
   -- so are all but those of errors
-  pub none_of_errors : bit_and m 129024 ≡ 0 → (n : ℕ) → n < 64 → bit_at m n ≡ 1 → (bit_at w n == 1) ≡ flag n p
+  pub none_of_errors : bit_and m 129024 ≡ 0 → (n : ℕ) → n < 64 → bit_at m n ≡ 1 → (bit_at w n == 1) ≡ flag_says n p
   none_of_errors none n less selected =
       let out : (n < 11) ⊎ (16 < n) = error_places n (no_error_bit none n selected) in
       let not_truncation : (n == 11) ≡ false = grind (arith, common_steps, eqb_tells, out) in

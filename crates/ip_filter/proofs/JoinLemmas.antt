@@ -8,7 +8,7 @@ use Rattle.ip_filter.specs.Formula.{Formula, truth}
 use Rattle.ip_filter.specs.Flags.{any_flag}
 use Rattle.ip_filter.specs.Tests.{frame_meets, meets}
 use Rattle.ip_filter.specs.Program.{led_to, frame_holds}
-use Rattle.ip_filter.specs.Compiled.{terms_of, terms_of_all, joined, decided, led_by, Decide, AreCompiled, index_moved, redirected, index_shifted, shifted, put_first}
+use Rattle.ip_filter.specs.Compiled.{terms_of, terms_of_all, joined_by, decided, led_by, Decide, AreCompiled, index_moved, redirected, index_shifted, shifted, put_first}
 use Rattle.ip_filter.specs.declared.filter.Test.{Test}
 use Rattle.std.proofs.Math.Seq.{get_or-append_seam}
 use Rattle.ip_filter.proofs.ProgramLemmas.{past_all}
@@ -54,12 +54,12 @@ module _ (frame : Option (List ℕ)) where
   one_leads false false true i x t z xs fits d is to = ap (λ n. led_to met (suc i) n xs) (to ∙ ap (λ n. if n == 64 then 64 else x) is) ∙ d
   one_leads false false false i x t z xs fits d is to = ap (λ n. led_to met (suc i) n xs) (to ∙ ap (λ n. if n == 64 then 64 else x) is) ∙ d
 
-  truth_joined : (is_and : Bool) (f g : Formula) → truth (joined is_and f g) (frame_holds frame) ≡ (if is_and then truth f (frame_holds frame) && truth g (frame_holds frame) else truth f (frame_holds frame) || truth g (frame_holds frame))
+  truth_joined : (is_and : Bool) (f g : Formula) → truth (joined_by is_and f g) (frame_holds frame) ≡ (if is_and then truth f (frame_holds frame) && truth g (frame_holds frame) else truth f (frame_holds frame) || truth g (frame_holds frame))
   truth_joined true f g = refl
   truth_joined false f g = refl
 
   pub merged_decides : (is_and : Bool) (f g : Formula) (i : ℕ) (x t z : Test) (xs : List Test) → suc i + length xs ≤ 64 → Decide frame f i (x ∷ xs) → led_by frame z ≡ (if truth g (frame_holds frame) then 64 else 65)
-      → led_by frame t ≡ (if led_by frame z == decided is_and then decided is_and else led_by frame x) → Decide frame (joined is_and f g) i (t ∷ xs)
+      → led_by frame t ≡ (if led_by frame z == decided is_and then decided is_and else led_by frame x) → Decide frame (joined_by is_and f g) i (t ∷ xs)
   merged_decides is_and f g i x t z xs fits df dg to =
       from_head i t xs
       ∙ one_leads is_and (truth g (frame_holds frame)) (truth f (frame_holds frame)) i (led_by frame x) (led_by frame t) (led_by frame z) xs fits (sym (from_head i x xs) ∙ df) dg to
@@ -115,7 +115,7 @@ module _ (frame : Option (List ℕ)) where
   all_shifted t (x ∷ xs) z = ap (λ ys. t ∷ ys) (all_shifted (shifted x) xs z)
 
   pub put_first_decides : (is_and : Bool) (f g : Formula) (i next : ℕ) (t z : Test) (xs old new : List Test) → old ≡ xs ++ z ∷ [] → i + length old ≤ 64 → next ≡ i + 1 → Decide frame f i xs
-      → led_by frame t ≡ (if truth g (frame_holds frame) then (if is_and then next else 64) else (if is_and then 65 else next)) → new ≡ put_first t old → Decide frame (joined is_and f g) i new
+      → led_by frame t ≡ (if truth g (frame_holds frame) then (if is_and then next else 64) else (if is_and then 65 else next)) → new ≡ put_first t old → Decide frame (joined_by is_and f g) i new
   put_first_decides is_and f g i next t z xs old new split fits one df to put =
       let after : next ≡ suc i = omega (arith, one) in
       let len : suc i + length xs ≤ 64 = omega (arith, fits, ap length split, length-append xs (z ∷ [])) in
@@ -147,14 +147,14 @@ turned frame a b x y t is leads = ap (led_by frame) is ∙ led_redirected a b x 
 -- the first test of all but the last
 pub merged_first : (frame : Option (List ℕ)) (is_and : Bool) (f g : Formula) (i n d : ℕ) (t z e1 e2 : Test) (xs old : List Test) → old ≡ xs ++ z ∷ [] → 2 ≤ length old → n ≡ length old - 1 → d ≡ decided is_and
     → i + length old ≤ 64 → ((frame : Option (List ℕ)) → led_by frame t ≡ (if led_by frame (slice_index_or old n e1) == d then d else led_by frame (slice_index_or old 0 e2)))
-    → Decide frame f i xs → led_by frame z ≡ (if truth g (frame_holds frame) then 64 else 65) → Decide frame (joined is_and f g) i (take n (slice_set old 0 t))
+    → Decide frame f i xs → led_by frame z ≡ (if truth g (frame_holds frame) then 64 else 65) → Decide frame (joined_by is_and f g) i (take n (slice_set old 0 t))
 merged_first frame is_and f g i n d t z e1 e2 [] old split two last end fits to df dg = absurd (omega (arith, two, ap length split))
 merged_first frame is_and f g i n d t z e1 e2 (x ∷ xs) old split two last end fits to df dg =
     let len : n ≡ length (x ∷ xs) = omega (arith, last, ap length split, length-append (x ∷ xs) (z ∷ [])) in
     let at : slice_index_or old n e1 ≡ z = rw (split, len) (get_or-append_seam (x ∷ xs) z [] e1) in
     let first : slice_index_or old 0 e2 ≡ x = ap (λ ys. slice_index_or ys 0 e2) split in
     let front : take n (slice_set old 0 t) ≡ t ∷ xs = ap (λ ys. take n (slice_set ys 0 t)) split ∙ ap (λ k. take k (t ∷ (xs ++ z ∷ []))) len ∙ ap (λ ys. t ∷ ys) (take-append_seam xs (z ∷ [])) in
-    subst (Decide frame (joined is_and f g) i) (sym front)
+    subst (Decide frame (joined_by is_and f g) i) (sym front)
     (merged_decides frame is_and f g i x t z xs (omega (arith, fits, ap length split, length-append xs (z ∷ []))) df dg
     (to frame ∙ ap (λ y. if led_by frame y == d then d else led_by frame (slice_index_or old 0 e2)) at ∙ ap (λ y. if led_by frame z == d then d else led_by frame y) first ∙ ap (λ k. if led_by frame z == k then k else led_by frame x) end))
 
@@ -167,12 +167,12 @@ put_len t (x ∷ xs) = ap suc (put_len (shifted x) xs)
 pub last_first : (frame : Option (List ℕ)) (is_and : Bool) (f g : Formula) (i next d : ℕ) (t z e : Test) (xs old new : List Test) → old ≡ xs ++ z ∷ [] → 2 ≤ length old → d ≡ length old - 1 → i + length old ≤ 64 → next ≡ i + 1
     → Decide frame f i xs → led_by frame z ≡ (if truth g (frame_holds frame) then 64 else 65)
     → ((frame : Option (List ℕ)) (g : Formula) → led_by frame (slice_index_or old d e) ≡ (if truth g (frame_holds frame) then 64 else 65) → led_by frame t ≡ (if truth g (frame_holds frame) then (if is_and then next else 64) else (if is_and then 65 else next)))
-    → new ≡ put_first t old → Decide frame (joined is_and f g) i (take (length old) new)
+    → new ≡ put_first t old → Decide frame (joined_by is_and f g) i (take (length old) new)
 last_first frame is_and f g i next d t z e xs old new split two last fits one df dg leads put =
     let len : d ≡ length xs = omega (arith, last, ap length split, length-append xs (z ∷ [])) in
     let at : slice_index_or old d e ≡ z = rw (split, len) (get_or-append_seam xs z [] e) in
     let all : take (length old) new ≡ new = take_all (length old) new (omega (arith, ap length put, put_len t old)) in
-    subst (Decide frame (joined is_and f g) i) (sym all) (put_first_decides frame is_and f g i next t z xs old new split fits one df (leads frame g (ap (led_by frame) at ∙ dg)) put)
+    subst (Decide frame (joined_by is_and f g) i) (sym all) (put_first_decides frame is_and f g i next t z xs old new split fits one df (leads frame g (ap (led_by frame) at ∙ dg)) put)
 
 -- ---- one by one
 
@@ -211,7 +211,7 @@ only_one [] one = absurd (omega (arith, one))
 only_one (z ∷ []) one = (z, refl)
 only_one (z ∷ y ∷ xs) one = absurd (omega (arith, one))
 
-joined_terms : (is_and : Bool) (f g : Formula) → terms_of (joined is_and f g) ≡ terms_of f + terms_of g
+joined_terms : (is_and : Bool) (f g : Formula) → terms_of (joined_by is_and f g) ≡ terms_of f + terms_of g
 joined_terms true f g = refl
 joined_terms false f g = refl
 
@@ -219,13 +219,13 @@ module _ (frame : Option (List ℕ)) (is_and : Bool) (f g : Formula) (fs : List 
   flags_joined : second + 1 ≡ length xs → first < second → ((rest : List ℕ) (i : ℕ) → mid ≡ rest ++ i ∷ [] → first ≡ i) → terms_of g + (terms_of f + terms_of_all fs) ≤ 64
       → old ≡ drop first xs → ys ≡ take first xs ++ take n new → 0 < n → n ≤ length old → length new ≡ length old
       → ((f g : Formula) (zs : List Test) (z : Test) → old ≡ zs ++ z ∷ [] → first + length old ≤ 64 → Decide frame f first zs → led_by frame z ≡ (if truth g (frame_holds frame) then 64 else 65)
-      → Decide frame (joined is_and f g) first (take n new))
-      → AreCompiled frame (g ∷ f ∷ fs) (mid ++ second ∷ []) xs → AreCompiled frame (joined is_and f g ∷ fs) mid ys
+      → Decide frame (joined_by is_and f g) first (take n new))
+      → AreCompiled frame (g ∷ f ∷ fs) (mid ++ second ∷ []) xs → AreCompiled frame (joined_by is_and f g ∷ fs) mid ys
   flags_joined last before start few block after some most len decide w = parts (top_popped frame g (f ∷ fs) (mid ++ second ∷ []) mid second xs refl w) where
     all : length xs ≤ 64
     all = omega (arith, few, compiled_tests frame (g ∷ f ∷ fs) (mid ++ second ∷ []) xs w)
 
-    parts : (second < length xs) × (length xs ≤ second + terms_of g) × Decide frame g second (drop second xs) × AreCompiled frame (f ∷ fs) mid (take second xs) → AreCompiled frame (joined is_and f g ∷ fs) mid ys
+    parts : (second < length xs) × (length xs ≤ second + terms_of g) × Decide frame g second (drop second xs) × AreCompiled frame (f ∷ fs) mid (take second xs) → AreCompiled frame (joined_by is_and f g ∷ fs) mid ys
     parts (some_g, size_g, dg, (rest, i, e, some_f, size_f, df, are)) =
         let same : i ≡ first = sym (start rest i e) in
         let head : length (take second xs) ≡ second = length-take-le second xs (omega (arith, some_g)) in
@@ -242,7 +242,7 @@ module _ (frame : Option (List ℕ)) (is_and : Bool) (f g : Formula) (fs : List 
           e ∙ ap (λ k. rest ++ k ∷ []) same,
           omega (arith, total, some),
           omega (arith, total, most, block_len, size_g, size_f, head, same, before, last, joined_terms is_and f g),
-          subst (Decide frame (joined is_and f g) first) (sym back)
+          subst (Decide frame (joined_by is_and f g) first) (sym back)
               (decide f g (drop first (take second xs)) one.0 split (omega (arith, block_len, all, before, last)) (subst (λ k. Decide frame f k (drop k (take second xs))) same df)
               (sym (alone_leads frame second one.0) ∙ ap (led_to (frame_meets frame) second second) (sym one.1) ∙ dg)),
           subst (AreCompiled frame fs rest) (sym front) (subst (λ k. AreCompiled frame fs rest (take k (take second xs))) same are),
@@ -265,8 +265,8 @@ module _ (frame : Option (List ℕ)) (is_and : Bool) (f g : Formula) (fs : List 
   pub joined_in_place : length all ≡ 64 → e ≤ 64 → e - second ≡ 1 → first < second → first ≡ start → ((rest : List ℕ) (i : ℕ) → mid ≡ rest ++ i ∷ [] → start ≡ i) → terms_of g + (terms_of f + terms_of_all fs) ≤ 64
       → (0 < n) × (n ≤ length (mid_of first (e - first) all)) → length new ≡ length (mid_of first (e - first) all)
       → ((f g : Formula) (zs : List Test) (z : Test) → mid_of first (e - first) all ≡ zs ++ z ∷ [] → start + length (mid_of first (e - first) all) ≤ 64 → Decide frame f start zs → led_by frame z ≡ (if truth g (frame_holds frame) then 64 else 65)
-      → Decide frame (joined is_and f g) start (take n new))
-      → AreCompiled frame (g ∷ f ∷ fs) (mid ++ second ∷ []) (take e all) → AreCompiled frame (joined is_and f g ∷ fs) mid (take (first + n) (put_mid first (e - first) all new))
+      → Decide frame (joined_by is_and f g) start (take n new))
+      → AreCompiled frame (g ∷ f ∷ fs) (mid ++ second ∷ []) (take e all) → AreCompiled frame (joined_by is_and f g ∷ fs) mid (take (first + n) (put_mid first (e - first) all new))
   joined_in_place size fits last before same at few some len decide are =
       let all_len : length (take e all) ≡ e = length-take-le e all (omega (arith, size, fits)) in
       let within : first ≤ length all = omega (arith, size, fits, last, before) in
@@ -276,5 +276,5 @@ module _ (frame : Option (List ℕ)) (is_and : Bool) (f g : Formula) (fs : List 
       flags_joined frame is_and f g fs mid first second n (take e all) (take (first + n) (put_mid first (e - first) all new)) (mid_of first (e - first) all) new
       (omega (arith, all_len, last)) before (λ rest i is. same ∙ at rest i is) few (block_of first e all (omega (arith, last, before))) put some.0 most len
       (subst (λ k. (f g : Formula) (zs : List Test) (z : Test) → mid_of first (e - first) all ≡ zs ++ z ∷ [] → k + length (mid_of first (e - first) all) ≤ 64 → Decide frame f k zs → led_by frame z ≡ (if truth g (frame_holds frame) then 64 else 65)
-      → Decide frame (joined is_and f g) k (take n new)) (sym same) decide)
+      → Decide frame (joined_by is_and f g) k (take n new)) (sym same) decide)
       are

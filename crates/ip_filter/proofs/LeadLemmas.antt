@@ -11,7 +11,7 @@ use Rattle.ip_filter.specs.declared.parse_error.Expected.TheVariants as expects
 use Rattle.ip_filter.specs.Words.{Word}
 use Rattle.ip_filter.specs.Grammar.{Operand, Conjunction, Disjunction, a_term, a_negation, a_group, an_operand, an_and, a_conjunction, an_or, operand_words, conjunction_words, filter_words, IsOperand, IsConjunction, IsDisjunction, operand_terms, conjunction_terms, terms_in, operand_depth, conjunction_depth, depth_of, IsFilter, IsTerm, is_and, is_or}
 use Rattle.ip_filter.specs.Reading.{ends_term, LastIs, WantsArgument}
-use Rattle.ip_filter.specs.Parsing.{Open, State, before, after, nothing, HasRoom, Moves, by_not, by_open, by_term, by_and, by_or, by_close, may_follow, LeadsTo, ends, goes_on, with_operand, and_joined, or_joined, negate, open_terms, group_terms, state_words, NeedsOperand, IsWhole, EndsGroup, IsDue}
+use Rattle.ip_filter.specs.Parsing.{Open, State, before, after, nothing_open, HasRoom, Moves, by_not, by_open, by_term, by_and, by_or, by_close, may_follow, LeadsTo, ends, goes_on, with_operand, and_joined, or_joined, negate, open_terms, group_terms, state_words, NeedsOperand, IsWhole, EndsGroup, IsDue}
 use Rattle.ip_filter.specs.Parsed.{AreFilter, BeginFilter, IsExpected}
 use Rattle.ip_filter.proofs.CountLemmas.{operand_count, conjunction_count}
 use Rattle.ip_filter.proofs.StateLemmas.{Good, good_whole, move_good, move_room, move_words, or_joined_words, or_joined_terms}
@@ -61,20 +61,20 @@ module _ (d : Disjunction) where
         (operand_leads u fs (record { or_left = o; and_left = Some (c, w); nots = [] }) ws is.2 (omega (arith, deep)) (omega (arith, many)) e l)))
 
     filter_leads : (g : Disjunction) (fs : List Open) (ws : List Word) → IsDisjunction g → length fs + depth_of g ≤ 16 → group_terms fs + terms_in g ≤ 64 → IsTrue (ends_term ws)
-        → ((o : Option (Disjunction × Word)) (c : Conjunction) → or_joined o c ≡ g → LeadsTo (after fs o c) ws d) → LeadsTo (before fs nothing) (filter_words g ++ ws) d
+        → ((o : Option (Disjunction × Word)) (c : Conjunction) → or_joined o c ≡ g → LeadsTo (after fs o c) ws d) → LeadsTo (before fs nothing_open) (filter_words g ++ ws) d
     filter_leads (a_conjunction c) fs ws is deep many e l = conjunction_leads c fs None ws is deep (omega (arith, many)) e (l None c refl)
     filter_leads (an_or g w c) fs ws is deep many e l =
-        subst (λ x. LeadsTo (before fs nothing) x d) (sym (append_assoc (filter_words g) (w ∷ conjunction_words c) ws))
+        subst (λ x. LeadsTo (before fs nothing_open) x d) (sym (append_assoc (filter_words g) (w ∷ conjunction_words c) ws))
         (filter_leads g fs (w ∷ (conjunction_words c ++ ws)) is.0 (omega (arith, deep)) (omega (arith, many)) (or_ends w (conjunction_words c ++ ws) is.1)
         (λ o b same. step _ _ (w ∷ []) (conjunction_words c ++ ws) (by_or fs o b w is.1 (omega (arith, many, conjunction_count c 0, or_joined_terms o b, ap terms_in same))) tt
         (subst (λ x. LeadsTo (before fs (record { or_left = Some (x, w); and_left = None; nots = [] })) (conjunction_words c ++ ws) d) (sym same)
         (conjunction_leads c fs (Some (g, w)) ws is.2 (omega (arith, deep)) (omega (arith, many)) e (l (Some (g, w)) c refl)))))
 
 -- the words of a filter lead to it
-pub start_leads : (d : Disjunction) → IsFilter d → LeadsTo (before [] nothing) (filter_words d) d
+pub start_leads : (d : Disjunction) → IsFilter d → LeadsTo (before [] nothing_open) (filter_words d) d
 start_leads d is =
     let deep = is.depth in let many = is.terms in
-    subst (λ ws. LeadsTo (before [] nothing) ws d) (append-nil (filter_words d))
+    subst (λ ws. LeadsTo (before [] nothing_open) ws d) (append-nil (filter_words d))
     (filter_leads d d [] [] is.spelled (omega (arith, deep)) (omega (arith, many)) refl (λ o c same. subst (LeadsTo (after [] o c) []) same (ends o c)))
 
 -- ---- from what was read to a whole filter

@@ -12,7 +12,7 @@ use Rattle.ip_dissect.specs.declared.fragment.Fragment.{Fragment}
 use Rattle.ip_dissect.proofs.Ipv4Lemmas.{ipv4_prefix}
 use Rattle.ip_dissect.proofs.LaterLemmas.{chain_to_later-longest}
 use Rattle.ip_filter.specs.Truth.{is_version, is_first_kind, is_later_kind, says_fragment, some_fragment, is_truncated, fault_in, kind_index}
-use Rattle.ip_filter.specs.Flags.{flag, any_flag}
+use Rattle.ip_filter.specs.Flags.{flag_says, any_flag}
 use Rattle.ip_filter.specs.Tests.{meets}
 use Rattle.ip_filter.specs.declared.filter.Test.{Test}
 use Rattle.ip_filter.specs.declared.term.FaultKind.{FaultKind}
@@ -39,21 +39,21 @@ module _ (p : DissectedParts) where
   flag_above zero k above = refl
   flag_above (suc j) k above = rw (flag_above j k (omega (arith, above)), bit_at-pow_other k j (λ e. omega (arith, e, above))) refl
 
-  pub one_flag : (j k : ℕ) → k < j → any_flag j (2 ^ k) p ≡ flag k p
+  pub one_flag : (j k : ℕ) → k < j → any_flag j (2 ^ k) p ≡ flag_says k p
   unfolding any_flag
   one_flag zero k below = absurd (omega (arith, below))
   one_flag (suc j) k below = elim (cases_eq j k) [
     | inl same ↦ rw same (rw (flag_above k k (omega arith), bit_at-pow_same k) refl)
-    | inr other ↦ rw (one_flag j k (omega (arith, below, other)), bit_at-pow_other k j other) (or-false (flag k p))
+    | inr other ↦ rw (one_flag j k (omega (arith, below, other)), bit_at-pow_other k j other) (or-false (flag_says k p))
   ]
 
   pub either_flag : (j a b : ℕ) → any_flag j (bit_or a b) p ≡ (any_flag j a p || any_flag j b p)
   unfolding any_flag
   either_flag zero a b = refl
-  either_flag (suc j) a b = rw (either_flag j a b, bit_at_or a b j, larger_bit (bit_at a j) (bit_at b j) (bit_at-lt a j) (bit_at-lt b j)) (regrouped (any_flag j a p) (any_flag j b p) (bit_at a j == 1) (bit_at b j == 1) (flag j p))
+  either_flag (suc j) a b = rw (either_flag j a b, bit_at_or a b j, larger_bit (bit_at a j) (bit_at b j) (bit_at-lt a j) (bit_at-lt b j)) (regrouped (any_flag j a p) (any_flag j b p) (bit_at a j == 1) (bit_at b j == 1) (flag_says j p))
 
   -- a mask that is shifted to a place
-  pub shifted_flag : (k : ℕ) → k < 64 → any_flag 64 (1 * 2 ^ k % 2 ^ 64) p ≡ flag k p
+  pub shifted_flag : (k : ℕ) → k < 64 → any_flag 64 (1 * 2 ^ k % 2 ^ 64) p ≡ flag_says k p
   shifted_flag k small = ap (λ m. any_flag 64 m p) (one_bit k 64 small) ∙ one_flag 64 k small
 
 -- ---- what a packet has
@@ -143,7 +143,7 @@ module _ (s : List ℕ) where
     | inr (inr is) ↦ rw is (grind (arith, common_steps, eqb_tells, six))
   ]
 
-  header_flag : (n : ℕ) → IsExtensionNumber n → flag n p ≡ list_any (λ h. h.number == n) p.headers
+  header_flag : (n : ℕ) → IsExtensionNumber n → flag_says n p ≡ list_any (λ h. h.number == n) p.headers
   header_flag n (inl (inl e)) = rw e (rw (no_fault_at 0 (inl (omega arith))) (simp or-false))
   header_flag n (inl (inr (inl e))) = rw e (rw (no_fault_at 43 (inr (omega arith))) (simp or-false))
   header_flag n (inl (inr (inr e))) = rw e (rw (no_fault_at 60 (inr (omega arith))) (simp or-false))
@@ -168,10 +168,10 @@ module _ (s : List ℕ) where
   pub other_header : (n : ℕ) → (IsExtensionNumber n → ⊥) → any_flag 64 0 p ≡ list_any (λ h. h.number == n) p.headers
   other_header n none = no_flag p 64 ∙ sym (no_number n none)
 
-  first_flag : flag 8 p ≡ some_fragment (λ x. is_first_kind x.kind) p
+  first_flag : flag_says 8 p ≡ some_fragment (λ x. is_first_kind x.kind) p
   first_flag = rw (no_number 8 (λ is. search rules), no_fault_at 8 (inl (omega arith))) (simp or-false)
 
-  later_flag : flag 9 p ≡ some_fragment (λ x. is_later_kind x.kind) p
+  later_flag : flag_says 9 p ≡ some_fragment (λ x. is_later_kind x.kind) p
   later_flag = rw (no_number 9 (λ is. search rules), no_fault_at 9 (inl (omega arith))) (simp or-false)
 
   pub first_mask : any_flag 64 (2 ^ 8) p ≡ some_fragment (λ x. is_first_kind x.kind) p
@@ -192,7 +192,7 @@ module _ (s : List ℕ) where
   abbrev is_fault : ℕ → Bool
   is_fault i = option_map_or (λ k. kind_index k == i) (fault_in p.end) false
 
-  fault_flag : (k : FaultKind) → flag (12 + kind_index k) p ≡ is_fault (kind_index k)
+  fault_flag : (k : FaultKind) → flag_says (12 + kind_index k) p ≡ is_fault (kind_index k)
   fault_flag kind.TooShort = rw (no_number 12 (λ is. search rules)) (same_fault 0 (fault_in p.end))
   fault_flag kind.HopByHopNotAtStart = rw (no_number 13 (λ is. search rules)) (same_fault 1 (fault_in p.end))
   fault_flag kind.ZeroPayloadLen = rw (no_number 14 (λ is. search rules)) (same_fault 2 (fault_in p.end))

@@ -12,7 +12,7 @@ use Rattle.ip_filter.specs.declared.keyword.Keyword.{Keyword}
 use Rattle.ip_filter.specs.Words.{Word, words}
 use Rattle.ip_filter.specs.Grammar.{Operand, Disjunction, Conjunction, a_term, keyword_of, AreArguments, IsTerm, is_not, filter_words, conjunction_words}
 use Rattle.ip_filter.specs.Reading.{IsPlace, IsFirstWord, ReadsTerm, RefusesTerm, ends_term}
-use Rattle.ip_filter.specs.Parsing.{Open, State, before, nothing, Moves, by_not, by_open, by_term, may_follow, LeadsTo, with_operand, open_terms, group_terms, group_words, open_words, Fits, Holds, HoldsOperand, ReadsOn, RefusesFrom, level_of, levels_of, state_steps, and_joined, negate}
+use Rattle.ip_filter.specs.Parsing.{Open, State, before, nothing_open, Moves, by_not, by_open, by_term, may_follow, LeadsTo, with_operand, open_terms, group_terms, group_words, open_words, CountsFit, Holds, HoldsOperand, ReadsOn, RefusesFrom, level_of, levels_of, state_steps, and_joined, negate}
 use Rattle.arrayvec.specs.declared.array_vec.ArrayVec.{ArrayVec}
 use Rattle.ip_filter.specs.declared.builder.Level.{Level}
 use Rattle.ip_filter.specs.declared.steps.Steps.{Steps}
@@ -41,7 +41,7 @@ module _ (fs : List Open) (f : Open) (w : Word) where
   only_not t vs ws more n (by_term gs g v us u is) e = let same : v ≡ w = cc e in absurd (keyword_not v is.0 is.1 (ap is_not same ∙ n))
 
   only_open : (t : State) (vs ws more : List Word) → bytes_eq w (codes "(") ≡ true → Moves (before fs f) vs t → vs ++ more ≡ w ∷ ws
-      → (t ≡ before (f ∷ fs) nothing) × (vs ≡ codes "(" ∷ []) × (length fs < 16)
+      → (t ≡ before (f ∷ fs) nothing_open) × (vs ≡ codes "(" ∷ []) × (length fs < 16)
   only_open t vs ws more o (by_not gs g v p) e = absurd (cc (ap is_not (same_word w (codes "(") o)))
   only_open t vs ws more o (by_open gs g few) e = (refl, refl, few)
   only_open t vs ws more o (by_term gs g v us u is) e = let same : v ≡ w = cc e in absurd (keyword_open v is.0 is.1 (ap (λ x. bytes_eq x (codes "(")) same ∙ o))
@@ -88,7 +88,7 @@ module _ (text : List ℕ) (w : FirstWord) (is : IsFirstWord text w) where
 
 module _ (b : Builder) (w : FirstWord) where
   pub not_read : (r : ℕ) → is_not w.bytes.now ≡ true → r ≡ min (b.level.nots + 1) 18446744073709551615 → (text : List ℕ) (fs : List Open) (f : Open) → IsFirstWord text w
-      → Holds (before fs f) b → Fits (before fs f)
+      → Holds (before fs f) b → CountsFit (before fs f)
       → ReadsOn (before fs f) text w.rest.now (record { steps = b.steps; terms = b.terms; outer = b.outer; level = record { nots = r; or_waits = b.level.or_waits; and_waits = b.level.and_waits }; has_operand = b.has_operand })
   not_read r n sum text fs f is h fits =
       let word = w.bytes.now in
@@ -115,13 +115,13 @@ module _ (b : Builder) (w : FirstWord) where
 
   pub open_read : (outer : ArrayVec Level 16 (Unit {0})) (level : Level) → bytes_eq w.bytes.now (codes "(") ≡ true → outer.items ≡ b.outer.items ++ b.level ∷ []
       → level ≡ record { nots = 0; or_waits = false; and_waits = false } → length b.outer.items < 16 → (text : List ℕ) (fs : List Open) (f : Open) → IsFirstWord text w
-      → Holds (before fs f) b → Fits (before fs f)
+      → Holds (before fs f) b → CountsFit (before fs f)
       → ReadsOn (before fs f) text w.rest.now (record { steps = b.steps; terms = b.terms; outer = outer; level = level; has_operand = b.has_operand })
   open_read outer level o pushed empty room text fs f is h fits =
       let same = same_word w.bytes.now (codes "(") o in
       let few : length fs < 16 = omega (arith, room, ap length h.outer, level_count fs) in
       record {
-        next = before (f ∷ fs) nothing;
+        next = before (f ∷ fs) nothing_open;
         us = codes "(" ∷ [];
         moves = by_open fs f few;
         begins = is.begins ∙ ap (λ x. x ∷ words w.rest.now) same;
@@ -200,7 +200,7 @@ module _ (b : Builder) (w : FirstWord) where
         → (length (steps_of b.steps) < 127 → steps_of filter ≡ steps_of b.steps ++ record { kind = kind.Term t; nots = b.level.nots } ∷ [])
         → ((fs : List Open) (f : Open) (u : Operand) → HoldsOperand fs f u (record { steps = filter; terms = count; outer = b.outer; level = b.level; has_operand = b.has_operand })
         → length (state_steps (with_operand fs f u)) ≤ 127 → Holds (with_operand fs f u) new)
-        → (text : List ℕ) (fs : List Open) (f : Open) → IsFirstWord text w → Holds (before fs f) b → Fits (before fs f) → ReadsOn (before fs f) text rest new
+        → (text : List ℕ) (fs : List Open) (f : Open) → IsFirstWord text w → Holds (before fs f) b → CountsFit (before fs f) → ReadsOn (before fs f) text rest new
     term_read k named filter count t rest new r sum push done text fs f is h fits =
         let u = a_term w.bytes.now r.args t in
         let terms = h.terms in

@@ -18,7 +18,7 @@ use Rattle.ip_filter.specs.Words.{Word, words}
 use Rattle.ip_filter.specs.Formula.{steps_of}
 use Rattle.ip_filter.specs.Grammar.{Operand, Conjunction, Disjunction, a_group, filter_words, conjunction_words, is_and, is_or}
 use Rattle.ip_filter.specs.Reading.{IsFirstWord, IsOperator}
-use Rattle.ip_filter.specs.Parsing.{Open, State, before, after, Moves, by_and, by_or, by_close, with_operand, or_joined, and_joined, negate, group_words, open_words, state_words, group_steps, or_steps, conjunction_steps, filter_steps, state_steps, state_terms, level_of, levels_of, Fits, Holds, HoldsOperand, HoldsGroup, IsFinished, ReadsOn, RefusesFrom, IsWhole, EndsGroup, IsDue}
+use Rattle.ip_filter.specs.Parsing.{Open, State, before, after, Moves, by_and, by_or, by_close, with_operand, or_joined, and_joined, negate, group_words, open_words, state_words, group_steps, or_steps, conjunction_steps, filter_steps, state_steps, state_terms, level_of, levels_of, CountsFit, Holds, HoldsOperand, HoldsGroup, IsFinished, ReadsOn, RefusesFrom, IsWhole, EndsGroup, IsDue}
 use Rattle.ip_filter.proofs.CountLemmas.{after_count, or_end_count, filter_last}
 use Rattle.ip_filter.proofs.PartStepsLemmas.{joined_terms}
 use Rattle.ip_filter.proofs.MoveLemmas.{at_word, next_word, level_count, open_nots}
@@ -100,7 +100,7 @@ may_stop (f ∷ fs) o c = inr tt
 
 module _ (b : Builder) (w : FirstWord) where
   pub and_read : is_and w.bytes.now ≡ true → b.terms < 64 → (text : List ℕ) (fs : List Open) (o : Option (Disjunction × Word)) (c : Conjunction) → IsFirstWord text w
-      → Holds (after fs o c) b → Fits (after fs o c)
+      → Holds (after fs o c) b → CountsFit (after fs o c)
       → ReadsOn (after fs o c) text w.rest.now (record { steps = b.steps; terms = b.terms; outer = b.outer; level = record { nots = b.level.nots; or_waits = b.level.or_waits; and_waits = true }; has_operand = false })
   and_read a few text fs o c is h fits =
       let word = w.bytes.now in
@@ -125,7 +125,7 @@ module _ (b : Builder) (w : FirstWord) where
       → (b.level.or_waits ≡ true → length (steps_of b.steps) < 127 → steps_of filter ≡ steps_of b.steps ++ record { kind = kind.Or; nots = 0 } ∷ [])
       → (b.level.or_waits ≡ false → filter ≡ b.steps)
       → (text : List ℕ) (fs : List Open) (o : Option (Disjunction × Word)) (c : Conjunction) → IsFirstWord text w
-      → Holds (after fs o c) b → Fits (after fs o c)
+      → Holds (after fs o c) b → CountsFit (after fs o c)
       → ReadsOn (after fs o c) text w.rest.now (record { steps = filter; terms = b.terms; outer = b.outer; level = record { nots = b.level.nots; or_waits = true; and_waits = b.level.and_waits }; has_operand = false })
   or_read filter a few push keep text fs o c is h fits =
       let word = w.bytes.now in
@@ -191,10 +191,10 @@ module _ (b : Builder) (w : FirstWord) where
 
   pub closed : (outer : ArrayVec Level 16 (Unit {0})) (last : Level) (new : Builder) → bytes_eq w.bytes.now (codes ")") ≡ true → b.outer.items ≡ outer.items ++ last ∷ []
       → ((fs : List Open) (f : Open) (o : Option (Disjunction × Word)) (c : Conjunction)
-      → HoldsGroup fs f o c last (record { steps = b.steps; terms = b.terms; outer = outer; level = b.level; has_operand = b.has_operand }) → Fits (after (f ∷ fs) o c)
+      → HoldsGroup fs f o c last (record { steps = b.steps; terms = b.terms; outer = outer; level = b.level; has_operand = b.has_operand }) → CountsFit (after (f ∷ fs) o c)
       → Holds (with_operand fs f (a_group (or_joined o c))) new)
       → (text : List ℕ) (fs : List Open) (o : Option (Disjunction × Word)) (c : Conjunction) → IsFirstWord text w
-      → Holds (after fs o c) b → Fits (after fs o c) → ReadsOn (after fs o c) text w.rest.now new
+      → Holds (after fs o c) b → CountsFit (after fs o c) → ReadsOn (after fs o c) text w.rest.now new
   closed outer last new p popped close text [] o c is h fits = absurd (omega (arith, ap length (sym h.outer ∙ popped), length-append outer.items (last ∷ [])))
   closed outer last new p popped close text (f ∷ fs) o c is h fits =
       let same = same_word w.bytes.now (codes ")") p in
@@ -240,7 +240,7 @@ pub group_closed : (b : Builder) (level : Level) (mid last : Steps) (new : Build
     → steps_of last ≡ front ++ record { kind = x; nots = k + level.nots } ∷ [])
     → ((fs : List Open) (f : Open) (u : Operand) → HoldsOperand fs f u (record { steps = last; terms = b.terms; outer = b.outer; level = level; has_operand = b.has_operand })
     → length (state_steps (with_operand fs f u)) ≤ 127 → Holds (with_operand fs f u) new)
-    → (fs : List Open) (f : Open) (o : Option (Disjunction × Word)) (c : Conjunction) → HoldsGroup fs f o c level b → Fits (after (f ∷ fs) o c)
+    → (fs : List Open) (f : Open) (o : Option (Disjunction × Word)) (c : Conjunction) → HoldsGroup fs f o c level b → CountsFit (after (f ∷ fs) o c)
     → Holds (with_operand fs f (a_group (or_joined o c))) new
 group_closed b level mid last new push keep negate_it done fs f o c h fits =
     let d = or_joined o c in
@@ -270,7 +270,7 @@ group_closed b level mid last new push keep negate_it done fs f o c h fits =
 
 pub finished : (b : Builder) (x : Steps) → b.has_operand ≡ true → length b.outer.items ≡ 0
     → (b.level.or_waits ≡ true → length (steps_of b.steps) < 127 → steps_of x ≡ steps_of b.steps ++ record { kind = kind.Or; nots = 0 } ∷ [])
-    → (b.level.or_waits ≡ false → x ≡ b.steps) → (s : State) → Holds s b → Fits s → IsFinished s x
+    → (b.level.or_waits ≡ false → x ≡ b.steps) → (s : State) → Holds s b → CountsFit s → IsFinished s x
 finished b x operand alone push keep (before fs f) h fits = absurd (false≢true (sym h.operand ∙ operand))
 finished b x operand alone push keep (after (f ∷ fs) o c) h fits = absurd (omega (arith, alone, ap length h.outer, level_count (f ∷ fs)))
 finished b x operand alone push keep (after [] o c) h fits =

@@ -12,8 +12,8 @@ use Rattle.ip_filter.specs.Tests.{frame_meets}
 use Rattle.ip_filter.specs.Program.{tests_of, passes, frame_holds}
 use Rattle.ip_filter.specs.Compiled.{terms_of}
 use Rattle.ip_filter.specs.Grammar.{Conjunction, Disjunction, filter_words, formula_of, IsFilter}
-use Rattle.ip_filter.specs.Reading.{IsEnd, IsPlace, IsFirstWord}
-use Rattle.ip_filter.specs.Parsing.{State, before, after, nothing, Moves, may_follow, LeadsTo, ends, goes_on, or_joined, HasRoom, state_words, Fits, Holds, IsFinished, ReadsOn, RefusesFrom, IsDue, IsWhole}
+use Rattle.ip_filter.specs.Reading.{IsSuffix, IsPlace, IsFirstWord}
+use Rattle.ip_filter.specs.Parsing.{State, before, after, nothing_open, Moves, may_follow, LeadsTo, ends, goes_on, or_joined, HasRoom, state_words, CountsFit, Holds, IsFinished, ReadsOn, RefusesFrom, IsDue, IsWhole}
 use Rattle.ip_filter.specs.Parsed.{IsParsedFilter, IsFirstError, IsExpected}
 use Rattle.ip_filter.proofs.PlaceLemmas.{whole, end_of_end, place_in_end, from_place}
 use Rattle.ip_filter.proofs.WordLemmas.{no_words, words_short}
@@ -26,25 +26,25 @@ use Rattle.ip_filter.proofs.ReadFormulaLemmas.{whole_formula, terms_read}
 pub record Going (text rest : List ℕ) (b : Builder) : Type 0 where
   pub state : State
   pub holds : Holds state b
-  pub end : IsEnd text rest
+  pub end : IsSuffix text rest
   pub begins : words text ≡ state_words state ++ words rest
   pub room : HasRoom state
   pub good : Good state
   pub leads : (d : Disjunction) (ws : List Word) → IsFilter d → filter_words d ≡ state_words state ++ ws → take 1 ws ≡ take 1 (words rest) → LeadsTo state ws d
 
-pub begin : (text : List ℕ) (b : Builder) → Holds (before [] nothing) b → Going text text b
+pub begin : (text : List ℕ) (b : Builder) → Holds (before [] nothing_open) b → Going text text b
 begin text b h = record {
-  state = before [] nothing;
+  state = before [] nothing_open;
   holds = h;
   end = whole text;
   begins = refl;
   room = omega arith;
   good = ((tt, tt, tt), tt, omega arith);
-  leads = λ d ws is same next. subst (λ x. LeadsTo (before [] nothing) x d) same (start_leads d is);
+  leads = λ d ws is same next. subst (λ x. LeadsTo (before [] nothing_open) x d) same (start_leads d is);
 }
 
 module _ (text rest : List ℕ) (b : Builder) (g : Going text rest b) where
-  fits : length text < 2 ^ 63 → Fits g.state
+  fits : length text < 2 ^ 63 → CountsFit g.state
   fits short = record {
     terms = g.room;
     words = omega (arith, short, words_short text, ap length g.begins, length-append (state_words g.state) (words rest));
@@ -65,7 +65,7 @@ lead_on s t us ws all d (goes_on s2 r vs more all2 d2 same m may l) e some only 
     subst (λ x. LeadsTo x ws d2) found.0 (subst (λ x. LeadsTo r x d2) rest l)
 
 module _ (text rest : List ℕ) (b new : Builder) (w : FirstWord) (after_word : List ℕ) (g : Going text rest b) (short : length text < 2 ^ 63) (is : IsFirstWord rest w)
-    (read : (t : List ℕ) (s : State) → IsFirstWord t w → Holds s b → Fits s → ReadsOn s t after_word new) where
+    (read : (t : List ℕ) (s : State) → IsFirstWord t w → Holds s b → CountsFit s → ReadsOn s t after_word new) where
   r : ReadsOn g.state rest after_word new
   r = read rest g.state is g.holds (fits text rest b g short)
 
@@ -141,7 +141,7 @@ no_first : (ws : List Word) → take 1 ws ≡ [] → ws ≡ []
 no_first [] e = refl
 no_first (w ∷ ws) e = cc
 
-pub parsed : (text rest : List ℕ) (b : Builder) (x : Steps) (filter : Filter) (g : Going text rest b) → length text < 2 ^ 63 → words rest ≡ [] → ((s : State) → Holds s b → Fits s → IsFinished s x)
+pub parsed : (text rest : List ℕ) (b : Builder) (x : Steps) (filter : Filter) (g : Going text rest b) → length text < 2 ^ 63 → words rest ≡ [] → ((s : State) → Holds s b → CountsFit s → IsFinished s x)
     → ((f : Formula) → read_after [] (steps_of x) ≡ f ∷ [] → terms_of f ≤ 64 → (frame : Option (List ℕ)) → passes (tests_of filter) (frame_meets frame) ≡ truth f (frame_holds frame)) → IsParsedFilter text filter
 parsed text rest b x filter g short none finish compiled =
     let f = finish g.state g.holds (fits text rest b g short) in

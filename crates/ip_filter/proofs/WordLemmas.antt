@@ -4,8 +4,8 @@ use Rattle.std.proofs.Math.Seq.{drop-cons}
 use Rattle.ip_spec.proofs.Common.{◌≡◌, ℕ, ◌+◌, ◌-◌, ◌<◌, ◌≤◌, List, [], ◌∷◌, length, take, drop, get_or, refl, sym, ap, ◌∙◌, subst, arith, common_steps, Bool, true, false, ◌||◌, ◌⊎◌, inl, inr, bytes_eq-Decides, if◌then◌else◌, cases_Bool, drop_all, drop-drop, take_rest, length-drop, nat_tests}
 use Rattle.std.proofs.lemmas.List.{get_or-drop}
 use Rattle.std.specs.Str.{bytes_eq}
-use Rattle.ip_filter.specs.Reading.{IsPlace, IsEnd}
-use Rattle.ip_filter.specs.Words.{words, word_len, with_byte, is_space, joins, Word}
+use Rattle.ip_filter.specs.Reading.{IsPlace, IsSuffix}
+use Rattle.ip_filter.specs.Words.{words, word_len, with_byte, is_white_space, joins, Word}
 
 pub or_cases : (a b : Bool) → (a || b) ≡ true → (a ≡ true) ⊎ (b ≡ true)
 or_cases true b e = inl refl
@@ -40,20 +40,20 @@ module _ (s : List ℕ) (i : ℕ) (some : 1 ≤ i) where
   last_byte end = ap word_len (at (omega arith)) ∙ ap (λ r. word_len (get_or s (i - 1) 0 ∷ r)) (drop_all i s (omega arith))
 
 -- white space before a word doesn't count
-pub skip : (s : List ℕ) (k : ℕ) → k < length s → is_space (get_or s k 0) ≡ true → words (drop (suc k) s) ≡ words (drop k s)
+pub skip : (s : List ℕ) (k : ℕ) → k < length s → is_white_space (get_or s k 0) ≡ true → words (drop (suc k) s) ≡ words (drop k s)
 unfolding words
 skip s k inside space =
     sym (ap words (drop-cons s k 0 inside) ∙ ap (λ b. if b then words (drop (suc k) s) else with_byte (get_or s k 0) (drop (suc k) s) (words (drop (suc k) s))) space)
 
 -- what joins a byte is no white space
-no_space : (c d : ℕ) → joins c d ≡ true → is_space d ≡ false
+no_space : (c d : ℕ) → joins c d ≡ true → is_white_space d ≡ false
 no_space c d j = grind (arith, common_steps, nat_tests)
 
 apart : (c d : ℕ) (s : List ℕ) (ws : List Word) → joins c d ≡ false → with_byte c (d ∷ s) ws ≡ (c ∷ []) ∷ ws
 apart c d s [] f = refl
 apart c d s (w ∷ ws) f = ap (λ b. if b then (c ∷ w) ∷ ws else (c ∷ []) ∷ w ∷ ws) f
 
-pub first : (c : ℕ) (s : List ℕ) → is_space c ≡ false
+pub first : (c : ℕ) (s : List ℕ) → is_white_space c ≡ false
     → words (c ∷ s) ≡ take (word_len (c ∷ s)) (c ∷ s) ∷ words (drop (word_len (c ∷ s)) (c ∷ s))
 unfolding words word_len
 first c [] plain = ap (λ b. if b then [] else (c ∷ []) ∷ []) plain
@@ -70,7 +70,7 @@ first c (d ∷ s) plain =
       | inr f ↦ begins ∙ apart c d s (words (d ∷ s)) f ∙ parts false f
     ]
 
-pub first_of : (s : List ℕ) → 0 < length s → is_space (get_or s 0 0) ≡ false → words s ≡ take (word_len s) s ∷ words (drop (word_len s) s)
+pub first_of : (s : List ℕ) → 0 < length s → is_white_space (get_or s 0 0) ≡ false → words s ≡ take (word_len s) s ∷ words (drop (word_len s) s)
 first_of [] some plain = absurd (omega arith)
 first_of (c ∷ s) some plain = first c s plain
 
@@ -91,14 +91,14 @@ with_byte-len c (d ∷ s) (w ∷ ws) = elim (cases_Bool (joins c d)) [
 pub words_short : (s : List ℕ) → length (words s) ≤ length s
 unfolding words
 words_short [] = omega arith
-words_short (c ∷ s) = elim (cases_Bool (is_space c)) [
+words_short (c ∷ s) = elim (cases_Bool (is_white_space c)) [
   | inl t ↦ omega (arith, ap (λ b. length (if b then words s else with_byte c s (words s))) t, words_short s)
   | inr f ↦ omega (arith, ap (λ b. length (if b then words s else with_byte c s (words s))) f, words_short s, with_byte-len c s (words s))
 ]
 
 -- the text after some white space, of which the first n bytes are a word
 module _ (text from : List ℕ) (n : ℕ) (same : words from ≡ words text) (shorter : length from ≤ length text) (end : from ≡ drop (length text - length from) text)
-    (some : 0 < length from) (plain : is_space (get_or from 0 0) ≡ false) (within : n ≤ length from) where
+    (some : 0 < length from) (plain : is_white_space (get_or from 0 0) ≡ false) (within : n ≤ length from) where
   pub begins_with : n ≡ word_len from → words text ≡ take n from ∷ words (take (length from - n) (drop n from))
   begins_with is =
       sym same ∙ first_of from some plain
@@ -111,10 +111,10 @@ module _ (text from : List ℕ) (n : ℕ) (same : words from ≡ words text) (sh
     words_before = sym same ∙ ap words end;
     begins =
         let k = length text - length from in
-        λ _. ap (λ i. is_space (get_or text i 0)) (let e : k ≡ k + 0 = omega arith in e) ∙ ap is_space (sym (get_or-drop k text 0 0) ∙ ap (λ s. get_or s 0 0) (sym end)) ∙ plain;
+        λ _. ap (λ i. is_white_space (get_or text i 0)) (let e : k ≡ k + 0 = omega arith in e) ∙ ap is_white_space (sym (get_or-drop k text 0 0) ∙ ap (λ s. get_or s 0 0) (sym end)) ∙ plain;
   }
 
-  pub end_of : IsEnd text (take (length from - n) (drop n from))
+  pub end_of : IsSuffix text (take (length from - n) (drop n from))
   end_of =
       let rest : take (length from - n) (drop n from) ≡ drop n from = take_rest from n in
       let len : length (take (length from - n) (drop n from)) ≡ length from - n = ap length rest ∙ length-drop n from in (

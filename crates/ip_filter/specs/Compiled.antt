@@ -17,8 +17,8 @@ terms_of_all [] = 0
 terms_of_all (f ∷ fs) = terms_of f + terms_of_all fs
 
 -- the last two formulas, joined
-abbrev pub joined : Bool → Formula → Formula → Formula
-joined is_and f g = if is_and then both f g else either f g
+abbrev pub joined_by : Bool → Formula → Formula → Formula
+joined_by is_and f g = if is_and then both f g else either f g
 
 -- the index to which an operand leads that decides: a false one of `and`, a true one of `or`
 abbrev pub decided : Bool → ℕ

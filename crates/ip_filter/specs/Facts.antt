@@ -9,7 +9,7 @@ use Rattle.ip_dissect.specs.declared.dissection.BaseHeader.{BaseHeader}
 use Rattle.ip_dissect.specs.declared.dissection.BaseHeader.TheVariants.{Ipv4, Ipv6}
 
 -- the number after a base header
-abbrev pub first_number : Option BaseHeader → ℕ
-first_number None = NO_NEXT_HEADER
-first_number (Some (Ipv4 h)) = protocol (ipv4_header.bytes h)
-first_number (Some (Ipv6 h)) = ipv6_next_header (ipv6_header.bytes h)
+abbrev pub number_after : Option BaseHeader → ℕ
+number_after None = NO_NEXT_HEADER
+number_after (Some (Ipv4 h)) = protocol (ipv4_header.bytes h)
+number_after (Some (Ipv6 h)) = ipv6_next_header (ipv6_header.bytes h)

@@ -22,13 +22,13 @@ known_flag n p =
     || ((n == 10) && not (p.missing == 0))
 
 -- what the flag n says
-abbrev pub flag : ℕ → DissectedParts → Bool
-flag n p = known_flag n p || ((n == 11) && is_truncated p.end) || option_map_or (λ k. n == 12 + kind_index k) (fault_in p.end) false
+abbrev pub flag_says : ℕ → DissectedParts → Bool
+flag_says n p = known_flag n p || ((n == 11) && is_truncated p.end) || option_map_or (λ k. n == 12 + kind_index k) (fault_in p.end) false
 
 -- one of the k lowest flags that the mask selects is set
 unfoldable pub any_flag : ℕ → ℕ → DissectedParts → Bool
 any_flag zero mask p = false
-any_flag (suc k) mask p = any_flag k mask p || ((bit_at mask k == 1) && flag k p)
+any_flag (suc k) mask p = any_flag k mask p || ((bit_at mask k == 1) && flag_says k p)
 
 -- which fragment an IPv4 packet with this outline is by its base header
 abbrev pub base_fragment : Outline → Option Fragment
@@ -51,4 +51,4 @@ AreKnown p x = (n : ℕ) → n < 64 → (bit_at x.bits n == 1) ≡ known_flag n 
 
 -- Of the flags that the mask m selects, the set x has those of a packet with the parts p.
 abbrev pub AreFlags : ℕ → DissectedParts → Flags → Type 0
-AreFlags m p x = (n : ℕ) → n < 64 → bit_at m n ≡ 1 → (bit_at x.bits n == 1) ≡ flag n p
+AreFlags m p x = (n : ℕ) → n < 64 → bit_at m n ≡ 1 → (bit_at x.bits n == 1) ≡ flag_says n p

@@ -12,7 +12,7 @@ use Rattle.ip_filter.specs.declared.term.Term.{Term}
 use Rattle.ip_filter.specs.Words.{Word, words}
 use Rattle.ip_filter.specs.Formula.{steps_of}
 use Rattle.ip_filter.specs.Grammar.{Operand, Conjunction, Disjunction, a_term, a_negation, a_group, an_operand, an_and, a_conjunction, an_or, IsTerm, is_not, is_and, is_or, conjunction_words, filter_words, operand_terms, conjunction_terms, terms_in}
-use Rattle.ip_filter.specs.Reading.{ends_term, IsEnd, IsPlace, WantsArgument, IsOperator}
+use Rattle.ip_filter.specs.Reading.{ends_term, IsSuffix, IsPlace, WantsArgument, IsOperator}
 
 -- ---- the parts that are read
 
@@ -22,8 +22,8 @@ pub record Open : Type 0 where
   pub and_left : Option (Conjunction × Word)
   pub nots : List Word
 
-abbrev pub nothing : Open
-nothing = record { or_left = None; and_left = None; nots = [] }
+abbrev pub nothing_open : Open
+nothing_open = record { or_left = None; and_left = None; nots = [] }
 
 -- Open groups, the innermost first, and what was read in the last one: an operand follows, or a conjunction was read.
 pub data State : Type 0 where
@@ -76,14 +76,14 @@ HasRoom (before fs f) = state_terms (before fs f) < 64
 HasRoom (after fs o c) = state_terms (after fs o c) ≤ 64
 
 -- no count is too large
-pub record Fits (s : State) : Type 0 where
+pub record CountsFit (s : State) : Type 0 where
   pub terms : HasRoom s
   pub words : length (state_words s) < 2 ^ 63
 
 -- The words lead from one state to the next.
 pub data Moves : State → List Word → State → Type 0 where
   by_not : (fs : List Open) (f : Open) (w : Word) → IsTrue (is_not w) → Moves (before fs f) (w ∷ []) (before fs (record f { nots = f.nots ++ w ∷ [] }))
-  by_open : (fs : List Open) (f : Open) → length fs < 16 → Moves (before fs f) (codes "(" ∷ []) (before (f ∷ fs) nothing)
+  by_open : (fs : List Open) (f : Open) → length fs < 16 → Moves (before fs f) (codes "(" ∷ []) (before (f ∷ fs) nothing_open)
   by_term : (fs : List Open) (f : Open) (w : Word) (us : List Word) (t : Term) → IsTerm w us t
       → Moves (before fs f) (w ∷ us) (with_operand fs f (a_term w us t))
   by_and : (fs : List Open) (o : Option (Disjunction × Word)) (c : Conjunction) (w : Word) → IsTrue (is_and w) → state_terms (after fs o c) < 64
@@ -215,7 +215,7 @@ pub record ReadsOn (s : State) (text rest : List ℕ) (b : Builder) : Type 0 whe
   pub us : List Word
   pub moves : Moves s us next
   pub begins : words text ≡ us ++ words rest
-  pub end : IsEnd text rest
+  pub end : IsSuffix text rest
   pub holds : Holds next b
   pub only : (t : State) (vs ws more : List Word) → Moves s vs t → may_follow t more → vs ++ more ≡ us ++ ws → take 1 ws ≡ take 1 (words rest) → (t ≡ next) × (vs ≡ us)
 

@@ -10,7 +10,7 @@ use Rattle.ip_filter.specs.declared.keyword.NumberKeyword.TheVariants as number
 use Rattle.ip_filter.specs.declared.keyword.AddressKeyword.TheVariants as address
 use Rattle.ip_filter.specs.declared.parse_error.Expected.{Expected}
 use Rattle.ip_filter.specs.declared.parse_error.Expected.TheVariants as expects
-use Rattle.ip_filter.specs.Words.{Word, words, is_space}
+use Rattle.ip_filter.specs.Words.{Word, words, is_white_space}
 use Rattle.ip_filter.specs.Numbers.{comparison_of}
 use Rattle.ip_filter.specs.Grammar.{keyword_of, AreArguments, is_and, is_or}
 
@@ -64,27 +64,27 @@ IsOperator ws = (w : Word) × (ws ≡ w ∷ []) × IsTrue (is_and w || is_or w)
 -- ---- what is read
 
 -- `rest` is the end of the text
-abbrev pub IsEnd : List ℕ → List ℕ → Type 0
-IsEnd text rest = (length rest ≤ length text) × (rest ≡ drop (length text - length rest) text)
+abbrev pub IsSuffix : List ℕ → List ℕ → Type 0
+IsSuffix text rest = (length rest ≤ length text) × (rest ≡ drop (length text - length rest) text)
 
 -- A word begins `left` bytes before the end of the text, or the text ends there. The words `before` precede it.
 pub record IsPlace (text : List ℕ) (before : List Word) (left : ℕ) : Type 0 where
   pub within : left ≤ length text
   pub words_before : words text ≡ before ++ words (drop (length text - left) text)
-  pub begins : 0 < left → is_space (slice_index text (length text - left)) ≡ false
+  pub begins : 0 < left → is_white_space (slice_index text (length text - left)) ≡ false
 
 -- w is the first word of the text.
 pub record IsFirstWord (text : List ℕ) (w : FirstWord) : Type 0 where
   pub begins : words text ≡ w.bytes.now ∷ words w.rest.now
   pub place : IsPlace text [] w.left
-  pub end : IsEnd text w.rest.now
+  pub end : IsSuffix text w.rest.now
 
 -- The text begins with a word that writes a, and `rest` follows it.
 pub record ReadsArgument {A : Type 0} (Writes : Word → A → Type 0) (text : List ℕ) (a : A) (rest : List ℕ) : Type 0 where
   pub word : Word
   pub begins : words text ≡ word ∷ words rest
   pub writes : Writes word a
-  pub end : IsEnd text rest
+  pub end : IsSuffix text rest
 
 -- The text has no first word, or it writes nothing. It begins `left` bytes before the end.
 pub record RefusesArgument {A : Type 0} (Writes : Word → A → Type 0) (text : List ℕ) (left : ℕ) : Type 0 where
@@ -101,7 +101,7 @@ pub record ReadsArguments {A : Type 0} (Writes : List Word → A → Type 0) (te
   pub args : List Word
   pub begins : words text ≡ args ++ words rest
   pub writes : Writes args a
-  pub end : IsEnd text rest
+  pub end : IsSuffix text rest
   pub only : (b : A) (us ws more : List Word) → Writes us b → us ++ more ≡ args ++ ws → (b ≡ a) × (us ≡ args)
 
 -- No words that write something begin like those of the text, up to that at the place `left`, or end there. Some begin
@@ -125,7 +125,7 @@ pub record ReadsTerm (k : Keyword) (text : List ℕ) (t : Term) (rest : List ℕ
   pub args : List Word
   pub begins : words text ≡ args ++ words rest
   pub arguments : AreArguments k args t
-  pub end : IsEnd text rest
+  pub end : IsSuffix text rest
   pub only : (u : Term) (us ws more : List Word) → AreArguments k us u → IsTrue (ends_term more)
       → us ++ more ≡ args ++ ws → take 1 ws ≡ take 1 (words rest) → (u ≡ t) × (us ≡ args)
 

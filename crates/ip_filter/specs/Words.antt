@@ -5,8 +5,8 @@ abbrev pub Word : Type 0
 Word = List ℕ
 
 -- a tab, a line feed, a carriage return or a space
-abbrev pub is_space : ℕ → Bool
-is_space c = (c == 9) || (c == 10) || (c == 13) || (c == 32)
+abbrev pub is_white_space : ℕ → Bool
+is_white_space c = (c == 9) || (c == 10) || (c == 13) || (c == 32)
 
 -- one of ! & ( ) < = > |
 abbrev pub is_sign : ℕ → Bool
@@ -18,7 +18,7 @@ is_double_sign c d = ((c == d) && ((c == 38) || (c == 124))) || ((d == 61) && ((
 
 -- the byte c, which is no white space, and the byte d after it are in one word
 abbrev pub joins : ℕ → ℕ → Bool
-joins c d = if is_sign c then is_double_sign c d else not (is_space d) && not (is_sign d)
+joins c d = if is_sign c then is_double_sign c d else not (is_white_space d) && not (is_sign d)
 
 -- the words of the bytes c ∷ s, of which those of s are given
 abbrev pub with_byte : ℕ → List ℕ → List Word → List Word
@@ -27,7 +27,7 @@ with_byte c s ws = (c ∷ []) ∷ ws
 
 unfoldable pub words : List ℕ → List Word
 words [] = []
-words (c ∷ s) = if is_space c then words s else with_byte c s (words s)
+words (c ∷ s) = if is_white_space c then words s else with_byte c s (words s)
 
 -- the length of the word that the bytes begin with
 unfoldable pub word_len : List ℕ → ℕ

@@ -8,7 +8,7 @@ ghost use Rattle.ip_filter.specs.declared.steps.Step.{Step as TheStep};
 ghost use Rattle.ip_filter.specs.Grammar.{Operand, Conjunction, Disjunction, a_group, is_not, is_and, is_or};
 ghost use Rattle.ip_filter.specs.Words.{Word as Text};
 ghost use Rattle.ip_filter.specs.Reading.{IsFirstWord};
-ghost use Rattle.ip_filter.specs.Parsing.{Open, State, before, after, nothing, with_operand, or_joined, state_steps, Fits, Holds, HoldsOperand, HoldsGroup, IsFinished, ReadsOn, RefusesFrom, IsDue, IsWhole};
+ghost use Rattle.ip_filter.specs.Parsing.{Open, State, before, after, nothing_open, with_operand, or_joined, state_steps, CountsFit, Holds, HoldsOperand, HoldsGroup, IsFinished, ReadsOn, RefusesFrom, IsDue, IsWhole};
 
 use crate::Expected;
 use crate::arguments::Unexpected;
@@ -50,7 +50,7 @@ pub(crate) struct Builder {
 impl Builder {
     /// Returns the start of a filter.
     pub(crate) fn new() -> Builder
-        ensures { Holds (before [] nothing) result }
+        ensures { Holds (before [] nothing_open) result }
     {
         Builder {
             steps: Steps {
@@ -70,7 +70,7 @@ impl Builder {
     /// Reads on from the word, and returns the text after what was read.
     pub(crate) fn read<'a>(&mut self, word: Word<'a>) -> Result<&'a [u8], Unexpected>
         ensures ok { IfOk result (λ rest. (text : List ℕ) (s : State) → IsFirstWord text word.entry
-            → Holds s self.old → Fits s → ReadsOn s text rest.now self.new) }
+            → Holds s self.old → CountsFit s → ReadsOn s text rest.now self.new) }
         ensures err { IfErr result (λ e. (text : List ℕ) (s : State) → IsFirstWord text word.entry
             → Holds s self.old → RefusesFrom s text e.left e.expected) }
     {
@@ -84,7 +84,7 @@ impl Builder {
     /// Reads an operand, or a word that may precede one.
     fn read_operand<'a>(&mut self, word: Word<'a>) -> Result<&'a [u8], Unexpected>
         ensures ok { IfOk result (λ rest. (text : List ℕ) (fs : List Open) (f : Open)
-            → IsFirstWord text word.entry → Holds (before fs f) self.old → Fits (before fs f)
+            → IsFirstWord text word.entry → Holds (before fs f) self.old → CountsFit (before fs f)
             → ReadsOn (before fs f) text rest.now self.new) }
         ensures err { IfErr result (λ e. (text : List ℕ) (fs : List Open) (f : Open)
             → IsFirstWord text word.entry → Holds (before fs f) self.old
@@ -119,7 +119,7 @@ impl Builder {
     /// Reads an operator, or the end of a group.
     fn read_operator<'a>(&mut self, word: Word<'a>) -> Result<&'a [u8], Unexpected>
         ensures ok { IfOk result (λ rest. (text : List ℕ) (fs : List Open) (o : Option (Disjunction × Text)) (c : Conjunction)
-            → IsFirstWord text word.entry → Holds (after fs o c) self.old → Fits (after fs o c)
+            → IsFirstWord text word.entry → Holds (after fs o c) self.old → CountsFit (after fs o c)
             → ReadsOn (after fs o c) text rest.now self.new) }
         ensures err { IfErr result (λ e. (text : List ℕ) (fs : List Open) (o : Option (Disjunction × Text)) (c : Conjunction)
             → IsFirstWord text word.entry → Holds (after fs o c) self.old
@@ -160,7 +160,7 @@ impl Builder {
     /// Closes the last group: its formula is an operand in the level around it.
     fn close(&mut self, outer: Level)
         ensures { (fs : List Open) (f : Open) (o : Option (Disjunction × Text)) (c : Conjunction)
-            → HoldsGroup fs f o c outer self.old → Fits (after (f ∷ fs) o c)
+            → HoldsGroup fs f o c outer self.old → CountsFit (after (f ∷ fs) o c)
             → Holds (with_operand fs f (a_group (or_joined o c))) self.new }
     {
         push_or(&mut self.steps, self.level.or_waits);
@@ -188,7 +188,7 @@ impl Builder {
     /// Returns the steps at the end of the text, or what is missing there.
     #[tactic(auto, using(crate::proofs::OperatorLemmas::finished, crate::proofs::OperatorLemmas::operand_missing, crate::proofs::OperatorLemmas::close_missing))]
     pub(crate) fn finish(mut self) -> Result<Steps, Expected>
-        ensures ok { IfOk result (λ x. (s : State) → Holds s self → Fits s → IsFinished s x) }
+        ensures ok { IfOk result (λ x. (s : State) → Holds s self → CountsFit s → IsFinished s x) }
         ensures err { IfErr result (λ e. (s : State) → Holds s self
             → IsDue s [] [] e × (IsWhole s → ⊥)) }
     {

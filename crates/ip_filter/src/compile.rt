@@ -4,7 +4,7 @@ ghost use Rattle.arrayvec.specs.ArrayVec.{array_vec_len};
 ghost use Rattle.ip_filter.specs.Formula.{Formula, after_step, negated, read_after, steps_of, truth};
 ghost use Rattle.ip_filter.specs.Tests.{frame_meets};
 ghost use Rattle.ip_filter.specs.Program.{tests_of, passes, frame_holds};
-ghost use Rattle.ip_filter.specs.Compiled.{terms_of, terms_of_all, joined, AreCompiled, index_moved, redirected, redirected_from};
+ghost use Rattle.ip_filter.specs.Compiled.{terms_of, terms_of_all, joined_by, AreCompiled, index_moved, redirected, redirected_from};
 ghost use Rattle.ip_filter.specs.declared.steps.StepKind.TheVariants.{And, Or};
 
 use crate::join::join_flags;
@@ -118,7 +118,7 @@ impl Compiler {
     fn join_at(&mut self, second: u8, is_and: bool)
         ensures { (frame : Option (List ℕ)) (f g : Formula) (fs : List Formula) → terms_of_all (g ∷ f ∷ fs) ≤ 64
             → AreCompiled frame (g ∷ f ∷ fs) (self.old.starts.items ++ second ∷ []) (tests_of self.old.filter)
-            → AreCompiled frame (joined is_and f g ∷ fs) self.new.starts.items (tests_of self.new.filter) }
+            → AreCompiled frame (joined_by is_and f g ∷ fs) self.new.starts.items (tests_of self.new.filter) }
     {
         if self.join_flags_at(usize::from(second), is_and) {
             return;
@@ -137,7 +137,7 @@ impl Compiler {
         ensures joined { result ≡ true → (frame : Option (List ℕ)) (f g : Formula) (fs : List Formula)
             → terms_of_all (g ∷ f ∷ fs) ≤ 64
             → AreCompiled frame (g ∷ f ∷ fs) (self.old.starts.items ++ second ∷ []) (tests_of self.old.filter)
-            → AreCompiled frame (joined is_and f g ∷ fs) self.new.starts.items (tests_of self.new.filter) }
+            → AreCompiled frame (joined_by is_and f g ∷ fs) self.new.starts.items (tests_of self.new.filter) }
         ensures none { result ≡ false → self.new ≡ self.old }
     {
         let starts = self.starts.len();

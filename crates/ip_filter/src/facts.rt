@@ -4,7 +4,7 @@ ghost use Rattle.std.specs.List.{list_any};
 ghost use Rattle.ip_dissect.specs.Dissection.{dissected};
 ghost use Rattle.ip_dissect.specs.Outline.{is_plain};
 ghost use Rattle.ip_filter.specs.Flags.{AreKnown, any_flag};
-ghost use Rattle.ip_filter.specs.Facts.{first_number};
+ghost use Rattle.ip_filter.specs.Facts.{number_after};
 ghost use Rattle.ip_filter.specs.HeaderConditions.{meets_condition};
 ghost use Rattle.ip_filter.specs.Truth.{is_first_kind, is_later_kind, fault_kind, fault_in, is_truncated, is_in_layer};
 ghost use Rattle.ip_filter.specs.Truth.{some_fragment};
@@ -77,7 +77,7 @@ impl<'a> Facts<'a> {
 /// Returns the number after the base header, and 59 without one.
 #[inline(always)]
 fn first_number(base: Option<BaseHeader<'_>>) -> IpNumber
-    ensures { result.0 ≡ first_number base.entry }
+    ensures { result.0 ≡ number_after base.entry }
 {
     match base {
         Some(BaseHeader::Ipv4(header)) => header.protocol(),

@@ -2,7 +2,7 @@
 ghost use Rattle.std.specs.Prelude.{◌≡◌, ◌<◌, ◌≤◌, ◌+◌, ◌==◌, ℕ, Option, List, [], ◌∷◌, ◌++◌, length, take, if◌then◌else◌, IfSome, IfNone};
 ghost use Rattle.ip_filter.specs.Formula.{Formula, truth};
 ghost use Rattle.ip_filter.specs.Program.{frame_holds};
-ghost use Rattle.ip_filter.specs.Compiled.{Decide, led_by, joined, decided, index_shifted, shifted, put_first};
+ghost use Rattle.ip_filter.specs.Compiled.{Decide, led_by, joined_by, decided, index_shifted, shifted, put_first};
 ghost use Rattle.ip_filter.specs.declared.filter.Test.{Test as TheTest};
 
 use crate::Test;
@@ -22,7 +22,7 @@ pub(crate) fn join_flags(tests: &mut [Test], start: u8, is_and: bool) -> Option<
     ensures decide { IfSome result (λ n. (frame : Option (List ℕ)) (f g : Formula) (xs : List TheTest) (z : TheTest)
         → tests.old ≡ xs ++ z ∷ [] → start + length tests.old ≤ 64 → Decide frame f start xs
         → led_by frame z ≡ (if truth g (frame_holds frame) then 64 else 65)
-        → Decide frame (joined is_and f g) start (take n tests.new)) }
+        → Decide frame (joined_by is_and f g) start (take n tests.new)) }
 {
     let count = tests.len();
     if count < 2 {

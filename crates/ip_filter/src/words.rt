@@ -1,7 +1,7 @@
 //! The words of a filter's text.
 ghost use Rattle.std.specs.Prelude.{◌≡◌, ◌<◌, ◌≤◌, ◌-◌, ◌∷◌, [], length, drop, slice_index, get_or, false, IfSome, IfNone};
 ghost use Rattle.ip_filter.specs.Reading.{IsFirstWord};
-ghost use Rattle.ip_filter.specs.Words.{words, word_len, is_space, is_sign, is_double_sign, joins};
+ghost use Rattle.ip_filter.specs.Words.{words, word_len, is_white_space, is_sign, is_double_sign, joins};
 
 /// A word of a text.
 #[derive(Clone, Copy)]
@@ -39,7 +39,7 @@ fn skip_spaces(text: &[u8]) -> &[u8]
     ensures words { words result.now ≡ words text.now }
     ensures shorter { length result.now ≤ length text.now }
     ensures rest { result.now ≡ drop (length text.now - length result.now) text.now }
-    ensures no_space { 0 < length result.now → is_space (slice_index result.now 0) ≡ false }
+    ensures no_space { 0 < length result.now → is_white_space (slice_index result.now 0) ≡ false }
 {
     'spaces: for i in 0..text.len() {
         if !is_space(text[i]) {
@@ -67,7 +67,7 @@ fn len_of_word(bytes: &[u8]) -> usize
 
 /// Returns whether the byte is white space.
 fn is_space(byte: u8) -> bool
-    ensures { result ≡ is_space byte }
+    ensures { result ≡ is_white_space byte }
 {
     matches!(byte, b'\t' | b'\n' | b'\r' | b' ')
 }

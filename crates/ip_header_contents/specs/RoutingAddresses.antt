@@ -16,8 +16,8 @@ routing_bytes it = it.header.now
 abbrev pub layout : RoutingAddresses → AddressLayout
 layout it = it.layout
 
-abbrev pub index : RoutingAddresses → ℕ
-index it = it.index
+abbrev pub address_index : RoutingAddresses → ℕ
+address_index it = it.index
 
 abbrev pub addresses_left : RoutingAddresses → List (List ℕ)
-addresses_left it = addresses_from (layout it) (routing_bytes it) (index it) ((layout it).count - index it)
+addresses_left it = addresses_from (layout it) (routing_bytes it) (address_index it) ((layout it).count - address_index it)

@@ -48,7 +48,7 @@ pub struct RoutingAddresses<'a> {
     pub ghost len: { layout.len ≤ 16 },
     pub ghost last_len: { layout.last_len ≤ 16 },
     pub ghost within: { 8 + addresses_len layout ≤ length header.now },
-    pub ghost index_within: { index ≤ layout.count },
+    pub ghost index_within: { address_index ≤ layout.count },
 }
 
 impl<'a> RoutingAddresses<'a> {
@@ -56,14 +56,14 @@ impl<'a> RoutingAddresses<'a> {
     ghost use Rattle.ip_ext_headers.specs.Ipv6RawExtHeaderSlice.{bytes};
     ghost use Rattle.ip_header_contents.specs.declared.routing_layout.AddressLayout.{AddressLayout};
     ghost use Rattle.ip_header_contents.specs.Routing.{IsLayout, address};
-    ghost use Rattle.ip_header_contents.specs.RoutingAddresses.{last_bytes, routing_bytes, layout, index};
+    ghost use Rattle.ip_header_contents.specs.RoutingAddresses.{last_bytes, routing_bytes, layout, address_index};
 
     /// Returns the addresses of a routing header of type 2 (RFC 6275, section 6.4), 3 (RFC 6554, section 3) or 4
     /// (RFC 8754, section 2). Returns `None` for any other type, or if the fields of the header don't fit its length.
     pub fn of(header: &Ipv6RawExtHeaderSlice<'a>) -> Option<RoutingAddresses<'a>>
         ensures header { IfSome result (λ x. routing_bytes x ≡ bytes header.now) }
         ensures layout { IfSome result (λ x. IsLayout (bytes header.now) (layout x)) }
-        ensures index { IfSome result (λ x. index x ≡ 0) }
+        ensures index { IfSome result (λ x. address_index x ≡ 0) }
         ensures none { IfNone result ((x : AddressLayout) → IsLayout (bytes header.now) x → ⊥) }
     {
         match address_layout(header) {
@@ -87,9 +87,9 @@ impl<'a> RoutingAddresses<'a> {
     /// Returns the address with this index, or `None` if there are fewer.
     #[inline(always)]
     pub fn get(&self, index: usize) -> Option<RoutingAddress<'a>>
-        ensures some { IfSome result (λ a. last_bytes a ≡ address (layout self.now) (routing_bytes self.now) index) }
-        ensures within { IfSome result (λ _. index < (layout self.now).count) }
-        ensures none { IfNone result ((layout self.now).count ≤ index) }
+        ensures some { IfSome result (λ a. last_bytes a ≡ address (layout self.now) (routing_bytes self.now) address_index) }
+        ensures within { IfSome result (λ _. address_index < (layout self.now).count) }
+        ensures none { IfNone result ((layout self.now).count ≤ address_index) }
     {
         if index >= self.layout.count {
             return None;

@@ -7,7 +7,7 @@ use Rattle.ip_rewrite.specs.Headers.{linked_headers}
 use Rattle.ip_rewrite.specs.Selection.{selects, kept_from, kept, any_selected, selects_fragmented}
 use Rattle.ip_dissect.specs.Fragment.{fragments}
 use Rattle.ip_rewrite.specs.Without.{is_authentication, has_segments}
-use Rattle.ip_rewrite.specs.Writing.{front, SelectsFirst, surveyed, no_survey}
+use Rattle.ip_rewrite.specs.Writing.{front_with, SelectsFirst, surveyed, no_survey}
 use Rattle.ip_rewrite.specs.declared.which.Which.{Which}
 use Rattle.ip_rewrite.specs.declared.which.Which.TheVariants.{Index}
 use Rattle.ip_rewrite.specs.declared.survey.Survey.{Survey}
@@ -52,7 +52,7 @@ selects_first w n (h ∷ c) s len k chain is sel header within minus size =
 pub written_after : (l : ℕ) (b buffer : List ℕ) (c : List ExtHeader) (k : ℕ) (q r x y : List ℕ) → l < length b → AreLinked k c → r ≡ bytes_of c ++ q
     → x ≡ slice_set (b ++ drop (length b) buffer) l k
     → y ≡ take (length b) x ++ r ++ drop (length b + length r) x
-    → y ≡ front l b c (leads_to k c) ++ q ++ drop (length b + length (bytes_of c) + length q) buffer
+    → y ≡ front_with l b c (leads_to k c) ++ q ++ drop (length b + length (bytes_of c) + length q) buffer
 written_after l b buffer c k q r x y less links is base put =
     let e : List ℕ = bytes_of c in
     let f : List ℕ = slice_set b l k in
@@ -60,7 +60,7 @@ written_after l b buffer c k q r x y less links is base put =
     let x_is : x ≡ f ++ drop (length f) buffer = base ∙ (set-append_left b (drop (length b) buffer) l k less ∙ ap (λ n. f ++ drop n buffer) (sym size)) in
     let y_put : y ≡ take (length f) x ++ r ++ drop (length f + length r) x = subst (λ n. y ≡ take n x ++ r ++ drop (n + length r) x) (sym size) put in
     let y_is : y ≡ f ++ r ++ drop (length f + length r) buffer = copied_after f r buffer x y x_is y_put in
-    let front_is : front l b c (leads_to k c) ≡ f ++ e = ap (λ n. slice_set b l n ++ bytes_of (linked_headers (leads_to k c) c)) (first_is k c links) ∙ ap (λ d. f ++ bytes_of d) (linked_same k c links) in
+    let front_is : front_with l b c (leads_to k c) ≡ f ++ e = ap (λ n. slice_set b l n ++ bytes_of (linked_headers (leads_to k c) c)) (first_is k c links) ∙ ap (λ d. f ++ bytes_of d) (linked_same k c links) in
     let at : length f + length r ≡ length b + length e + length q = omega (arith, size, ap length is, length-append e q) in
     y_is ∙ (ap (λ n. f ++ r ++ drop n buffer) at ∙ (ap (λ t. f ++ t ++ drop (length b + length e + length q) buffer) is
     ∙ (ap (λ t. t ++ drop (length b + length e + length q) buffer) (sym (append_assoc f e q)) ∙ ap (λ t. t ++ q ++ drop (length b + length e + length q) buffer) (sym front_is))))
@@ -75,10 +75,10 @@ rest_of_part s start size more n e q fits first second =
     let count : start + size + more - (start + n) ≡ a + more = omega (arith, fits) in
     let from : drop (start + n) s ≡ drop n t = sym (drop-drop n start s) in
     let all : take size t ≡ e = ap (λ k. take k t) (omega arith) ∙ first in
-    let front : take a (drop n t) ≡ drop n e = sym (drop-take n a t) ∙ (ap (λ k. drop n (take k t)) whole ∙ ap (drop n) all) in
+    let front_with : take a (drop n t) ≡ drop n e = sym (drop-take n a t) ∙ (ap (λ k. drop n (take k t)) whole ∙ ap (drop n) all) in
     let rest : drop a (drop n t) ≡ drop (start + size) s = drop-drop a n t ∙ (ap (λ k. drop k t) whole ∙ drop-drop size start s) in
     let back : take more (drop a (drop n t)) ≡ q = ap (take more) rest ∙ (ap (λ k. take k (drop (start + size) s)) (omega arith) ∙ second) in
-    ap (λ k. take k (drop (start + n) s)) count ∙ (ap (take (a + more)) from ∙ (take-add a more (drop n t) ∙ (ap (λ x. x ++ take more (drop a (drop n t))) front ∙ ap (λ x. drop n e ++ x) back)))
+    ap (λ k. take k (drop (start + n) s)) count ∙ (ap (take (a + more)) from ∙ (take-add a more (drop n t) ∙ (ap (λ x. x ++ take more (drop a (drop n t))) front_with ∙ ap (λ x. drop n e ++ x) back)))
 
 some_before : (n : ℕ) → nat_lt 0 (suc n) ≡ true
 some_before n = grind (arith, common_steps)

@@ -100,8 +100,8 @@ first_above k e i (h ∷ c) = if nat_lt k (rank_at e i h) then Some i else first
 
 -- The base header b, in which the number of what follows is at the offset l, and the headers c after it, each of which leads
 -- to the next one, and the last to m.
-abbrev pub front : ℕ → List ℕ → List ExtHeader → ℕ → List ℕ
-front l b c m = slice_set b l (number_of_first c m) ++ bytes_of (linked_headers m c)
+abbrev pub front_with : ℕ → List ℕ → List ExtHeader → ℕ → List ℕ
+front_with l b c m = slice_set b l (number_of_first c m) ++ bytes_of (linked_headers m c)
 
 -- the offset of the number of what follows them
 abbrev pub link_of : ℕ → List ℕ → List ExtHeader → ℕ
@@ -109,10 +109,10 @@ link_of l b [] = l
 link_of l b (h ∷ c) = length b + link_of 0 h.bytes c
 
 -- These headers, of which the last leads to what it led to, are written at the front of the buffer `old`.
-pub record IsWritten (l : ℕ) (b : List ℕ) (old : List ℕ) (c : List ExtHeader) (new : List ℕ) (size field : ℕ) : Type 0 where
+pub record AreWritten (l : ℕ) (b : List ℕ) (old : List ℕ) (c : List ExtHeader) (new : List ℕ) (size field : ℕ) : Type 0 where
   pub at : l < length b
   pub headers : AllByRecursion (λ h. IsHeader h.number h.bytes) c
-  pub bytes : new ≡ front l b c (leads_to (slice_index b l) c) ++ drop (length b + length (bytes_of c)) old
+  pub bytes : new ≡ front_with l b c (leads_to (slice_index b l) c) ++ drop (length b + length (bytes_of c)) old
   pub len : size ≡ length b + length (bytes_of c)
   pub link : field ≡ link_of l b c
 

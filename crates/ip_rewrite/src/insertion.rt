@@ -11,7 +11,7 @@ ghost use Rattle.ip_dissect.specs.Outline.{outline_of};
 ghost use Rattle.ip_rewrite.specs.Rewritten.{rewritten, rewritten_len, rewritten_field, rewritten_parts};
 ghost use Rattle.ip_rewrite.specs.Without.{is_authentication, has_segments, packet_fault};
 ghost use Rattle.ip_rewrite.specs.Insertion.{inserted, is_options, is_header, is_misplaced, header_fault, insertion_fault};
-ghost use Rattle.ip_rewrite.specs.Writing.{IsWritten, inserted_so_far};
+ghost use Rattle.ip_rewrite.specs.Writing.{AreWritten, inserted_so_far};
 
 use crate::keeper::{append, put_at};
 use crate::payload::is_extension_number;
@@ -98,9 +98,9 @@ impl Inserter<'_, '_> {
         ensures number { self.new.number ≡ self.old.number }
         ensures header { self.new.header.now ≡ self.old.header.now }
         ensures written { (l : ℕ) (b buffer : List ℕ) (c : List ExtHeader) (h : ExtHeader) → h ≡ record { number = number.0; bytes = header.now }
-            → IsWritten l b buffer c self.old.out.now self.old.len self.old.link
+            → AreWritten l b buffer c self.old.out.now self.old.len self.old.link
             → length b + length (bytes_of (c ++ h ∷ [])) ≤ length buffer → length buffer < 2 ^ 64
-            → IsWritten l b buffer (c ++ h ∷ []) self.new.out.now self.new.len self.new.link }
+            → AreWritten l b buffer (c ++ h ∷ []) self.new.out.now self.new.len self.new.link }
     {
         append(self.out, self.len, self.link, number, header);
         self.link = self.len;
@@ -114,9 +114,9 @@ impl HeaderVisitor for Inserter<'_, '_> {
         × (new.number ≡ old.number)
         × (new.header.now ≡ old.header.now)
         × ((l : ℕ) (b buffer : List ℕ) (h : ExtHeader) → h ≡ record { number = old.number.0; bytes = old.header.now }
-        → IsWritten l b buffer [] old.out.now old.len old.link
+        → AreWritten l b buffer [] old.out.now old.len old.link
         → length b + length (bytes_of (inserted_so_far old.index h c)) ≤ length buffer → length buffer < 2 ^ 64
-        → IsWritten l b buffer (inserted_so_far old.index h c) new.out.now new.len new.link) };
+        → AreWritten l b buffer (inserted_so_far old.index h c) new.out.now new.len new.link) };
 
     ghost none = { Prim.search rules };
 
@@ -249,7 +249,7 @@ fn write_so_far(
     requires fits { length (dissected packet.now.bytes.now).base
         + (length (bytes_of (dissected packet.now.bytes.now).headers) + length header.now) ≤ length out.old }
     ensures { (h : ExtHeader) → h ≡ record { number = number.0; bytes = header.now }
-        → IsWritten offset (dissected packet.now.bytes.now).base out.old
+        → AreWritten offset (dissected packet.now.bytes.now).base out.old
         (inserted_so_far index h (dissected packet.now.bytes.now).headers) out.new result.len result.link }
 {
     let base = base_of(packet);
@@ -286,7 +286,7 @@ fn write_headers(
     requires fits { length (dissected packet.now.bytes.now).base
         + (length (bytes_of (dissected packet.now.bytes.now).headers) + length header.now) ≤ length out.old }
     ensures { (h : ExtHeader) → h ≡ record { number = number.0; bytes = header.now }
-        → IsWritten offset (dissected packet.now.bytes.now).base out.old
+        → AreWritten offset (dissected packet.now.bytes.now).base out.old
         (inserted index h (dissected packet.now.bytes.now).headers) out.new
         (length (dissected packet.now.bytes.now).base
         + length (bytes_of (inserted index h (dissected packet.now.bytes.now).headers))) result }

@@ -4,7 +4,7 @@ ghost use Rattle.std.proofs.Common.{rules};
 ghost use Rattle.ip_spec.specs.Header.{IsHeader};
 ghost use Rattle.ip_spec.specs.Chain.{ExtHeader, bytes_of};
 ghost use Rattle.ip_rewrite.specs.Selection.{kept};
-ghost use Rattle.ip_rewrite.specs.Writing.{IsWritten};
+ghost use Rattle.ip_rewrite.specs.Writing.{AreWritten};
 
 use crate::Which;
 use ip_base::IpNumber;
@@ -59,9 +59,9 @@ pub(crate) fn put_at(out: &mut [u8], offset: usize, bytes: &[u8])
 pub(crate) fn append(out: &mut [u8], len: usize, link: usize, number: IpNumber, header: &[u8])
     requires { IsHeader number.0 header.now }
     ensures { (l : ℕ) (b buffer : List ℕ) (c : List ExtHeader) (h : ExtHeader) → h ≡ record { number = number.0; bytes = header.now }
-        → IsWritten l b buffer c out.old len link
+        → AreWritten l b buffer c out.old len link
         → length b + length (bytes_of (c ++ h ∷ [])) ≤ length buffer → length buffer < 2 ^ 64
-        → IsWritten l b buffer (c ++ h ∷ []) out.new (len + length header.now) len }
+        → AreWritten l b buffer (c ++ h ∷ []) out.new (len + length header.now) len }
 {
     set(out, link, number.0);
     put_at(out, len, header);
@@ -75,9 +75,9 @@ impl Keeper<'_> {
         ensures same { self.new.out.ghost_name ≡ self.old.out.ghost_name }
         ensures which { self.new.which ≡ self.old.which }
         ensures written { (l : ℕ) (b buffer : List ℕ) (c : List ExtHeader) (h : ExtHeader) → h ≡ record { number = number.0; bytes = header.now }
-            → IsWritten l b buffer c self.old.out.now self.old.len self.old.link
+            → AreWritten l b buffer c self.old.out.now self.old.len self.old.link
             → length b + length (bytes_of (c ++ h ∷ [])) ≤ length buffer → length buffer < 2 ^ 64
-            → IsWritten l b buffer (c ++ h ∷ []) self.new.out.now self.new.len self.new.link }
+            → AreWritten l b buffer (c ++ h ∷ []) self.new.out.now self.new.len self.new.link }
     {
         append(self.out, self.len, self.link, number, header);
         self.link = self.len;
@@ -88,9 +88,9 @@ impl Keeper<'_> {
 impl HeaderVisitor for Keeper<'_> {
     ghost visited = { λ old k c new. (new.out.ghost_name ≡ old.out.ghost_name)
         × (new.which ≡ old.which)
-        × ((l : ℕ) (b buffer : List ℕ) → IsWritten l b buffer [] old.out.now old.len old.link
+        × ((l : ℕ) (b buffer : List ℕ) → AreWritten l b buffer [] old.out.now old.len old.link
         → length b + length (bytes_of (kept old.which c)) ≤ length buffer → length buffer < 2 ^ 64
-        → IsWritten l b buffer (kept old.which c) new.out.now new.len new.link) };
+        → AreWritten l b buffer (kept old.which c) new.out.now new.len new.link) };
 
     ghost none = { Prim.search rules };
 

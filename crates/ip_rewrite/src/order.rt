@@ -10,7 +10,7 @@ ghost use Rattle.ip_dissect.specs.Outline.{outline_of};
 ghost use Rattle.ip_rewrite.specs.Rewritten.{rewritten, rewritten_len, rewritten_field, rewritten_parts};
 ghost use Rattle.ip_rewrite.specs.Without.{is_authentication};
 ghost use Rattle.ip_rewrite.specs.Order.{in_order, is_in_order, order_fault, ordering_fault};
-ghost use Rattle.ip_rewrite.specs.Writing.{IsWritten, routing_index, rank_at, of_rank_from, last_rank, rises_at};
+ghost use Rattle.ip_rewrite.specs.Writing.{AreWritten, routing_index, rank_at, of_rank_from, last_rank, rises_at};
 
 use crate::insertion::Written;
 use crate::keeper::{append, put_at};
@@ -132,16 +132,16 @@ impl HeaderVisitor for Ranked<'_> {
     ghost visited = { λ old k c new. (new.out.ghost_name ≡ old.out.ghost_name)
         × (new.rank ≡ old.rank)
         × (new.last_routing ≡ old.last_routing)
-        × ((l : ℕ) (b buffer : List ℕ) (d : List ExtHeader) → IsWritten l b buffer d old.out.now old.len old.link
+        × ((l : ℕ) (b buffer : List ℕ) (d : List ExtHeader) → AreWritten l b buffer d old.out.now old.len old.link
         → length b + length (bytes_of (d ++ of_rank_from old.rank old.last_routing 0 c)) ≤ length buffer → length buffer < 2 ^ 64
-        → IsWritten l b buffer (d ++ of_rank_from old.rank old.last_routing 0 c) new.out.now new.len new.link) };
+        → AreWritten l b buffer (d ++ of_rank_from old.rank old.last_routing 0 c) new.out.now new.len new.link) };
 
     ghost none = { λ v k. (
       refl,
       refl,
       refl,
       λ l b buffer d w fits small.
-          subst (λ x. IsWritten l b buffer x v.out.now v.len v.link) (sym (append-nil d)) w,
+          subst (λ x. AreWritten l b buffer x v.out.now v.len v.link) (sym (append-nil d)) w,
     ) };
 
     #[inline(always)]
@@ -163,10 +163,10 @@ fn write_rank(
     written: Written,
     out: &mut [u8],
 ) -> Written
-    ensures { (l : ℕ) (b buffer : List ℕ) (c : List ExtHeader) → IsWritten l b buffer c out.old written.len written.link
+    ensures { (l : ℕ) (b buffer : List ℕ) (c : List ExtHeader) → AreWritten l b buffer c out.old written.len written.link
         → length b + length (bytes_of (c ++ of_rank_from rank last_routing 0 (dissected packet.now.bytes.now).headers)) ≤ length buffer
         → length buffer < 2 ^ 64
-        → IsWritten l b buffer (c ++ of_rank_from rank last_routing 0 (dissected packet.now.bytes.now).headers) out.new result.len result.link }
+        → AreWritten l b buffer (c ++ of_rank_from rank last_routing 0 (dissected packet.now.bytes.now).headers) out.new result.len result.link }
 {
     let mut ranked = Ranked {
         rank,
@@ -190,7 +190,7 @@ fn write_headers(packet: &Packet<'_>, last_routing: usize, offset: usize, out: &
     requires link { offset < length (dissected packet.now.bytes.now).base }
     requires fits { length (dissected packet.now.bytes.now).base
         + length (bytes_of (dissected packet.now.bytes.now).headers) ≤ length out.old }
-    ensures { IsWritten offset (dissected packet.now.bytes.now).base out.old
+    ensures { AreWritten offset (dissected packet.now.bytes.now).base out.old
         (in_order (dissected packet.now.bytes.now).headers) out.new
         (length (dissected packet.now.bytes.now).base
         + length (bytes_of (dissected packet.now.bytes.now).headers)) result }

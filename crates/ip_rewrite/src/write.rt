@@ -8,7 +8,7 @@ ghost use Rattle.ip_rewrite.specs.Base.{number_offset};
 ghost use Rattle.ip_rewrite.specs.Rewritten.{rewritten, rewritten_len, rewritten_field, room_fault};
 ghost use Rattle.ip_rewrite.specs.Selection.{kept};
 ghost use Rattle.ip_rewrite.specs.Without.{without, len_without};
-ghost use Rattle.ip_rewrite.specs.Writing.{IsWritten, front, link_of};
+ghost use Rattle.ip_rewrite.specs.Writing.{AreWritten, front_with, link_of};
 
 use crate::base::state;
 use crate::keeper::{Keeper, put_at, set};
@@ -82,7 +82,7 @@ fn write_headers(packet: &Packet<'_>, which: Which, offset: usize, out: &mut [u8
     requires link { offset < length (dissected packet.now.bytes.now).base }
     requires fits { length (dissected packet.now.bytes.now).base
         + length (bytes_of (kept which (dissected packet.now.bytes.now).headers)) ≤ length out.old }
-    ensures { IsWritten offset (dissected packet.now.bytes.now).base out.old
+    ensures { AreWritten offset (dissected packet.now.bytes.now).base out.old
         (kept which (dissected packet.now.bytes.now).headers) out.new
         (length (dissected packet.now.bytes.now).base
         + length (bytes_of (kept which (dissected packet.now.bytes.now).headers))) result }
@@ -127,7 +127,7 @@ pub(crate) fn state_length(outline: &Outline, field: u16, out: &mut [u8])
     requires fits { outline.now.base_len ≤ length out.old }
     ensures { (p : DissectedParts) (c : List ExtHeader) (m : ℕ) (q buffer : List ℕ) → outline.now ≡ outline_of p
         → field ≡ rewritten_field p c q
-        → out.old ≡ front (number_offset p.version) p.base c m ++ q ++ drop (rewritten_len p c q) buffer
+        → out.old ≡ front_with (number_offset p.version) p.base c m ++ q ++ drop (rewritten_len p c q) buffer
         → out.new ≡ rewritten p c m q ++ drop (rewritten_len p c q) buffer }
 {
     let (base, _) = out.split_at_mut(outline.base_len);
@@ -151,7 +151,7 @@ pub(crate) fn finish(
     requires fits { outline.now.base_len + exts_len + length payload.now ≤ length out.old }
     ensures { (p : DissectedParts) (c : List ExtHeader) (buffer : List ℕ) → outline.now ≡ outline_of p
         → exts_len ≡ length (bytes_of c) → field ≡ rewritten_field p c payload.now
-        → IsWritten (number_offset p.version) p.base buffer c out.old (outline.now.base_len + exts_len) link
+        → AreWritten (number_offset p.version) p.base buffer c out.old (outline.now.base_len + exts_len) link
         → length buffer ≡ length out.old
         → out.new ≡ rewritten p c number.0 payload.now ++ drop (rewritten_len p c payload.now) buffer }
 {

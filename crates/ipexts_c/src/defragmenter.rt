@@ -2,7 +2,7 @@
 ghost use Rattle.std.specs.Prelude.{◌≡◌, ◌+◌, ◌++◌, length, drop, true, false, IsTrue, Ok, Err, Some, None};
 ghost use Rattle.ip_dissect.specs.Dissection.{dissected};
 ghost use Rattle.ip_defrag.specs.Received.{payload_in};
-ghost use Rattle.ip_defragmenter.specs.FragmentOf.{FragmentParts, fragment_in};
+ghost use Rattle.ip_defragmenter.specs.FragmentOf.{FragmentParts, packet_fragment};
 ghost use Rattle.ip_defragmenter.specs.Added.{IsAdded, added_nothing};
 ghost use Rattle.ip_defragmenter.specs.Counts.{counted, counted_loss, added_fields};
 ghost use Rattle.ip_defragmenter.specs.Memory.{HoldsReceived, first_in};
@@ -31,17 +31,17 @@ pub extern "C" fn wolfaren_defragment(
     added: &mut AddedFields,
 ) -> bool
     ensures not_fragment { IsTrue result
-        → fragment_in (dissected bytes.entry.slice.now) ≡ Ok None
+        → packet_fragment (dissected bytes.entry.slice.now) ≡ Ok None
         → (added.new ≡ added_fields (added_nothing NotFragment))
         × (counts.new ≡ counted counts.old (added_nothing NotFragment))
         × (slots.new ≡ slots.old) × (memories.new ≡ memories.old) }
     ensures unusable { IsTrue result
-        → (e : FragmentError) → fragment_in (dissected bytes.entry.slice.now) ≡ Err e
+        → (e : FragmentError) → packet_fragment (dissected bytes.entry.slice.now) ≡ Err e
         → (added.new ≡ added_fields (added_nothing (Dropped (Unusable e))))
         × (counts.new ≡ counted counts.old (added_nothing (Dropped (Unusable e))))
         × (slots.new ≡ slots.old) × (memories.new ≡ memories.old) }
     ensures added { IsTrue result
-        → (f : FragmentParts) → fragment_in (dissected bytes.entry.slice.now) ≡ Ok (Some f)
+        → (f : FragmentParts) → packet_fragment (dissected bytes.entry.slice.now) ≡ Ok (Some f)
         → (a : WasAdded) × (added.new ≡ added_fields a) × (counts.new ≡ counted counts.old a)
         × IsAdded slots.old memories.old factor time f slots.new memories.new a }
     ensures as_many { IsTrue result → length slots.old ≡ length memories.old }

@@ -6,7 +6,7 @@ use Rattle.ipexts_tool.specs.Lines.{is_newline, lines_of, without_empty_last, ma
 use Rattle.ipexts_tool.specs.OpenLine.{onto_begun, all_but_last, last_line, ended_lines, open_line, lines_at_end, kept_len}
 use Rattle.ipexts_tool.specs.Answers.{answer_of, answers_to, bad_line}
 use Rattle.ipexts_tool.specs.Request.{Request, answer_to, request_of_fields}
-use Rattle.ipexts_tool.specs.LineFields.{fields_of}
+use Rattle.ipexts_tool.specs.LineFields.{spaced_fields}
 use Rattle.ipexts_tool.specs.Progress.{SameKept}
 
 -- bytes always have at least one part
@@ -51,7 +51,7 @@ lines_of-is bytes = rw onto_begun-none (without_empty_last-is (slice_split is_ne
 
 -- for any limit, since a tactic would unfold a literal one
 request_upto : ℕ → List ℕ → Option Request
-request_upto m line = if nat_le (length line) m then request_of_fields (fields_of line) else None
+request_upto m line = if nat_le (length line) m then request_of_fields (spaced_fields line) else None
 
 request_upto-kept : (m : ℕ) (begun line : List ℕ) → request_upto m (take (m + 1) begun ++ line) ≡ request_upto m (begun ++ line)
 unfolding request_upto

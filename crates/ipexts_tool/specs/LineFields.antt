@@ -12,12 +12,12 @@ abbrev pub is_space : ℕ → Bool
 is_space b = b == 32
 
 -- the parts of a text separated by single spaces
-abbrev pub fields_of : List ℕ → List (List ℕ)
-fields_of text = slice_split is_space text
+abbrev pub spaced_fields : List ℕ → List (List ℕ)
+spaced_fields text = slice_split is_space text
 
 -- the number below 256 with the text as its decimal numeral
-unfoldable pub number_of : List ℕ → Option ℕ
-number_of text = find (λ n. bytes_eq (decimal n) text) (range_with_len 0 256)
+unfoldable pub decimal_of : List ℕ → Option ℕ
+decimal_of text = find (λ n. bytes_eq (decimal n) text) (range_with_len 0 256)
 
 -- the bytes with the text as their hexadecimal digits, in either case: `-` denotes no bytes
 abbrev pub bytes_of_hex : List ℕ → Option (List ℕ)
@@ -27,7 +27,7 @@ bytes_of_hex (c ∷ cs) =
 
 -- the number and bytes denoted by two fields `N HEX`
 abbrev pub number_and_bytes : List (List ℕ) → Option (ℕ × List ℕ)
-number_and_bytes (number ∷ hex ∷ []) = option_zip (number_of number) (bytes_of_hex hex)
+number_and_bytes (number ∷ hex ∷ []) = option_zip (decimal_of number) (bytes_of_hex hex)
 number_and_bytes _ = None
 
 -- the bytes denoted by one field `HEX`

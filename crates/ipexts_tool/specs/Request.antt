@@ -10,7 +10,7 @@ use Rattle.ipexts_tool.specs.Rewrite6.{rewrite6_answer}
 use Rattle.ipexts_tool.specs.RewriteAll6.{rewriteall6_answer}
 use Rattle.ipexts_tool.specs.PacketAnswer.{packet_answer}
 use Rattle.ipexts_tool.specs.DissectAnswer.{dissect_answer}
-use Rattle.ipexts_tool.specs.LineFields.{fields_of, number_and_bytes, bytes_alone}
+use Rattle.ipexts_tool.specs.LineFields.{spaced_fields, number_and_bytes, bytes_alone}
 use Rattle.ipexts_tool.specs.declared.request.Request.{Request as ParsedRequest}
 use Rattle.ipexts_tool.specs.declared.request.Request.TheVariants as parsed
 
@@ -60,4 +60,4 @@ request_of_fields (form ∷ arguments) = request_of_form form arguments
 -- a line's request: none if the line is too long or has no form
 abbrev pub request_of : List ℕ → Option Request
 request_of line =
-    if nat_le (length line) max_line_len then request_of_fields (fields_of line) else None
+    if nat_le (length line) max_line_len then request_of_fields (spaced_fields line) else None

@@ -2,7 +2,7 @@
 ghost use Rattle.std.specs.Prelude.{◌≡◌, ◌==◌, ◌<◌, ◌≤◌, [], length};
 ghost use Rattle.std.specs.Option.{option_map};
 ghost use Rattle.ipexts_tool.specs.Lines.{max_line_len};
-ghost use Rattle.ipexts_tool.specs.LineFields.{fields_of, number_of, bytes_of_hex, number_and_bytes, bytes_alone};
+ghost use Rattle.ipexts_tool.specs.LineFields.{spaced_fields, decimal_of, bytes_of_hex, number_and_bytes, bytes_alone};
 
 use crate::hex_digits::decode;
 use crate::search::split_once;
@@ -17,7 +17,7 @@ pub const BYTES_LEN: usize = MAX_LINE_LEN / 2;
 /// Parses a decimal numeral of a number below 256.
 #[tactic(auto, using(crate::proofs::NumberLemmas::numbers))]
 fn parse_number(text: &[u8]) -> Option<u8>
-    ensures { result ≡ number_of text.now }
+    ensures { result ≡ decimal_of text.now }
 {
     if text.is_empty() {
         return None;
@@ -61,7 +61,7 @@ pub fn parse_number_and_hex<'a>(
 ) -> Option<(IpNumber, &'a [u8])>
     requires { length text.now ≤ max_line_len }
     ensures { option_map (λ read. (read.0.0, read.1.now)) result
-        ≡ number_and_bytes (fields_of text.now) }
+        ≡ number_and_bytes (spaced_fields text.now) }
 {
     let (number, hex) = split_once(text, b' ')?;
     let number = parse_number(number)?;
@@ -73,7 +73,7 @@ pub fn parse_number_and_hex<'a>(
 #[tactic(auto, using(crate::proofs::LineFieldLemmas::whole_field))]
 pub fn parse_hex_alone<'a>(text: &[u8], buffer: &'a mut [u8; BYTES_LEN]) -> Option<&'a [u8]>
     requires { length text.now ≤ max_line_len }
-    ensures { option_map (λ bytes. bytes.now) result ≡ bytes_alone (fields_of text.now) }
+    ensures { option_map (λ bytes. bytes.now) result ≡ bytes_alone (spaced_fields text.now) }
 {
     parse_hex(text, buffer)
 }

@@ -4,7 +4,7 @@ ghost use Rattle.std.specs.Prelude.{◌≡◌, ◌≤◌, length};
 ghost use Rattle.std.specs.Option.{option_map};
 ghost use Rattle.ipexts_tool.specs.Lines.{max_line_len};
 ghost use Rattle.ipexts_tool.specs.Request.{request_in, request_of, request_of_form};
-ghost use Rattle.ipexts_tool.specs.LineFields.{fields_of};
+ghost use Rattle.ipexts_tool.specs.LineFields.{spaced_fields};
 
 use crate::line_fields::{BYTES_LEN, MAX_LINE_LEN, parse_hex_alone, parse_number_and_hex};
 use crate::search::split_once;
@@ -46,7 +46,7 @@ fn parse_form<'a>(
     buffer: &'a mut [u8; BYTES_LEN],
 ) -> Option<Request<'a>>
     requires { length arguments.now ≤ max_line_len }
-    ensures { option_map request_in result ≡ request_of_form form.now (fields_of arguments.now) }
+    ensures { option_map request_in result ≡ request_of_form form.now (spaced_fields arguments.now) }
 {
     if form == b"exts6".as_slice() {
         let (number, bytes) = parse_number_and_hex(arguments, buffer)?;

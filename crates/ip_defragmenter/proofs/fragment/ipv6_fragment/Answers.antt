@@ -3,7 +3,7 @@ use Rattle.ip_base.specs.Ipv6Header.{ipv6_source_octets, ipv6_destination_octets
 use Rattle.ip_base.specs.Ipv6HeaderSlice as ipv6_header
 use Rattle.ip_dissect.specs.Dissection.{dissected}
 use Rattle.ip_dissect.specs.Outline.{IsBaseOf}
-use Rattle.ip_defragmenter.specs.FragmentOf.{ipv6_parts_by}
+use Rattle.ip_defragmenter.specs.FragmentOf.{ipv6_fragment_parts_by}
 use Rattle.ip_defragmenter.specs.declared.key.FragmentKey.TheVariants as key
 use Rattle.ip_defragmenter.specs.declared.finder.FoundHeader.{FoundHeader}
 use Rattle.ip_defragmenter.specs.declared.finder.Finder.{Finder}
@@ -30,7 +30,7 @@ returns c =
     let s = c.args.packet.now.bytes.now in
     let w = fragment_lies c.args.packet.now c.args.header.now c.args.finder.now c.requires.found c.requires.header in
     let base : ipv6_header.bytes c.args.base ≡ (dissected c.args.packet.now.bytes.now).base = (subst (IsBaseOf c.args.packet.now.bytes.now) c.requires.base c.args.packet.now.base_is).base in
-    ap Some (same_parts _ (ipv6_parts_by (dissected s) w.header)
+    ap Some (same_parts _ (ipv6_fragment_parts_by (dissected s) w.header)
     (same_key _ _ _ _ _ _ (c.source.ensures ∙ ap ipv6_source_octets base) (c.destination.ensures ∙ ap ipv6_destination_octets base) (ap (λ (x : FoundHeader). x.identification) w.is))
     (c.front.ensures ∙ ipv6_headers s c.args.packet.now.base c.args.packet.now.base_is w.header w.found c.args.header.now.start (ap (λ (x : FoundHeader). x.start) w.is))
     (ap (λ (f : Finder). f.link) c.requires.found)
@@ -38,4 +38,4 @@ returns c =
     (ap (λ (x : FoundHeader). x.offset) w.is)
     (ap (λ (x : FoundHeader). x.more) w.is)
     (c.part.ensures ∙ ipv6_bytes s c.args.packet.now.base c.args.packet.now.base_is w.header w.found _ _ (ap (λ (x : FoundHeader). x.start + x.len) w.is) c.end_of.ensures.is))
-    ∙ sym (ap (option_map (ipv6_parts_by (dissected s))) w.found)
+    ∙ sym (ap (option_map (ipv6_fragment_parts_by (dissected s))) w.found)

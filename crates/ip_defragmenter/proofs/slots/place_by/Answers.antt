@@ -1,12 +1,12 @@
 use Rattle.ip_spec.proofs.Common.{◌≡◌, ℕ, ◌+◌, List, Option, Some, None, ap, ◌∙◌, option_map, length, min, slice_range}
-use Rattle.ip_defragmenter.specs.Slots.{first_of, place_in, place_of}
+use Rattle.ip_defragmenter.specs.Slots.{first_slot_of, place_in, place_of}
 use Rattle.ip_defragmenter.specs.declared.key.FragmentKey.{FragmentKey}
 use Rattle.ip_defragmenter.specs.declared.slot.Slot.{Slot}
 use Rattle.ip_defragmenter.specs.declared.slots.Placement.{Placement}
 use Rattle.ip_defragmenter.proofs.slots.place_by.Goals as goal
 
 -- The place among all slots, by that in its set.
-placed_by : (s : List Slot) (factor : ℕ) (k : FragmentKey) (t n m : ℕ) (r : Option Placement) → n ≡ first_of (length s) factor k → m ≡ min (n + 8) (length s) → r ≡ place_in (slice_range s n m) k t
+placed_by : (s : List Slot) (factor : ℕ) (k : FragmentKey) (t n m : ℕ) (r : Option Placement) → n ≡ first_slot_of (length s) factor k → m ≡ min (n + 8) (length s) → r ≡ place_in (slice_range s n m) k t
     → option_map (λ (p : Placement). record p { index = n + p.index }) r ≡ place_of s factor k t
 unfolding place_of
 placed_by s factor k t n m r first end is =

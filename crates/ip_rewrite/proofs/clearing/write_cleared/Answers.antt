@@ -4,7 +4,7 @@ use Rattle.ip_dissect.specs.Dissection.{DissectedParts, dissected}
 use Rattle.ip_dissect.specs.declared.outline.Outline.{Outline}
 use Rattle.ip_rewrite.specs.Base.{number_offset}
 use Rattle.ip_rewrite.specs.Rewritten.{rewritten, rewritten_len, rewritten_field}
-use Rattle.ip_rewrite.specs.Writing.{IsWritten, link_of}
+use Rattle.ip_rewrite.specs.Writing.{AreWritten, link_of}
 use Rattle.ip_rewrite.proofs.BaseLemmas.{offset_within}
 use Rattle.ip_rewrite.proofs.ClearingLemmas.{cleared_len, cleared_link}
 use Rattle.ip_rewrite.proofs.DissectLemmas.{IsWholeChain, whole_chain}
@@ -30,7 +30,7 @@ returns c =
     let at : link ≡ link_of l b d = c.link_after-link.ensures p c.args.packet.now.outline_is c.requires.last ∙ sym (cleared_link l b old) in
     let less : l < length b = offset_within p c.requires.base in
     let copied : z ≡ b ++ bytes_of d ++ drop (length b + length (bytes_of d)) buffer = c.write_headers.ensures ∙ ap (λ k. b ++ bytes_of d ++ drop (length b + k) buffer) (sym long) in
-    let w : IsWritten l b buffer d z (o.base_len + o.extensions_len) link = written_whole l b buffer d z (o.base_len + o.extensions_len) link less (cleared_is_chain (slice_index b l) old chain.chain) copied (omega (arith, size, exts)) at in
+    let w : AreWritten l b buffer d z (o.base_len + o.extensions_len) link = written_whole l b buffer d z (o.base_len + o.extensions_len) link less (cleared_is_chain (slice_index b l) old chain.chain) copied (omega (arith, size, exts)) at in
     let none : ExtHeader = record { number = 0; bytes = [] } in
     let fits : length b + length (bytes_of d) + length p.payload ≤ length buffer = c.requires.fits in
     let same = out_len l b buffer d none z (o.base_len + o.extensions_len) link w (omega (arith, fits)) in

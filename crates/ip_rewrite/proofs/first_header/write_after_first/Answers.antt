@@ -4,7 +4,7 @@ use Rattle.ip_dissect.specs.Dissection.{DissectedParts, dissected}
 use Rattle.ip_dissect.specs.declared.outline.Outline.{Outline}
 use Rattle.ip_rewrite.specs.Base.{number_offset}
 use Rattle.ip_rewrite.specs.Rewritten.{rewritten, rewritten_len, rewritten_field}
-use Rattle.ip_rewrite.specs.Writing.{front}
+use Rattle.ip_rewrite.specs.Writing.{front_with}
 use Rattle.ip_rewrite.proofs.BaseLemmas.{offset_within}
 use Rattle.ip_rewrite.proofs.DissectLemmas.{IsWholeChain, whole_chain}
 use Rattle.ip_rewrite.proofs.FirstHeaderLemmas.{written_after}
@@ -59,7 +59,7 @@ returns c =
     let put = c.put.ensures in
     let y_put : y ≡ take (length b) x ++ e ++ drop (length b + length e) x = subst (λ (n : ℕ). y ≡ take n x ++ e ++ drop (n + length e) x) base_len put in
     let begins = written_after l b buffer d k q e x y less links others set_is y_put in
-    let named : y ≡ front l b d p.number ++ q ++ drop (length b + length (bytes_of d) + length q) buffer = subst (λ (m : ℕ). y ≡ front l b d m ++ q ++ drop (length b + length (bytes_of d) + length q) buffer) (sym number) begins in
+    let named : y ≡ front_with l b d p.number ++ q ++ drop (length b + length (bytes_of d) + length q) buffer = subst (λ (m : ℕ). y ≡ front_with l b d m ++ q ++ drop (length b + length (bytes_of d) + length q) buffer) (sym number) begins in
     let field : c.args.field ≡ rewritten_field p d q = c.requires.field ∙ ap (λ (x : List ExtHeader). rewritten_field p x q) f.kept in
     let done = c.state_length.ensures p d p.number q buffer c.args.packet.now.outline_is field named in
     done ∙ ap (λ (x : List ExtHeader). rewritten p x p.number q ++ drop (rewritten_len p x q) buffer) (sym f.kept)

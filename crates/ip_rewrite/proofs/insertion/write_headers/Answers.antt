@@ -2,7 +2,7 @@ use Rattle.ip_spec.proofs.Common.{◌≡◌, ◌+◌, ◌≤◌, ℕ, [], ◌∷
 use Rattle.ip_dissect.specs.Dissection.{DissectedParts, dissected}
 use Rattle.ip_dissect.specs.declared.outline.Outline.{Outline}
 use Rattle.ip_rewrite.specs.Insertion.{inserted}
-use Rattle.ip_rewrite.specs.Writing.{IsWritten, inserted_so_far}
+use Rattle.ip_rewrite.specs.Writing.{AreWritten, inserted_so_far}
 use Rattle.ip_rewrite.proofs.FrontLemmas.{more_len}
 use Rattle.ip_rewrite.proofs.InsertionLemmas.{header_is, inserted_len, so_far_end, so_far_whole}
 use Rattle.ip_rewrite.proofs.insertion.write_headers.Goals as goal
@@ -26,8 +26,8 @@ returns-then-index-count c = λ h is.
     let room : length b + length (bytes_of (e ++ h ∷ [])) ≤ length buffer = omega (arith, c.requires.fits, all, inserted_len i p.headers h, bytes) in
     let more = c.append.ensures c.args.offset b buffer e h is w room c.requires.small in
     let size : c.write_so_far-written.result.len + length c.args.header.now ≡ length b + length (bytes_of d) = omega (arith, w.len, more_len e h, all, bytes) in
-    subst (λ (x : List ExtHeader). IsWritten c.args.offset b buffer x c.append.new.out (length b + length (bytes_of d)) c.write_so_far-written.result.len) (sym so)
-    (subst (λ (k : ℕ). IsWritten c.args.offset b buffer (e ++ h ∷ []) c.append.new.out k c.write_so_far-written.result.len) size more)
+    subst (λ (x : List ExtHeader). AreWritten c.args.offset b buffer x c.append.new.out (length b + length (bytes_of d)) c.write_so_far-written.result.len) (sym so)
+    (subst (λ (k : ℕ). AreWritten c.args.offset b buffer (e ++ h ∷ []) c.append.new.out k c.write_so_far-written.result.len) size more)
 
 pub returns : goal.returns
 returns c = λ h is.
@@ -37,6 +37,6 @@ returns c = λ h is.
     let d : List ExtHeader = inserted i h p.headers in
     let count : c.args.packet.now.outline.header_count ≡ length p.headers = ap (λ (o : Outline). o.header_count) c.args.packet.now.outline_is in
     let so : inserted_so_far i h p.headers ≡ d = so_far_whole i p.headers h c.requires.index (λ e. c.if-index-count.false (e ∙ sym count)) in
-    let w : IsWritten c.args.offset b c.args.out.now d c.write_so_far-written.new.out c.write_so_far-written.result.len c.write_so_far-written.result.link =
-    subst (λ (x : List ExtHeader). IsWritten c.args.offset b c.args.out.now x c.write_so_far-written.new.out c.write_so_far-written.result.len c.write_so_far-written.result.link) so (c.write_so_far-written.ensures h is) in
-    subst (λ (k : ℕ). IsWritten c.args.offset b c.args.out.now d c.write_so_far-written.new.out k c.write_so_far-written.result.link) w.len w
+    let w : AreWritten c.args.offset b c.args.out.now d c.write_so_far-written.new.out c.write_so_far-written.result.len c.write_so_far-written.result.link =
+    subst (λ (x : List ExtHeader). AreWritten c.args.offset b c.args.out.now x c.write_so_far-written.new.out c.write_so_far-written.result.len c.write_so_far-written.result.link) so (c.write_so_far-written.ensures h is) in
+    subst (λ (k : ℕ). AreWritten c.args.offset b c.args.out.now d c.write_so_far-written.new.out k c.write_so_far-written.result.link) w.len w

@@ -4,7 +4,7 @@ use Rattle.ip_dissect.specs.declared.outline.Outline.{Outline}
 use Rattle.ip_rewrite.specs.Base.{number_offset}
 use Rattle.ip_rewrite.specs.Rewritten.{rewritten, rewritten_len, rewritten_field}
 use Rattle.ip_rewrite.specs.Insertion.{inserted}
-use Rattle.ip_rewrite.specs.Writing.{IsWritten}
+use Rattle.ip_rewrite.specs.Writing.{AreWritten}
 use Rattle.ip_rewrite.proofs.FrontLemmas.{out_len}
 use Rattle.ip_rewrite.proofs.InsertionLemmas.{inserted_len}
 use Rattle.ip_rewrite.proofs.insertion.write_inserted.Goals as goal
@@ -25,9 +25,9 @@ returns c = λ h is.
     let number : o.next_header.0 ≡ p.number = ap (λ (x : Outline). x.next_header.0) c.args.packet.now.outline_is in
     let exts : o.extensions_len + length c.args.header.now ≡ length (bytes_of d) = omega (arith, ap (λ (x : Outline). x.extensions_len) c.args.packet.now.outline_is, inserted_len c.args.index p.headers h, ap (λ (g : ExtHeader). length g.bytes) is) in
     let offset : c.number_offset-offset.result ≡ l = c.number_offset-offset.ensures ∙ ap number_offset version in
-    let here : IsWritten l b c.args.out.now d z n link = subst (λ (k : ℕ). IsWritten k b c.args.out.now d z n link) offset (c.write_headers-link.ensures h is) in
+    let here : AreWritten l b c.args.out.now d z n link = subst (λ (k : ℕ). AreWritten k b c.args.out.now d z n link) offset (c.write_headers-link.ensures h is) in
     let at : n ≡ m = omega (arith, size, exts) in
-    let begun : IsWritten l b c.args.out.now d z m link = subst (λ (k : ℕ). IsWritten l b c.args.out.now d z k link) at here in
+    let begun : AreWritten l b c.args.out.now d z m link = subst (λ (k : ℕ). AreWritten l b c.args.out.now d z k link) at here in
     let none : ExtHeader = record { number = 0; bytes = [] } in
     let fits : length b + length (bytes_of d) ≤ length c.args.out.now = omega (arith, c.requires.fits, inserted_len c.args.index p.headers h, ap (λ (g : ExtHeader). length g.bytes) is) in
     let same = out_len l b c.args.out.now d none z n link here fits in

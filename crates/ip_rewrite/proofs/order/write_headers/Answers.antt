@@ -1,7 +1,7 @@
 use Rattle.ip_spec.proofs.Common.{suc, ◌≡◌, ◌+◌, ◌≤◌, ℕ, List, ◌++◌, length, subst, sym, ◌∙◌, ap, arith, ExtHeader, bytes_of}
 use Rattle.ip_dissect.specs.Dissection.{dissected}
 use Rattle.ip_rewrite.specs.Order.{in_order}
-use Rattle.ip_rewrite.specs.Writing.{IsWritten, below_rank, of_rank_from}
+use Rattle.ip_rewrite.specs.Writing.{AreWritten, below_rank, of_rank_from}
 use Rattle.ip_rewrite.proofs.OrderLemmas.{ordered_len, below_is, next_fits}
 use Rattle.ip_rewrite.proofs.order.write_headers.Goals as goal
 
@@ -15,7 +15,7 @@ loop-rank-preserved c =
     subst (λ (n : ℕ). length (bytes_of (below_rank k n d ++ of_rank_from k n 0 d)) ≤ length (bytes_of d)) (sym c.requires.routing) (next_fits k d c.loop-rank-test.true) in
     let more = c.write_rank-written.ensures c.args.offset b c.args.out.now (below_rank k e d) c.loop-rank.invariant (omega (arith, size, c.requires.fits)) c.requires.small in
     let next : suc k ≡ k + 1 = omega arith in
-    subst (λ (n : ℕ). IsWritten c.args.offset b c.args.out.now (below_rank n e d) c.write_rank-written.new.out c.write_rank-written.result.len c.write_rank-written.result.link) next more
+    subst (λ (n : ℕ). AreWritten c.args.offset b c.args.out.now (below_rank n e d) c.write_rank-written.new.out c.write_rank-written.result.len c.write_rank-written.result.link) next more
 
 pub returns : goal.returns
 returns c =
@@ -24,7 +24,7 @@ returns c =
     let all : c.loop-rank.rank ≡ 5 = omega (arith, c.loop-rank-test.false, c.loop-rank.auto) in
     let same : below_rank c.loop-rank.rank c.args.last_routing d ≡ in_order d =
     ap (λ (n : ℕ). below_rank n c.args.last_routing d) all ∙ (ap (λ (e : ℕ). below_rank 5 e d) c.requires.routing ∙ below_is d) in
-    let w : IsWritten c.args.offset b c.args.out.now (in_order d) c.loop-rank.out c.loop-rank.written.len c.loop-rank.written.link =
-    subst (λ (x : List ExtHeader). IsWritten c.args.offset b c.args.out.now x c.loop-rank.out c.loop-rank.written.len c.loop-rank.written.link) same c.loop-rank.invariant in
+    let w : AreWritten c.args.offset b c.args.out.now (in_order d) c.loop-rank.out c.loop-rank.written.len c.loop-rank.written.link =
+    subst (λ (x : List ExtHeader). AreWritten c.args.offset b c.args.out.now x c.loop-rank.out c.loop-rank.written.len c.loop-rank.written.link) same c.loop-rank.invariant in
     let size : c.loop-rank.written.len ≡ length b + length (bytes_of d) = omega (arith, w.len, ordered_len d) in
-    subst (λ (n : ℕ). IsWritten c.args.offset b c.args.out.now (in_order d) c.loop-rank.out n c.loop-rank.written.link) size w
+    subst (λ (n : ℕ). AreWritten c.args.offset b c.args.out.now (in_order d) c.loop-rank.out n c.loop-rank.written.link) size w

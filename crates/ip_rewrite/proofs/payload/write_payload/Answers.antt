@@ -2,7 +2,7 @@ use Rattle.ip_spec.proofs.Common.{◌≡◌, ◌+◌, ◌≤◌, ◌<◌, ℕ, [
 use Rattle.ip_dissect.specs.Dissection.{DissectedParts, dissected}
 use Rattle.ip_dissect.specs.declared.outline.Outline.{Outline}
 use Rattle.ip_rewrite.specs.Base.{number_offset}
-use Rattle.ip_rewrite.specs.Writing.{IsWritten, link_of}
+use Rattle.ip_rewrite.specs.Writing.{AreWritten, link_of}
 use Rattle.ip_rewrite.proofs.BaseLemmas.{offset_within}
 use Rattle.ip_rewrite.proofs.DissectLemmas.{IsWholeChain, whole_chain}
 use Rattle.ip_rewrite.proofs.FrontLemmas.{out_len, written_whole}
@@ -23,7 +23,7 @@ returns c =
     let chain : IsWholeChain p = whole_chain s c.args.packet.now.base c.args.packet.now.base_is c.requires.whole in
     let at : link ≡ link_of l b d = c.link_after-link.ensures p c.args.packet.now.outline_is c.requires.last in
     let less : l < length b = offset_within p c.requires.base in
-    let w : IsWritten l b c.args.out.now d z (o.base_len + o.extensions_len) link = written_whole l b c.args.out.now d z (o.base_len + o.extensions_len) link less chain.chain c.copy_headers.ensures (omega (arith, size, exts)) at in
+    let w : AreWritten l b c.args.out.now d z (o.base_len + o.extensions_len) link = written_whole l b c.args.out.now d z (o.base_len + o.extensions_len) link less chain.chain c.copy_headers.ensures (omega (arith, size, exts)) at in
     let none : ExtHeader = record { number = 0; bytes = [] } in
     let fits : length b + length (bytes_of d) + length c.args.payload.now ≤ length c.args.out.now = c.requires.fits in
     let same = out_len l b c.args.out.now d none z (o.base_len + o.extensions_len) link w (omega (arith, fits)) in

@@ -1,7 +1,7 @@
 use Rattle.ip_spec.proofs.Common.{◌≡◌, ◌+◌, ◌≤◌, ℕ, [], ◌++◌, take, drop, length, subst, ap, arith, List, ExtHeader, bytes_of}
 use Rattle.ip_dissect.specs.declared.outline.Outline.{Outline}
 use Rattle.ip_rewrite.specs.Base.{number_offset}
-use Rattle.ip_rewrite.specs.Writing.{IsWritten}
+use Rattle.ip_rewrite.specs.Writing.{AreWritten}
 use Rattle.ip_rewrite.proofs.FrontLemmas.{after_headers, link_within}
 use Rattle.ip_rewrite.proofs.write.finish.Goals as goal
 
@@ -14,7 +14,7 @@ returns c = λ p d buffer is exts field w same.
     let n : ℕ = length b + length (bytes_of d) in
     let size : o.base_len ≡ length b = ap (λ (x : Outline). x.base_len) is in
     let at : o.base_len + c.args.exts_len ≡ n = omega (arith, size, exts) in
-    let begun : IsWritten l b buffer d c.args.out.now n c.args.link = subst (λ (k : ℕ). IsWritten l b buffer d c.args.out.now k c.args.link) at w in
+    let begun : AreWritten l b buffer d c.args.out.now n c.args.link = subst (λ (k : ℕ). AreWritten l b buffer d c.args.out.now k c.args.link) at w in
     let none : ExtHeader = record { number = 0; bytes = [] } in
     let fits : n + length q ≤ length c.args.out.now = omega (arith, at, c.requires.fits) in
     let less = link_within l b buffer d none c.args.out.now n c.args.link begun (omega (arith, fits, same)) in

@@ -4,7 +4,7 @@ use Rattle.ip_dissect.specs.declared.outline.Outline.{Outline}
 use Rattle.ip_rewrite.specs.Base.{number_offset}
 use Rattle.ip_rewrite.specs.Rewritten.{rewritten, rewritten_len, rewritten_field}
 use Rattle.ip_rewrite.specs.Selection.{kept}
-use Rattle.ip_rewrite.specs.Writing.{IsWritten}
+use Rattle.ip_rewrite.specs.Writing.{AreWritten}
 use Rattle.ip_rewrite.proofs.FrontLemmas.{out_len}
 use Rattle.ip_rewrite.proofs.write.write_kept.Goals as goal
 
@@ -22,9 +22,9 @@ returns c =
     let size : o.base_len ≡ length b = ap (λ (x : Outline). x.base_len) c.args.packet.now.outline_is in
     let number : o.next_header.0 ≡ p.number = ap (λ (x : Outline). x.next_header.0) c.args.packet.now.outline_is in
     let offset : c.number_offset-offset.result ≡ l = c.number_offset-offset.ensures ∙ ap number_offset version in
-    let here : IsWritten l b c.args.out.now d z n link = subst (λ (k : ℕ). IsWritten k b c.args.out.now d z n link) offset c.write_headers-link.ensures in
+    let here : AreWritten l b c.args.out.now d z n link = subst (λ (k : ℕ). AreWritten k b c.args.out.now d z n link) offset c.write_headers-link.ensures in
     let at : n ≡ o.base_len + c.args.kept_len = omega (arith, size, c.requires.kept) in
-    let begun : IsWritten l b c.args.out.now d z (o.base_len + c.args.kept_len) link = subst (λ (k : ℕ). IsWritten l b c.args.out.now d z k link) at here in
+    let begun : AreWritten l b c.args.out.now d z (o.base_len + c.args.kept_len) link = subst (λ (k : ℕ). AreWritten l b c.args.out.now d z k link) at here in
     let none : ExtHeader = record { number = 0; bytes = [] } in
     let fits : n + length p.payload ≤ length c.args.out.now = c.requires.fits in
     let same = out_len l b c.args.out.now d none z n link here (omega (arith, fits)) in

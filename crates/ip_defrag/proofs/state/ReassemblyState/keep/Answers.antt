@@ -1,12 +1,12 @@
 use Rattle.ip_defrag.proofs.Common.{arith, refl}
-use Rattle.ip_defrag.specs.Reassembly.{fields_of}
+use Rattle.ip_defrag.specs.Reassembly.{state_fields}
 use Rattle.ip_defrag.proofs.ReceivedLemmas.{kept, free_by}
 use Rattle.ip_defrag.proofs.state.ReassemblyState.keep.Goals as goal
 
 pub returns : goal.returns
 returns c = λ s h new.
-    let free = free_by (fields_of c.args.self.now c.args.buffer.now) s c.args.first c.div_ceil.result c.args.more c.args.bytes.now h new c.div_ceil.ensures in
-    kept (fields_of c.args.self.now c.args.buffer.now) _ s c.args.first c.div_ceil.result c.args.more c.args.bytes.now h new
+    let free = free_by (state_fields c.args.self.now c.args.buffer.now) s c.args.first c.div_ceil.result c.args.more c.args.bytes.now h new c.div_ceil.ensures in
+    kept (state_fields c.args.self.now c.args.buffer.now) _ s c.args.first c.div_ceil.result c.args.more c.args.bytes.now h new
     record {
       next_unit = c.div_ceil.ensures;
       buffer = c.store.ensures;

@@ -4,7 +4,7 @@ use Rattle.std.specs.Prelude.{MatchOption, slice_range}
 use Rattle.std.specs.Option.{option_copied}
 use Rattle.ip_defrag.specs.Payload.{payload_of}
 use Rattle.ip_defrag.proofs.ReceivedLemmas.{whole_in_buffer, no_payload, and_is_right, not_not}
-use Rattle.ip_defrag.specs.Reassembly.{fields_of, is_set}
+use Rattle.ip_defrag.specs.Reassembly.{state_fields, is_set}
 use Rattle.ip_defrag.proofs.state.ReassemblyState.payload.Goals as goal
 
 pub returns-then-not-has_payload : goal.returns-then-not-has_payload
@@ -13,7 +13,7 @@ returns-then-not-has_payload c = λ s h.
     elim (cases_Bool s.abandoned) [
       | inl gone ↦ sym (cond-true s.abandoned None (payload_of s.fragments) gone)
       | inr there ↦ sym (cond-false s.abandoned None (payload_of s.fragments) there
-          ∙ no_payload (fields_of c.args.self.now c.args.buffer.now) s h (sym (and_is_right _ _ (not_from_false _ (h.abandoned ∙ there))) ∙ none))
+          ∙ no_payload (state_fields c.args.self.now c.args.buffer.now) s h (sym (and_is_right _ _ (not_from_false _ (h.abandoned ∙ there))) ∙ none))
     ]
 
 -- The front of a slice that is long enough.
@@ -25,6 +25,6 @@ pub returns : goal.returns
 returns c = λ s h.
     let all = and_parts (not (is_set c.args.self.now.abandoned)) (is_set c.args.self.now.ended && eqb c.args.self.now.count c.args.self.now.reach) (sym c.has_payload.ensures ∙ c.if-not-has_payload.false) in
     let parts = and_parts (is_set c.args.self.now.ended) (eqb c.args.self.now.count c.args.self.now.reach) all.1 in
-    let whole = whole_in_buffer (fields_of c.args.self.now c.args.buffer.now) s h parts.0 (eqb-true c.args.self.now.count c.args.self.now.reach parts.1) in
+    let whole = whole_in_buffer (state_fields c.args.self.now c.args.buffer.now) s h parts.0 (eqb-true c.args.self.now.count c.args.self.now.reach parts.1) in
     front c.get.result c.args.buffer.now c.args.self.now.reach whole.0 c.get.ensures.lookup.0
     ∙ sym (cond-false s.abandoned None (payload_of s.fragments) (sym h.abandoned ∙ (sym (not_not (is_set c.args.self.now.abandoned)) ∙ ap not all.0)) ∙ whole.1)

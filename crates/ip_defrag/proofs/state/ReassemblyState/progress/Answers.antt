@@ -2,11 +2,11 @@ use Rattle.ip_defrag.proofs.Common.{sym, ◌∙◌, cond-true, cond-false, is_so
 use Rattle.ip_defrag.specs.Payload.{payload_of}
 use Rattle.ip_defrag.specs.declared.progress.Progress.TheVariants.{Whole, MoreWanted}
 use Rattle.ip_defrag.proofs.ReceivedLemmas.{whole_is}
-use Rattle.ip_defrag.specs.Reassembly.{fields_of}
+use Rattle.ip_defrag.specs.Reassembly.{state_fields}
 use Rattle.ip_defrag.proofs.state.ReassemblyState.progress.Goals as goal
 
 pub returns-then-is_whole : goal.returns-then-is_whole
-returns-then-is_whole c = λ s h. sym (cond-true (is_some (payload_of s.fragments)) Whole MoreWanted (sym (whole_is (fields_of c.args.self.now c.args.buffer.now) s h) ∙ (sym c.is_whole.ensures ∙ c.if-is_whole.true)))
+returns-then-is_whole c = λ s h. sym (cond-true (is_some (payload_of s.fragments)) Whole MoreWanted (sym (whole_is (state_fields c.args.self.now c.args.buffer.now) s h) ∙ (sym c.is_whole.ensures ∙ c.if-is_whole.true)))
 
 pub returns-else-is_whole : goal.returns-else-is_whole
-returns-else-is_whole c = λ s h. sym (cond-false (is_some (payload_of s.fragments)) Whole MoreWanted (sym (whole_is (fields_of c.args.self.now c.args.buffer.now) s h) ∙ (sym c.is_whole.ensures ∙ c.if-is_whole.false)))
+returns-else-is_whole c = λ s h. sym (cond-false (is_some (payload_of s.fragments)) Whole MoreWanted (sym (whole_is (state_fields c.args.self.now c.args.buffer.now) s h) ∙ (sym c.is_whole.ensures ∙ c.if-is_whole.false)))

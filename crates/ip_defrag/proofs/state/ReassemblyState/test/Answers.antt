@@ -1,6 +1,6 @@
 use Rattle.ip_defrag.proofs.Common.{◌≡◌, true, list_any, is_same, sym, ◌∙◌, arith, both_ways, fragment_at, IsSound}
 use Rattle.ip_defrag.proofs.ReceivedLemmas.{refused_among, refused_unaligned, refused_too_long, tested_two_ends, tested_new, tested_overlap}
-use Rattle.ip_defrag.specs.Reassembly.{fields_of}
+use Rattle.ip_defrag.specs.Reassembly.{state_fields}
 use Rattle.ip_defrag.proofs.state.ReassemblyState.test.Goals as goal
 
 pub returns-then-is_unaligned-clause-verdict : goal.returns-then-is_unaligned-clause-verdict
@@ -11,17 +11,17 @@ returns-then-end-min-clause-verdict c = λ s h. refused_too_long s.limit s.fragm
 
 pub returns-then-not-are_free-clause-verdict : goal.returns-then-not-are_free-clause-verdict
 returns-then-not-are_free-clause-verdict c = λ s h.
-    tested_overlap (fields_of c.args.self.now c.args.buffer.now) s c.args.first c.div_ceil.result c.args.more c.args.bytes.now h (record { offset = omega arith; aligned = sym c.is_unaligned.ensures ∙ c.if-is_unaligned.false; within = omega (arith, h.limit) }) c.div_ceil.ensures
+    tested_overlap (state_fields c.args.self.now c.args.buffer.now) s c.args.first c.div_ceil.result c.args.more c.args.bytes.now h (record { offset = omega arith; aligned = sym c.is_unaligned.ensures ∙ c.if-is_unaligned.false; within = omega (arith, h.limit) }) c.div_ceil.ensures
     (λ free. both_ways c.are_free.result c.if-not-are_free.true ((c.are_free.ensures.free c.args.buffer.now s h).1 free)) (λ sound. sym (c.repeats.ensures s h sound) ∙ c.if-repeats.false)
 
 pub returns-then-ends_elsewhere-clause-verdict : goal.returns-then-ends_elsewhere-clause-verdict
 returns-then-ends_elsewhere-clause-verdict c = λ s h.
-    tested_two_ends (fields_of c.args.self.now c.args.buffer.now) s c.args.first c.div_ceil.result c.args.more c.args.bytes.now h (record { offset = omega arith; aligned = sym c.is_unaligned.ensures ∙ c.if-is_unaligned.false; within = omega (arith, h.limit) }) c.div_ceil.ensures
+    tested_two_ends (state_fields c.args.self.now c.args.buffer.now) s c.args.first c.div_ceil.result c.args.more c.args.bytes.now h (record { offset = omega arith; aligned = sym c.is_unaligned.ensures ∙ c.if-is_unaligned.false; within = omega (arith, h.limit) }) c.div_ceil.ensures
     ((c.are_free.ensures.free c.args.buffer.now s h).0 c.if-not-are_free.false) (sym c.ends_elsewhere.ensures ∙ c.if-ends_elsewhere.true)
 
 pub returns-clause-verdict : goal.returns-clause-verdict
 returns-clause-verdict c = λ s h.
-    tested_new (fields_of c.args.self.now c.args.buffer.now) s c.args.first c.div_ceil.result c.args.more c.args.bytes.now h (record { offset = omega arith; aligned = sym c.is_unaligned.ensures ∙ c.if-is_unaligned.false; within = omega (arith, h.limit) }) c.div_ceil.ensures
+    tested_new (state_fields c.args.self.now c.args.buffer.now) s c.args.first c.div_ceil.result c.args.more c.args.bytes.now h (record { offset = omega arith; aligned = sym c.is_unaligned.ensures ∙ c.if-is_unaligned.false; within = omega (arith, h.limit) }) c.div_ceil.ensures
     ((c.are_free.ensures.free c.args.buffer.now s h).0 c.if-not-are_free.false) (sym c.ends_elsewhere.ensures ∙ c.if-ends_elsewhere.false)
 
 pub returns-then-repeats-clause-verdict : goal.returns-then-repeats-clause-verdict

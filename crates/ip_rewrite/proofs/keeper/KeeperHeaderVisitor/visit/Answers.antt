@@ -1,6 +1,6 @@
 use Rattle.ip_spec.proofs.Common.{◌≡◌, ◌+◌, ◌≤◌, [], ◌∷◌, ◌++◌, true, false, length, refl, subst, sym, ◌∙◌, ap, arith, List, ExtHeader, bytes_of}
 use Rattle.ip_rewrite.specs.Selection.{selects, kept}
-use Rattle.ip_rewrite.specs.Writing.{IsWritten}
+use Rattle.ip_rewrite.specs.Writing.{AreWritten}
 use Rattle.ip_rewrite.specs.declared.which.Which.{Which}
 use Rattle.ip_rewrite.proofs.FrontLemmas.{more_len}
 use Rattle.ip_rewrite.proofs.SurveyLemmas.{left_in, left_out}
@@ -17,7 +17,7 @@ returns-then-not-selects c = λ old k d visited index at.
       λ l b buffer none fits small.
           let room : length b + length (bytes_of (kept old.which d ++ h ∷ [])) ≤ length buffer = subst (λ (e : List ExtHeader). length b + length (bytes_of e) ≤ length buffer) same fits in
           let before : length b + length (bytes_of (kept old.which d)) ≤ length buffer = omega (arith, room, more_len (kept old.which d) h) in
-          subst (λ (e : List ExtHeader). IsWritten l b buffer e c.push.new.self.out.now c.push.new.self.len c.push.new.self.link) (sym same)
+          subst (λ (e : List ExtHeader). AreWritten l b buffer e c.push.new.self.out.now c.push.new.self.len c.push.new.self.link) (sym same)
           (c.push.ensures.written l b buffer (kept old.which d) h refl (visited.2 l b buffer none before small) room small),
     )
 
@@ -31,6 +31,6 @@ returns-else-not-selects c = λ old k d visited index at.
       which,
       λ l b buffer none fits small.
           let room : length b + length (bytes_of (kept old.which d)) ≤ length buffer = subst (λ (e : List ExtHeader). length b + length (bytes_of e) ≤ length buffer) same fits in
-          subst (λ (e : List ExtHeader). IsWritten l b buffer e c.args.self.now.out.now c.args.self.now.len c.args.self.now.link) (sym same)
+          subst (λ (e : List ExtHeader). AreWritten l b buffer e c.args.self.now.out.now c.args.self.now.len c.args.self.now.link) (sym same)
           (visited.2 l b buffer none room small),
     )

@@ -1,5 +1,5 @@
 use Rattle.ip_spec.proofs.Common.{◌≡◌, ◌+◌, ◌≤◌, ℕ, List, [], ◌∷◌, ◌++◌, ◌==◌, false, length, refl, subst, sym, ◌∙◌, ap, arith, append_assoc, ne_eqb, ExtHeader, bytes_of}
-use Rattle.ip_rewrite.specs.Writing.{IsWritten, rank_at, of_rank_from}
+use Rattle.ip_rewrite.specs.Writing.{AreWritten, rank_at, of_rank_from}
 use Rattle.ip_rewrite.proofs.FrontLemmas.{more_len}
 use Rattle.ip_rewrite.proofs.OrderLemmas.{of_more_yes, of_more_no}
 use Rattle.ip_rewrite.proofs.order.RankedHeaderVisitor.visit.Goals as goal
@@ -17,10 +17,10 @@ returns-then-rank-self c = λ old k d visited index at.
           let x : List ExtHeader = e ++ of_rank_from old.rank old.last_routing 0 d in
           let same : e ++ of_rank_from old.rank old.last_routing 0 (d ++ h ∷ []) ≡ x ++ h ∷ [] = ap (λ y. e ++ y) more ∙ sym (append_assoc e (of_rank_from old.rank old.last_routing 0 d) (h ∷ [])) in
           let room : length b + length (bytes_of (x ++ h ∷ [])) ≤ length buffer = subst (λ (y : List ExtHeader). length b + length (bytes_of y) ≤ length buffer) same fits in
-          let before : IsWritten l b buffer x c.args.self.now.out.now c.args.self.now.len c.args.self.now.link = visited.3 l b buffer e w (omega (arith, room, more_len x h)) small in
+          let before : AreWritten l b buffer x c.args.self.now.out.now c.args.self.now.len c.args.self.now.link = visited.3 l b buffer e w (omega (arith, room, more_len x h)) small in
           let sum : c.args.self.now.len + length c.args.header.now ≡ c.saturating_add-self.result = omega (arith, c.saturating_add-self.ensures, before.len, more_len x h, room, small) in
-          subst (λ (y : List ExtHeader). IsWritten l b buffer y c.append.new.out c.saturating_add-self.result c.args.self.now.len) (sym same)
-          (subst (λ (n : ℕ). IsWritten l b buffer (x ++ h ∷ []) c.append.new.out n c.args.self.now.len) sum (c.append.ensures l b buffer x h refl before room small)),
+          subst (λ (y : List ExtHeader). AreWritten l b buffer y c.append.new.out c.saturating_add-self.result c.args.self.now.len) (sym same)
+          (subst (λ (n : ℕ). AreWritten l b buffer (x ++ h ∷ []) c.append.new.out n c.args.self.now.len) sum (c.append.ensures l b buffer x h refl before room small)),
     )
 
 pub returns-else-rank-self : goal.returns-else-rank-self
@@ -34,6 +34,6 @@ returns-else-rank-self c = λ old k d visited index at.
       visited.1,
       visited.2,
       λ l b buffer e w fits small.
-          subst (λ (y : List ExtHeader). IsWritten l b buffer (e ++ y) c.args.self.now.out.now c.args.self.now.len c.args.self.now.link) (sym same)
+          subst (λ (y : List ExtHeader). AreWritten l b buffer (e ++ y) c.args.self.now.out.now c.args.self.now.len c.args.self.now.link) (sym same)
           (visited.3 l b buffer e w (subst (λ (y : List ExtHeader). length b + length (bytes_of (e ++ y)) ≤ length buffer) same fits) small),
     )

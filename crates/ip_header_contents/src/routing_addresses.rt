@@ -48,7 +48,7 @@ pub struct RoutingAddresses<'a> {
     pub ghost len: { layout.len ≤ 16 },
     pub ghost last_len: { layout.last_len ≤ 16 },
     pub ghost within: { 8 + addresses_len layout ≤ length header.now },
-    pub ghost index_within: { address_index ≤ layout.count },
+    pub ghost index_within: { index ≤ layout.count },
 }
 
 impl<'a> RoutingAddresses<'a> {
@@ -87,9 +87,9 @@ impl<'a> RoutingAddresses<'a> {
     /// Returns the address with this index, or `None` if there are fewer.
     #[inline(always)]
     pub fn get(&self, index: usize) -> Option<RoutingAddress<'a>>
-        ensures some { IfSome result (λ a. last_bytes a ≡ address (layout self.now) (routing_bytes self.now) address_index) }
-        ensures within { IfSome result (λ _. address_index < (layout self.now).count) }
-        ensures none { IfNone result ((layout self.now).count ≤ address_index) }
+        ensures some { IfSome result (λ a. last_bytes a ≡ address (layout self.now) (routing_bytes self.now) index) }
+        ensures within { IfSome result (λ _. index < (layout self.now).count) }
+        ensures none { IfNone result ((layout self.now).count ≤ index) }
     {
         if index >= self.layout.count {
             return None;

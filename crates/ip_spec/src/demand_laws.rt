@@ -10,27 +10,27 @@ ghost use Rattle.ip_spec.specs.Places.{header_in, next_place};
 
 /// Proves that bytes have exactly one longest chain from each number under each demand.
 pub fn one_longest_chain_under_a_demand()
-    ensures some { (q n s : _) → IsDemand (Passes q) → (c : _) × IsLongestUnder (Passes q) n s c }
-    ensures only { (q n s : _) → IsDemand (Passes q) → OnlyOne (IsLongestUnder (Passes q) n s) }
+    ensures some { (q : _) → IsDemand (Passes q) → (n s : _) → (c : _) × IsLongestUnder (Passes q) n s c }
+    ensures only { (q : _) → IsDemand (Passes q) → (n s : _) → OnlyOne (IsLongestUnder (Passes q) n s) }
 {}
 
 /// Proves that a demand keeps exactly the longest chain under it, of the longest chain.
 pub fn demand_keeps_its_longest_chain()
-    ensures longest { (q n s d c : _) → IsDemand (Passes q) → IsLongestChain n s d
+    ensures longest { (q : _) → IsDemand (Passes q) → (n s d c : _) → IsLongestChain n s d
         → IsLongestUnder (Passes q) n s c → KeepsBeginning (Passes q) d c }
-    ensures only { (q n s d c : _) → IsDemand (Passes q) → IsLongestChain n s d
+    ensures only { (q : _) → IsDemand (Passes q) → (n s d c : _) → IsLongestChain n s d
         → KeepsBeginning (Passes q) d c → IsLongestUnder (Passes q) n s c }
 {}
 
 /// Proves that no header that still meets the demand follows a longest chain under it.
 pub fn longest_chain_under_a_demand_ends()
-    ensures { (q n s c : _) → IsDemand (Passes q) → IsLongestUnder (Passes q) n s c
+    ensures { (q : _) → IsDemand (Passes q) → (n s c : _) → IsLongestUnder (Passes q) n s c
         → IsEndUnder (Passes q) c (leads_to n c) (rest_after c s) }
 {}
 
 /// Proves that the longest chain of truncated bytes is the headers of the whole's longest chain that lie within them.
 pub fn shorter_bytes_keep_whole_headers()
-    ensures { (q n j s d c : _) → IsDemand (Passes q) → IsLongestUnder (Passes q) n s d
+    ensures { (q : _) → IsDemand (Passes q) → (n j s d c : _) → IsLongestUnder (Passes q) n s d
         → IsLongestUnder (Passes q) n (take j s) c → c ≡ headers_within j d }
 {}
 
@@ -70,8 +70,8 @@ pub fn fitting_chain_ends()
 pub fn fitting_chain_stops_where_occupied()
     ensures shorter { (n s d c : _) → IsLongestChain n s d → IsLongestUnder FitsPlaces n s c
         → length c < length d → IsOccupied (leads_to n c) c }
-    ensures next { (n s d c h : _) → IsLongestChain n s d → IsLongestUnder FitsPlaces n s c
-        → IsNext (is_empty c) (leads_to n c) (rest_after c s) h → length c < length d }
+    ensures next { (n s d c : _) → IsLongestChain n s d → IsLongestUnder FitsPlaces n s c
+        → (h : _) → IsNext (is_empty c) (leads_to n c) (rest_after c s) h → length c < length d }
 {}
 
 /// Proves that the numbers of a chain decide whether it fits six places.

@@ -9,12 +9,14 @@ ghost use Rattle.ip_spec.specs.Decoding.{IsRawDecoding, IsFragmentDecoding, IsAu
 
 /// Proves that bytes start with at most one header of a format: its fields and the rest after it are unique.
 pub fn one_decoding()
-    ensures raw { (s v w r q : _) → IsRawDecoding s v r → IsRawDecoding s w q
-        → (v ≡ w) × (r ≡ q) }
+    ensures raw { (s v w r q : _) → IsRawDecoding s v r → IsRawDecoding s w q → v ≡ w }
+    ensures raw_rest { (s v w r q : _) → IsRawDecoding s v r → IsRawDecoding s w q → r ≡ q }
     ensures fragment { (s v w r q : _) → IsFragmentDecoding s v r → IsFragmentDecoding s w q
-        → (v ≡ w) × (r ≡ q) }
-    ensures auth { (s v w r q : _) → IsAuthDecoding s v r → IsAuthDecoding s w q
-        → (v ≡ w) × (r ≡ q) }
+        → v ≡ w }
+    ensures fragment_rest { (s v w r q : _) → IsFragmentDecoding s v r → IsFragmentDecoding s w q
+        → r ≡ q }
+    ensures auth { (s v w r q : _) → IsAuthDecoding s v r → IsAuthDecoding s w q → v ≡ w }
+    ensures auth_rest { (s v w r q : _) → IsAuthDecoding s v r → IsAuthDecoding s w q → r ≡ q }
 {}
 
 /// Proves that fields have at most one encoding.

@@ -15,16 +15,16 @@ ghost use Rattle.ip_spec.specs.Encodable.{IsEncodable, placed_len};
 /// Proves that a value whose headers can all be written reaches exactly one chain from each number, and that its walk
 /// has exactly one result.
 pub fn one_walk_answer()
-    ensures some_reach { (v f : _) → IsEncodable v → (c : _) × IsLongestOf (IsReachable v f) c }
+    ensures some_reach { (v : _) → IsEncodable v → (f : _) → (c : _) × IsLongestOf (IsReachable v f) c }
     ensures only_reach { (v f : _) → OnlyOne (IsLongestOf (IsReachable v f)) }
-    ensures some_answer { (v f : _) → IsEncodable v → (a : _) × IsWalkAnswer v f a }
+    ensures some_answer { (v : _) → IsEncodable v → (f : _) → (a : _) × IsWalkAnswer v f a }
     ensures only_answer { (v f : _) → OnlyOne (IsWalkAnswer v f) }
 {}
 
 /// Proves that a walk leads to a number if and only if the value is parsed from some bytes with that number and
 /// nothing else left, and if and only if a chain that leads there encodes it.
 pub fn walk_leads_where_the_value_is_parsed()
-    ensures read { (v f m : _) → IsEncodable v
+    ensures read { (v : _) → IsEncodable v → (f m : _)
         → IsWalkAnswer v f (Ok m) ↔ ((s : _) × IsParsed FitsPlaces (λ c. IsValueOf c v) f m.0 s) }
     ensures spelled { (v f m : _) → IsWalkAnswer v f (Ok m)
         → (c : _) × IsSpelling v f c × (leads_to f c ≡ m.0) }

@@ -3,7 +3,4 @@ use Rattle.ip_spec.proofs.UnderLemmas.{some_longest_under, one_longest_under}
 use Rattle.ip_spec.proofs.demand_laws.one_longest_chain_under_a_demand.Goals as goal
 
 pub returns : goal.returns
-returns c = record {
-  some = λ q n s demand. some_longest_under (Passes q) demand n s;
-  only = λ q n s demand. one_longest_under (Passes q) demand n s;
-}
+returns c = record { some = λ q. some_longest_under (Passes q); only = λ q. one_longest_under (Passes q) }

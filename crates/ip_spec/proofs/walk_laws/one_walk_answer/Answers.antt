@@ -4,4 +4,4 @@ use Rattle.ip_spec.proofs.SumLemmas.{some_reach, some_answer}
 use Rattle.ip_spec.proofs.walk_laws.one_walk_answer.Goals as goal
 
 pub returns : goal.returns
-returns c = record { some_reach = some_reach; only_reach = one_reach; some_answer = some_answer; only_answer = one_answer }
+returns c = record { some_reach = λ v e f. some_reach v f e; only_reach = one_reach; some_answer = λ v e f. some_answer v f e; only_answer = one_answer }

@@ -9,7 +9,8 @@
 #                     with zlib, libzstd or liblzma, ipcap also reads compressed captures
 # make portable       build those of them that need libpcap so that they load it by either of its names, in build/portable/,
 #                     as `make wheel` and `make dist` pack them
-# make wheel          pack the Python package with the shared libraries, as build/wolfaren-VERSION-py3-none-linux_x86_64.whl
+# make wheel          pack the Python package with the shared libraries, as build/wolfaren-VERSION-py3-none-TAG.whl, whose tag
+#                     is manylinux_2_X_x86_64 if it needs only glibc 2.X, otherwise linux_x86_64
 # make install        install what `make programs` has built: the libraries, their headers, the programs, their manual
 #                     pages, and the completions for bash and zsh. Needs neither rt nor a compiler (PREFIX=/usr/local, also
 #                     LIBDIR, BINDIR, INCLUDEDIR, MANDIR, BASHDIR and ZSHDIR; DESTDIR=.. is prepended to the paths)
@@ -79,14 +80,15 @@ ARM64_CC = aarch64-linux-gnu-gcc
 
 lib: lib-$(TARGET)
 
+# What hasn't changed isn't copied again, so that what is built of it isn't either.
 lib-x86_64:
 	$(RT_IS_THERE)
 	$(PYTHON_IS_THERE)
 	scripts/prove ipexts_c
 	mkdir -p build
-	rm -f build/libwolfaren.so.0
-	cp crates/ipexts_c/out/libipexts_c.a build/libwolfaren.a
-	cp include/wolfaren.h build/
+	cmp -s crates/ipexts_c/out/libipexts_c.a build/libwolfaren.a || { rm -f build/libwolfaren.so.0 && \
+		cp crates/ipexts_c/out/libipexts_c.a build/libwolfaren.a; }
+	cmp -s include/wolfaren.h build/wolfaren.h || cp include/wolfaren.h build/
 
 # the archive is moved, so that none of another machine is left beside the proofs
 lib-aarch64:

@@ -58,7 +58,7 @@
 #define WOLFAREN_VERSION (10000 * WOLFAREN_VERSION_MAJOR + 100 * WOLFAREN_VERSION_MINOR + WOLFAREN_VERSION_PATCH)
 
 /* A checksum of the structs, numbers and calls in this header, made by scripts/abi of the repository. */
-#define WOLFAREN_ABI 0xc4178673u
+#define WOLFAREN_ABI 0x142e74e9u
 
 #if !(defined(__x86_64__) && !defined(__ILP32__)) && !defined(_M_X64) && !defined(__aarch64__) && !defined(_M_ARM64)
 #error "libwolfaren needs a 64-bit machine: x86-64 or ARM64"
@@ -612,18 +612,19 @@ enum wolfaren_outcome {
     WOLFAREN_NO_STATED_LENGTH = 4, /* dropped: its base header states a length of 0 */
     WOLFAREN_BYTES_MISSING = 5,    /* dropped: fewer bytes are here than it states */
     WOLFAREN_UNALIGNED = 6,        /* dropped: more fragments follow, and its length isn't a positive multiple of 8 */
-    WOLFAREN_TOO_LONG = 7,         /* dropped: it ends after byte 65,535 of the payload */
+    WOLFAREN_TOO_LONG = 7,         /* dropped: its packet would be too long for the length field */
     WOLFAREN_OVERLAP = 8,          /* dropped, and its packet abandoned: bytes of it have already arrived (RFC 5722) */
     WOLFAREN_TWO_ENDS = 9,         /* dropped, and its packet abandoned: the fragments end at two places */
     WOLFAREN_ABANDONED = 10,       /* dropped: its packet was abandoned */
     WOLFAREN_HEADERS_TOO_LONG = 11, /* dropped: it is the first fragment, with headers of more than 4,096 bytes */
-    WOLFAREN_NO_SLOT = 12          /* dropped: there are no slots */
+    WOLFAREN_NO_SLOT = 12,         /* dropped: there are no slots */
+    WOLFAREN_MIXED_ECN = 13        /* dropped, and its packet abandoned: some fragments are ECN-capable, others not (RFC 3168) */
 };
 
 /* Which packet was given up for another one. */
 enum wolfaren_loss {
     WOLFAREN_NO_LOSS = 0,
-    WOLFAREN_TIMED_OUT = 1, /* one that wasn't whole 60 seconds after its first fragment (RFC 8200, section 4.5) */
+    WOLFAREN_TIMED_OUT = 1, /* one that wasn't whole in time after its first fragment (RFC 8200, section 4.5) */
     WOLFAREN_DISPLACED = 2  /* the oldest one of those that share slots with the other one */
 };
 
@@ -634,6 +635,7 @@ struct wolfaren_slot {
     uint8_t source[16];       /* the source address, of IPv4 in the first 4 bytes */
     uint8_t destination[16];  /* the destination address */
     uint32_t identification;  /* the identification */
+    uint32_t context;         /* the context in which its fragments arrive */
     uint8_t protocol;         /* the protocol number of an IPv4 packet */
     uint8_t version;          /* 4 or 6; if it is another number, the slot is free */
 };
@@ -661,6 +663,7 @@ struct wolfaren_packet_memory {
     size_t link;         /* offset in them of the number of what follows them */
     uint8_t first_here;  /* not 0 if the first fragment has arrived */
     uint8_t next_header; /* the number of what the payload starts with */
+    uint8_t ecn[3];      /* not 0 if a fragment isn't ECN-capable; if one is; if one is marked with congestion */
     uint8_t short_head[64]; /* the first fragment's headers, if they are that short */
     uint8_t payload[65536]; /* the payload */
     uint8_t head[4096];     /* longer headers of the first fragment */
@@ -668,8 +671,18 @@ struct wolfaren_packet_memory {
 
 /* Counts of packets that wolfaren_defragment got. Each stops at UINT64_MAX. Set all to 0 at first. */
 struct wolfaren_defragmenter_counts {
-    uint64_t outcomes[13]; /* packets by outcome: the index is an enum wolfaren_outcome */
+    uint64_t outcomes[14]; /* packets by outcome: the index is an enum wolfaren_outcome */
     uint64_t losses[3];    /* packets by which one was given up for them: the index is an enum wolfaren_loss */
+};
+
+/* After how many nanoseconds a packet that isn't whole is given up, if nothing speaks for another time: 60 seconds (RFC 1122,
+ * section 3.3.2; RFC 8200, section 4.5). */
+#define WOLFAREN_DEFAULT_TIMEOUT UINT64_C(60000000000)
+
+/* How wolfaren_defragment gives packets slots, and when they are given up: the same at each call. */
+struct wolfaren_defragmenter_settings {
+    uint64_t seed[2]; /* the key of the hash that selects slots: random numbers that senders don't know */
+    uint64_t timeout; /* after how many nanoseconds a packet that isn't whole is given up */
 };
 
 /* What became of a packet. */
@@ -684,31 +697,39 @@ struct wolfaren_added {
  * became of it in `*added`, and counts it.
  *
  * A fragment goes to its packet's slot and the memory with the slot's index (RFC 791, section 3.2; RFC 8200, section 4.5).
- * A packet's key is its addresses and identification, and in IPv4 also its protocol. Fragments may arrive in any order, and
- * repeated. If the outcome is WOLFAREN_WHOLE, wolfaren_write_whole_packet writes the packet of `memories[added->slot]`, until
- * another packet is stored there; the slot is free again. With WOLFAREN_MORE_WANTED, and with the outcomes from
- * WOLFAREN_UNALIGNED to WOLFAREN_HEADERS_TOO_LONG, `added->slot` is the slot of the fragment's packet. The remaining outcomes
- * have no slot.
+ * A packet's key is its addresses and identification, in IPv4 also its protocol, and `context`: a number of the caller's for
+ * where the packet arrived, such as an interface and a VLAN. Fragments may arrive in any order, and repeated. If the outcome
+ * is WOLFAREN_WHOLE, wolfaren_write_whole_packet writes the packet of `memories[added->slot]`, until another packet is stored
+ * there; the slot is free again.
  *
- * A packet that isn't whole 60 seconds after its first fragment is given up when its next fragment arrives, when another packet
- * needs its slot, or by wolfaren_give_up. Of more than 8 slots, 8 are for packets with the same hash. If all of them are in use,
- * the packet with the oldest first fragment is given up. The hash depends on `factor`, which should be a random number that
- * senders don't know, and the same at each call.
+ * With WOLFAREN_MORE_WANTED, WOLFAREN_OVERLAP, WOLFAREN_TWO_ENDS, WOLFAREN_ABANDONED and WOLFAREN_MIXED_ECN, `added->slot` is
+ * the slot of the fragment's packet. WOLFAREN_TOO_LONG has a slot only if the fragment is refused because of the others. The
+ * remaining outcomes have none: such a fragment takes no slot.
+ *
+ * If a fragment is marked with congestion (CE), so is the whole packet. If some fragments are ECN-capable and others aren't,
+ * the packet is dropped (RFC 3168, section 5.3).
+ *
+ * A packet that isn't whole at the timeout after its first fragment is given up when its next fragment arrives, when another
+ * packet needs its slot, or by wolfaren_give_up. Of more than 8 slots, 8 are for packets with the same hash (SipHash-1-3, with
+ * the key `settings->seed`). If all of them are in use, the packet whose first fragment is the oldest is given up. A time in
+ * the future counts as one that is as far in the past, since times aren't always in order.
  *
  * Returns false, and changes nothing, if there aren't as many memories as slots. A memory has 71,792 bytes. The memories
  * may lie in fresh pages of zeros; a page is used when the first packet needs it.
  */
 WOLFAREN_USE_RESULT
 bool wolfaren_defragment(struct wolfaren_slot *slots, size_t slot_count, struct wolfaren_packet_memory *memories,
-                         size_t memory_count, struct wolfaren_defragmenter_counts *counts, uint32_t factor,
-                         const uint8_t *bytes, size_t len, uint64_t time, struct wolfaren_added *added) WOLFAREN_NONNULL(5, 10);
+                         size_t memory_count, struct wolfaren_defragmenter_counts *counts,
+                         const struct wolfaren_defragmenter_settings *settings, const uint8_t *bytes, size_t len,
+                         uint32_t context, uint64_t time, struct wolfaren_added *added) WOLFAREN_NONNULL(5, 6, 11);
 
 /*
- * Gives up the packet of a slot if it isn't whole more than 60 seconds after its first fragment, as of `time`. If so, counts it
- * as WOLFAREN_TIMED_OUT in `counts->losses`, frees the slot, and returns true. Otherwise changes nothing and returns false.
+ * Gives up the packet of a slot if it isn't whole more than `timeout` nanoseconds after its first fragment, as of `time`. If so,
+ * counts it as WOLFAREN_TIMED_OUT in `counts->losses`, frees the slot, and returns true. Otherwise changes nothing and returns
+ * false.
  */
-bool wolfaren_give_up(struct wolfaren_slot *slot, struct wolfaren_defragmenter_counts *counts, uint64_t time)
-    WOLFAREN_NONNULL(1, 2);
+bool wolfaren_give_up(struct wolfaren_slot *slot, struct wolfaren_defragmenter_counts *counts, uint64_t timeout,
+                      uint64_t time) WOLFAREN_NONNULL(1, 2);
 
 /*
  * Writes the whole packet of a memory to the start of `out`, which has `room` bytes: the headers of the first fragment up to
@@ -716,8 +737,7 @@ bool wolfaren_give_up(struct wolfaren_slot *slot, struct wolfaren_defragmenter_c
  * more fragments flag is cleared, and the header's checksum computed.
  *
  * On success, returns true and stores the number of bytes written in `*written`. Otherwise writes nothing to `out`, stores 0
- * in `*written` and returns false: the packet isn't whole, its length field can't state its length (as with an IPv6 packet
- * whose extension headers and payload have more than 65,535 bytes), or `room` is less than its length. If `room` is
+ * in `*written` and returns false: the packet isn't whole, or `room` is less than its length. If `room` is
  * WOLFAREN_WHOLE_PACKET_ROOM, it is enough.
  */
 WOLFAREN_USE_RESULT
@@ -730,7 +750,7 @@ enum wolfaren_refusal {
     WOLFAREN_NOT_REFUSED = 0,
     WOLFAREN_REFUSED_HEADERS = 1,         /* no IP header, or its headers are truncated or faulty: wolfaren_dissect says why */
     WOLFAREN_REFUSED_MISSING = 2,         /* fewer bytes are here than it states */
-    WOLFAREN_REFUSED_LATER_FRAGMENT = 3,  /* it is a middle or last fragment */
+    WOLFAREN_REFUSED_LATER_FRAGMENT = 3,  /* it is a middle or last fragment of IPv4 */
     WOLFAREN_REFUSED_NOT_A_HEADER = 11,   /* the bytes aren't one header of the number, or in IPv4 no authentication header */
     WOLFAREN_REFUSED_NO_HEADER = 4,       /* it has no such header */
     WOLFAREN_REFUSED_FRAGMENT_HEADER = 5, /* the header is the fragment header of a fragment that isn't atomic */
@@ -738,6 +758,7 @@ enum wolfaren_refusal {
     WOLFAREN_REFUSED_FRAGMENTED = 6,      /* the change is in the part of the packet that is fragmented */
     WOLFAREN_REFUSED_AUTHENTICATED = 7,   /* an authentication header covers the change (RFC 4302, section 3.3.3) */
     WOLFAREN_REFUSED_HEADER_FOLLOWS = 8,  /* the payload would be read as an extension header, in IPv4 an authentication header */
+    WOLFAREN_REFUSED_NO_LENGTH = 13,      /* its length would change, and its length field is 0, as in a jumbogram (RFC 2675) */
     WOLFAREN_REFUSED_TOO_LONG = 9,        /* its length field can't state the length */
     WOLFAREN_REFUSED_NO_ROOM = 10         /* `room` is less than the length */
 };
@@ -752,14 +773,14 @@ struct wolfaren_rewritten {
 /*
  * Writes the packet at the start of the `len` bytes to the start of `out`, which has `room` bytes, without its extension
  * headers of this number. All else stays as it is, except the numbers that lead from header to header, the length in the IP
- * header, and IPv4's header checksum, which is computed anew. A length field of 0 stays 0. Bytes after the packet aren't
- * written. If `room` is `len`, it is enough.
+ * header, and IPv4's header checksum, which is computed anew. Bytes after the packet aren't written. If `room` is `len`, it is enough.
  *
  * On success, returns true and fills in `rewritten`. `keeps_checksums` is 0 after a routing header with segments left was
  * removed: checksums of TCP or UDP then cover a destination that was in it (RFC 8200, section 8.1).
  *
  * Otherwise writes nothing to `out`, stores why in `rewritten`, and returns false. A packet that keeps an authentication
- * header is refused unless `may_be_invalid` is true, since the header's check value doesn't hold for the changed packet.
+ * header is refused unless `may_be_invalid` is true, since the header's check value doesn't hold for the changed packet, or
+ * only the fragment header of an atomic fragment before it is removed, which isn't covered (RFC 4302, section 3.3.4).
  */
 WOLFAREN_USE_RESULT
 bool wolfaren_without_number(const uint8_t *bytes, size_t len, uint8_t number, bool may_be_invalid, uint8_t *out, size_t room,
@@ -804,7 +825,7 @@ bool wolfaren_with_payload(const uint8_t *bytes, size_t len, uint8_t number, con
 /*
  * Writes a packet as wolfaren_without_number does, with the reserved bits of its fragment and authentication headers set to
  * zero (RFC 8200, section 4.5; RFC 4302, section 2.3). A packet with an authentication header is refused only if one of these
- * bits is 1, and a fragment only if one is 1 in the part that is fragmented. If `room` is `len`, it is enough.
+ * bits is 1 in it or after it, and a fragment only if one is 1 in the part that is fragmented. If `room` is `len`, it is enough.
  */
 WOLFAREN_USE_RESULT
 bool wolfaren_cleared(const uint8_t *bytes, size_t len, bool may_be_invalid, uint8_t *out, size_t room,
@@ -989,8 +1010,9 @@ struct wolfaren_filter_error {
  * headers may precede them. A later fragment has none, nor has a packet with an error or a truncated header. The terms about
  * fragments hold of an IPv6 packet if they do of one of its fragment headers.
  *
- * Numbers are decimal, or hexadecimal after 0x. On success, returns true and fills in `filter`; `error` is left unchanged.
- * On error, returns false and stores in `error` what is expected where; `filter` is left unchanged.
+ * Numbers are decimal, or hexadecimal after 0x. On success, returns true and fills in `filter`, whose count is at most
+ * WOLFAREN_FILTER_TESTS; `error` is left unchanged. On error, returns false and stores in `error` what is expected where;
+ * `filter` is left unchanged.
  */
 WOLFAREN_USE_RESULT
 bool wolfaren_parse_filter(const char *text, size_t len, struct wolfaren_filter *filter,
@@ -1104,10 +1126,11 @@ WOLFAREN_LAYOUT(wolfaren_authentication, 24, next_header, 16);
 WOLFAREN_LAYOUT(wolfaren_option_cursor, 16, end, 8);
 WOLFAREN_LAYOUT(wolfaren_option, 32, may_change, 26);
 WOLFAREN_LAYOUT(wolfaren_routing, 40, next_header, 34);
-WOLFAREN_LAYOUT(wolfaren_slot, 48, version, 45);
+WOLFAREN_LAYOUT(wolfaren_slot, 56, version, 49);
 WOLFAREN_LAYOUT(wolfaren_reassembly, 2072, run_count, 2070);
-WOLFAREN_LAYOUT(wolfaren_packet_memory, 71792, head, 67690);
-WOLFAREN_LAYOUT(wolfaren_defragmenter_counts, 128, losses, 104);
+WOLFAREN_LAYOUT(wolfaren_packet_memory, 71792, head, 67693);
+WOLFAREN_LAYOUT(wolfaren_defragmenter_counts, 136, losses, 112);
+WOLFAREN_LAYOUT(wolfaren_defragmenter_settings, 24, timeout, 16);
 WOLFAREN_LAYOUT(wolfaren_added, 16, loss, 9);
 WOLFAREN_LAYOUT(wolfaren_rewritten, 16, keeps_checksums, 9);
 WOLFAREN_LAYOUT(wolfaren_filter_test, 32, if_not, 29);

@@ -26,6 +26,9 @@ static uint8_t *fragments, *ipv4_fragments;
 static struct wolfaren_slot *slots;
 static struct wolfaren_packet_memory *memories;
 static struct wolfaren_defragmenter_counts counts;
+/* With this seed, no more than 8 of the packets that become whole share their slots, so that none is given up. */
+static const struct wolfaren_defragmenter_settings settings = {{0x0123456789abcdef, 0xfedcba9876543210},
+                                                               WOLFAREN_DEFAULT_TIMEOUT};
 static uint64_t now;
 static uint32_t flooded;
 
@@ -98,7 +101,7 @@ static void write_ipv4_fragments(const char *path)
 static void add(const uint8_t *bytes, size_t len)
 {
     struct wolfaren_added added;
-    if (!wolfaren_defragment(slots, SLOTS, memories, SLOTS, &counts, 0x9e3779b1, bytes, len, now++, &added)) exit(3);
+    if (!wolfaren_defragment(slots, SLOTS, memories, SLOTS, &counts, &settings, bytes, len, 0, now++, &added)) exit(3);
 }
 
 static void run_whole(void)

@@ -1,7 +1,9 @@
 """Puts the shared libraries into the wheel if WOLFAREN_LIB_DIR names their directory. The rest is in pyproject.toml."""
 
 import os
+import re
 import shutil
+import subprocess
 
 from setuptools import setup
 from setuptools.command.build_py import build_py
@@ -10,6 +12,9 @@ from wheel.bdist_wheel import bdist_wheel
 FOLDER = os.environ.get("WOLFAREN_LIB_DIR")
 LIBRARIES = ["libwolfaren.so.0", "libwolfaren-pcap.so.0"]
 HEADERS = ["wolfaren.h", "wolfaren-pcap.h"]
+# The libraries that a manylinux wheel may need (PEP 600, and the policies of auditwheel), and the oldest glibc that is named.
+EVERYWHERE = re.compile(r"(?:libc|libm|libgcc_s|ld-linux-[\w-]+)\.so\.\d|lib(?:dl|rt|z)\.so\.[12]|libpthread\.so\.0")
+LEAST_GLIBC = (2, 17)
 
 
 class BuildWithLibraries(build_py):
@@ -22,6 +27,20 @@ class BuildWithLibraries(build_py):
             shutil.copy(os.path.join(FOLDER, name), os.path.join(self.build_lib, "wolfaren", name))
 
 
+def platform_of(linux):
+    """Returns the tag for the machine of `linux`: with the glibc that the libraries need if they need nothing else."""
+    try:
+        said = "".join(subprocess.run(["objdump", "-p", os.path.join(FOLDER, it)], capture_output=True, text=True, check=True).stdout
+                       for it in LIBRARIES)
+    except (OSError, subprocess.CalledProcessError):
+        return linux
+    needed, versions = re.findall(r"NEEDED +(\S+)", said), re.findall(r"\bGLIBC_(\w[\w.]*)", said)
+    if not all(map(EVERYWHERE.fullmatch, needed)) or not all(re.fullmatch(r"\d+(?:\.\d+)+", it) for it in versions):
+        return linux
+    most = max([LEAST_GLIBC, *(tuple(map(int, it.split(".")[:2])) for it in versions)])
+    return linux.replace("linux", "manylinux_%d_%d" % most, 1)
+
+
 class WheelForMachine(bdist_wheel):
     """A wheel with the libraries is for one machine, and for any Python 3."""
 
@@ -30,7 +49,7 @@ class WheelForMachine(bdist_wheel):
         self.root_is_pure = not FOLDER
 
     def get_tag(self):
-        return ("py3", "none", super().get_tag()[2]) if FOLDER else super().get_tag()
+        return ("py3", "none", platform_of(super().get_tag()[2])) if FOLDER else super().get_tag()
 
 
 setup(cmdclass={"build_py": BuildWithLibraries, "bdist_wheel": WheelForMachine})

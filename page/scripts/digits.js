@@ -1,15 +1,23 @@
 // Reads hexadecimal digits, with separators between them. This is the last reader: it takes any text.
 "use strict";
 Wolfaren.digits = (function () {
-    const SKIPPED = /\s+|[,;:{}[\]"'-]|\/\*[^]*?\*\/|\/\/[^\n]*|\\\r?\n|0x(?=[0-9a-f])/iy;
+    const SKIPPED = /\s+|[,;:{}[\]"'-]|\\\r?\n|0x(?=[0-9a-f])/iy;
     const ADDRESS = /0x[0-9a-f]{3,}(?:[ \t]*<[^>\n]*>)?:(?=[ \t])/iy;
     const DIGITS = /[0-9a-f]+/iy;
-    const { note } = Wolfaren.input;
+    const NO_DIGIT = "not a hexadecimal digit";
+    const { note, refuse } = Wolfaren.input;
 
-    function read(text) {
+    function read(original) {
+        const text = Wolfaren.code.withoutComments(original, (it) => ",".repeat(it.length));
         const unread = [], blocks = blocksOf(text).map((it) => readBlock(text, it, unread)).filter((it) => it.length > 0);
+        if (isProse(blocks, unread)) return refuse(original, "text", "most of this isn't hexadecimal digits, and no other format was recognized");
         const lines = linesOf(text).map((it) => readBlock(text, it, []));
-        return { packets: packetsOf(blocks, lines), unread, format: "hexadecimal digits", leftOut: /\/\*|\/\//.test(text) ? ["comments"] : [] };
+        return { packets: packetsOf(blocks, lines), unread, format: "hexadecimal digits", leftOut: text === original ? [] : ["comments"] };
+    }
+    // Words of prose have some digits, too: a to f.
+    function isProse(blocks, unread) {
+        const others = unread.filter((it) => it.why === NO_DIGIT).reduce((sum, it) => sum + it.end - it.start, 0);
+        return others > 2 * blocks.reduce((sum, it) => sum + it.length, 0);
     }
     // A blank line separates packets, and so does each line if it has a whole packet.
     function packetsOf(blocks, lines) {
@@ -42,7 +50,7 @@ Wolfaren.digits = (function () {
         if (address > 0) note(unread, at, at + address, "an address, not bytes");
         const skipped = address || lengthAt(SKIPPED, text, at), found = skipped > 0 ? 0 : lengthAt(DIGITS, text, at);
         if (found > 0) pushDigits(bytes, unread, text.slice(at, at + found), at, /0x$/i.test(text.slice(Math.max(0, at - 2), at)));
-        else if (skipped === 0) note(unread, at, at + 1, "not a hexadecimal digit");
+        else if (skipped === 0) note(unread, at, at + 1, NO_DIGIT);
         return skipped || found || 1;
     }
     // Returns the length of what fits an expression at a place in the text.

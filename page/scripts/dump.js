@@ -2,6 +2,8 @@
 "use strict";
 Wolfaren.dump = (function () {
     const ROW = /^(\s*(?:0x)?)([0-9a-f]{4,16})(:?)([ \t]+)(?=[0-9a-f]{2})/i;
+    // An offset after other text, as the kernel prints the bytes of a packet.
+    const PREFIXED = /\b([0-9a-f]{8})(:)([ \t]+)(?=[0-9a-f]{2}\b)/i;
     const END = /^\s*(?:0x)?([0-9a-f]{4,16})\s*$/i;
     const MOST_BYTES = 1 << 20;
     const USE = "use hexdump -C, xxd, or od -t x1";
@@ -30,15 +32,20 @@ Wolfaren.dump = (function () {
         });
     }
     function kindOf(line) {
-        const row = ROW.exec(line), end = row ? null : END.exec(line);
+        const row = ROW.exec(line) || prefixedRow(line), end = row ? null : END.exec(line);
         if (row) return rowOf(line, row);
         if (end) return { kind: "end", offset: end[1] };
         return { kind: line.trim() === "" ? "blank" : line.trim() === "*" ? "star" : "other" };
     }
+    function prefixedRow(line) {
+        const found = PREFIXED.exec(line), prefix = found ? line.slice(0, found.index) : "";
+        return /[^0-9a-f\s]/i.test(prefix) ? [prefix + found[0], prefix, found[1], found[2], found[3]] : null;
+    }
     // A marked row can't be a line of digits without an offset.
     function rowOf(line, [head, before, offset, colon, spaces]) {
         const hasColon = colon === ":", isMarked = hasColon || /0x$/i.test(before) || spaces.length > 1 || spaces === "\t";
-        return { kind: "row", offset, isMarked, hasColon, isIndented: /^\s*[0-9a-f]{8}: {2}/i.test(line), head: head.length };
+        return { kind: "row", offset, isMarked, hasColon, isIndented: /^\s*[0-9a-f]{8}: {2}/i.test(line), head: head.length,
+            hasPrefix: /\S/.test(before.replace(/0x$/i, "")) };
     }
     // Whether two spaces may be in the middle of the 16 bytes of a row, and don't yet separate the column of text.
     function hasMiddle(rows, at) {
@@ -136,11 +143,12 @@ Wolfaren.dump = (function () {
         return bytes;
     }
     function readLines(lines, radix, style) {
-        const dump = { packets: [], unread: [], radix, style, pending: [], headings: 0, isRepeated: false, hasText: false, base: 0, row: [] };
+        const dump = { packets: [], unread: [], radix, style, pending: [], headings: 0, isRepeated: false, hasText: false, hasPrefix: false, base: 0, row: [] };
         for (const it of lines) TAKE[it.kind](dump, it);
         if (dump.isRepeated) noteLine(dump, dump.star, "no offset after the repeated rows");
         for (const it of dump.pending) noteLine(dump, it, "no offset");
         const leftOut = dump.headings > 0 ? [dump.headings === 1 ? "1 line of headings" : `${dump.headings} lines of headings`] : [];
+        if (dump.hasPrefix) leftOut.push("what precedes the offsets");
         if (dump.hasText) leftOut.push("the column of text");
         return { packets: dump.packets, unread: dump.unread, format: style.format, leftOut };
     }
@@ -163,6 +171,7 @@ Wolfaren.dump = (function () {
         if (offset !== endOf(dump)) return noteLine(dump, it, `offset ${it.offset}, where ${expected} was expected`);
         settle(dump, isFirst);
         dump.row = bytesOf(it, dump.style);
+        dump.hasPrefix = dump.hasPrefix || it.hasPrefix;
         current(dump).push(...dump.row);
         checkColumn(dump, it);
     }

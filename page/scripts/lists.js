@@ -2,14 +2,14 @@
 "use strict";
 Wolfaren.lists = (function () {
     const GROUP = /[[{(]([^[\]{}()]*)(?:[\]})]|$)/g;
-    const COMMENT = /\/\*[^]*?\*\/|\/\/[^\n]*/g;
+    const AFTER_NAME = /(?<=[\w\]]\s*)\[/y;
     const BINARY = /^0b[01]{1,8}$/i;
     const NUMBER = /^-?(?:0x[0-9a-f]+|[0-9a-f]+)(?:_?u8|u)?$/i;
     const SEVERAL = "these numbers may be decimal, octal or hexadecimal: write hexadecimal ones with 0x in front, or as two digits each without brackets";
     const { note, refuse } = Wolfaren.input;
 
     function read(text) {
-        const blank = text.replace(COMMENT, (it) => it.replace(/[^\n]/g, " "));
+        const blank = Wolfaren.code.withoutComments(text, (it) => it.replace(/[^\n]/g, " "));
         const groups = [...blank.matchAll(GROUP)].map(groupOf).filter((it) => isList(it, blank));
         if (groups.length > 0) return readGroups(text, blank, groups);
         return /^(?:0b[01]|[\d\s,;])+$/i.test(blank) ? readBare(text, blank) : null;
@@ -23,7 +23,8 @@ Wolfaren.lists = (function () {
     }
     // A list has numbers with commas between them. A number in brackets after a name is the size of an array.
     function isList(group, text) {
-        const isSize = /[\w\]]\s*$/.test(text.slice(0, group.start)) && !group.hasCommas && text[group.start] === "[";
+        AFTER_NAME.lastIndex = group.start;
+        const isSize = AFTER_NAME.test(text) && !group.hasCommas;
         const isEnough = group.hasCommas || group.tokens.some((it) => /^0x/i.test(it.text));
         return !isSize && isEnough && group.tokens.length > 0 && group.tokens.filter((it) => NUMBER.test(it.text)).length * 2 > group.tokens.length;
     }
@@ -36,8 +37,8 @@ Wolfaren.lists = (function () {
             at = it.end;
         }
         Wolfaren.code.check(blank, at, text.length, unread, "outside the list");
-        const hasCode = Wolfaren.code.hasWords(groups.reduce((left, it) => left.slice(0, it.start) + " ".repeat(it.end - it.start) + left.slice(it.end), text));
-        const leftOut = hasCode ? ["the program text around it"] : [];
+        const gaps = [...groups, { start: text.length }].map((it, i) => text.slice(i === 0 ? 0 : groups[i - 1].end, it.start));
+        const leftOut = gaps.some(Wolfaren.code.hasWords) ? ["the program text around it"] : [];
         return { packets: packets.filter((it) => it.length > 0), unread, format: `an array${notationText(groups)}`, leftOut };
     }
     function notationText(groups) {

@@ -16,7 +16,7 @@ Wolfaren.names = (function () {
     const fragments = ["", "atomic", "first", "middle", "last"];
     const lengthSources = ["", "", "the total length", "the payload length"];
     const styles = { 0: "hop", 43: "routing", 44: "fragment", 51: "authentication", 60: "destination" };
-    const places = ["hop-by-hop", "destination options", "routing", "fragment", "authentication", "final destination options"];
+    const places = ["hop-by-hop", "destination-options", "routing", "fragment", "authentication", "final destination-options"];
 
     function ofNumber(number) {
         return numbers[number] || "";

@@ -6,8 +6,8 @@ Wolfaren.packets = (function () {
     const at = (id) => document.getElementById(id);
     let chosen = -1, count = 0, onChoose = () => {};
 
-    // Shows the list of models, with each one's packet. Returns how many have a fault, how many are truncated, and how many
-    // aren't listed.
+    // Shows the list of models, with each one's packet. Returns how many of those listed have a fault, how many are truncated,
+    // and how many aren't listed.
     function show(packets, parse) {
         const counts = { fault: 0, truncated: 0, left: Math.max(0, packets.length - MOST_LISTED) };
         count = Math.min(packets.length, MOST_LISTED);

@@ -21,7 +21,7 @@ Wolfaren.page = (function () {
     function parse(it) {
         const { kind, why } = kindOf(it);
         if (kind === null) return Wolfaren.parse.unparsed(it.bytes, why);
-        const parsed = Wolfaren.parse.parse(kind === "capture" ? "packet" : kind, firstNumber(), it.bytes);
+        const parsed = Wolfaren.parse.parse(kind === "capture" ? "packet" : kind, firstNumber(), it.bytes, it.wire);
         return Object.assign(parsed, { hint: hintOf(kind, it.bytes, parsed) });
     }
     // Returns the kind that the bytes look like if another one was chosen. It explains an error in the IP version better than
@@ -159,8 +159,9 @@ Wolfaren.page = (function () {
         setTimeout(() => URL.revokeObjectURL(link.href), 1000);
     }
     // Shows the packets of a file. What was shown before goes, even if the file has none.
-    function take(buffer) {
+    function take(buffer, isChosen) {
         isFromFile = true;
+        if (!isChosen) at("file").value = "";
         at("text").value = "";
         showUnread([]);
         showCapture(Wolfaren.capture.read(buffer));
@@ -178,7 +179,8 @@ Wolfaren.page = (function () {
         packets = all;
         const { fault, truncated, left } = Wolfaren.packets.show(packets, parse);
         const said = [[fault, "with a fault"], [truncated, "truncated"]].filter((it) => it[0] > 0).map((it) => it.join(" "));
-        at("packets-head").textContent = `${packets.length === 1 ? "1 packet" : `${packets.length} packets`}${said.length > 0 ? `, ${said.join(", ")}` : ""}`;
+        const looked = left > 0 ? `; of the first ${packets.length - left}` : "";
+        at("packets-head").textContent = `${packets.length === 1 ? "1 packet" : `${packets.length} packets`}${said.length > 0 ? `${looked}, ${said.join(", ")}` : ""}`;
         return left > 0 ? `Only the first ${packets.length - left} of ${packets.length} packets are listed.` : "";
     }
     function tell(text) {
@@ -199,6 +201,7 @@ Wolfaren.page = (function () {
         showUnread(reading.unread);
         const { packets: found } = reading, isOne = found.length < 2, isCapture = isOne && found.length > 0 && kindOf({ bytes: found[0] }).kind === "capture";
         if (isCapture || !isOne) isFromFile = false;
+        if (!isFromFile) at("file").value = ""; // or else it names a file of which nothing is shown
         if (isCapture) return showCapture(Wolfaren.capture.read(Uint8Array.from(found[0]).buffer));
         if (!isOne) return showSeveral(found);
         if (!isFromFile) list([]);
@@ -251,7 +254,7 @@ Wolfaren.page = (function () {
         else takeText();
     }
     function listenToFiles() {
-        at("file").addEventListener("change", async (event) => event.target.files[0] && take(await event.target.files[0].arrayBuffer()));
+        at("file").addEventListener("change", async (event) => event.target.files[0] && take(await event.target.files[0].arrayBuffer(), true));
         addEventListener("dragover", (event) => {
             event.preventDefault();
             at("drop").classList.add("over");

@@ -5,9 +5,10 @@ Wolfaren.parse = (function () {
     const ATOMIC = 1, AT_TRUNCATED_HEADER = 2;
     const PLACES = { 0: 0, 60: 1, 43: 2, 44: 3, 51: 4 };
 
-    // Parses the bytes. `kind` is one of those in kind.js, except for a capture.
-    function parse(kind, first, bytes) {
-        const model = { kind, first, bytes, parts: [], fault: null, headers: [], packet: null, note: "" };
+    // Parses the bytes. `kind` is one of those in kind.js, except for a capture. `wire` is the frame's original length, if that is
+    // known.
+    function parse(kind, first, bytes, wire) {
+        const model = { kind, first, bytes, wire, parts: [], fault: null, headers: [], packet: null, note: "" };
         if (kind === "chain6" || kind === "chain4") return parseChain(model, kind === "chain6" ? 6 : 4);
         const base = kind === "packet" ? 0 : pushLink(model);
         return base < 0 ? model : parsePacket(model, base);
@@ -20,9 +21,15 @@ Wolfaren.parse = (function () {
         const link = Wolfaren.link.find(model.kind, model.bytes), all = model.bytes.length;
         push(model, "link", link.name, 0, link.isTruncated ? all : link.offset, {});
         if (link.isIp) return link.offset;
+        if (link.isTruncated && model.wire <= all) return noteShort(model, link.name);
         if (link.isTruncated) model.fault = { offset: all, isTruncated: true, name: `${link.name} header`, text: `the ${link.name} header is incomplete` };
         else push(model, "rest", "payload of the frame", link.offset, all - link.offset, {});
         model.note = link.isTruncated ? "" : `${link.said ? `${link.said}, ` : ""}not IP`;
+        return -1;
+    }
+    // Notes that a frame of which all bytes were captured is too short for its headers: there is no IP packet.
+    function noteShort(model, name) {
+        model.note = `too short for a header of ${name}, not IP`;
         return -1;
     }
     // Takes bytes whose link layer isn't supported as they are.

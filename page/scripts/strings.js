@@ -1,22 +1,42 @@
 // Reads strings: with escapes, as C, Rust, Python and shells write bytes, or with hexadecimal digits or base64 in quotes.
 "use strict";
 Wolfaren.strings = (function () {
-    const LITERAL = /(?:(?<![\w$])(?:br|rb|b|\$))?(?:"(?:[^"\\\n]|\\[^])*"|'(?:[^'\\\n]|\\[^])*')/gi;
+    const PREFIX = /(?<![\w$])(?:br|rb|b|\$)$/i, LONGEST_PREFIX = 2;
+    const INSIDE = { '"': /(?:[^"\\\n]|\\[^])*/y, "'": /(?:[^'\\\n]|\\[^])*/y };
     const ESCAPED = /\\x[0-9a-f]{2}/i;
     const LETTERS = { n: 10, t: 9, r: 13, a: 7, b: 8, f: 12, v: 11, e: 27, "\\": 92, "'": 39, '"': 34, "?": 63 };
-    const CHARACTER = /^\\(?:x([0-9a-f]{1,2})|([0-7]{1,3})|([ntrabfve\\'"?])|\r?\n)|^[\x20-\x5b\x5d-\x7e]/i;
+    const CHARACTER = /\\(?:x([0-9a-f]{1,2})|([0-7]{1,3})|([ntrabfve\\'"?])|\r?\n)|[\x20-\x5b\x5d-\x7e]/iy;
     const LEAST_DIGITS = 16;
     const { note } = Wolfaren.input;
 
     function read(text) {
-        const literals = [...text.matchAll(LITERAL)].map(literalOf);
+        const literals = literalsIn(text);
         if (literals.length === 0) return ESCAPED.test(text) ? readBare(text) : null;
         const decode = decoderOf(text, literals);
         return decode ? readLiterals(text, literals, decode) : null;
     }
-    function literalOf(found) {
-        const quote = found[0].search(/["']/), from = found.index + quote + 1, end = found.index + found[0].length;
-        return { start: found.index, from, to: end - 1, end, isBytes: /^r?b/i.test(found[0]) && quote > 0, content: found[0].slice(quote + 1, -1) };
+    // Finds the strings. Where a quote isn't closed before the end of its line, none in between is closed there either: they
+    // are passed over, so that each character is looked at few times.
+    function literalsIn(text) {
+        const found = [], unclosed = { '"': 0, "'": 0 };
+        let end = 0;
+        for (const { index, 0: quote } of text.matchAll(/["']/g)) {
+            if (index < end || index < unclosed[quote]) continue;
+            INSIDE[quote].lastIndex = index + 1;
+            const to = index + 1 + INSIDE[quote].exec(text)[0].length;
+            if (text[to] !== quote) {
+                unclosed[quote] = to;
+                continue;
+            }
+            found.push(literalOf(text, end, index, to));
+            end = to + 1;
+        }
+        return found;
+    }
+    // Returns the string between two quotes. The string before it ends at `last`.
+    function literalOf(text, last, quote, to) {
+        const prefix = PREFIX.exec(text.slice(Math.max(last, quote - LONGEST_PREFIX - 1), quote)), start = quote - (prefix ? prefix[0].length : 0);
+        return { start, from: quote + 1, to, end: to + 1, isBytes: prefix !== null && prefix[0] !== "$", content: text.slice(quote + 1, to) };
     }
     // Returns how the content of the strings is read, with the name of the format; null if they aren't bytes.
     function decoderOf(text, literals) {
@@ -60,15 +80,17 @@ Wolfaren.strings = (function () {
         bytes.push(...Wolfaren.base64.decode(text.slice(from, to)));
     }
     function pushEscaped(bytes, unread, text, from, to) {
-        for (let at = from; at < to;) at += pushCharacter(bytes, unread, text.slice(at, to), at);
+        const part = text.slice(from, to);
+        for (let at = 0; at < part.length;) at += pushCharacter(bytes, unread, part, at, from);
     }
-    // Reads an escape or a character. Returns its length.
-    function pushCharacter(bytes, unread, left, at) {
-        const found = CHARACTER.exec(left), len = found ? found[0].length : left[0] === "\\" ? Math.min(2, left.length) : 1;
+    // Reads an escape or a character of a part of the text, which begins at `from`. Returns its length.
+    function pushCharacter(bytes, unread, part, at, from) {
+        CHARACTER.lastIndex = at;
+        const found = CHARACTER.exec(part), isEscape = part[at] === "\\", len = found ? found[0].length : isEscape ? Math.min(2, part.length - at) : 1;
         const value = found ? valueOf(found) : NaN;
         if (value <= 255) bytes.push(value);
-        else if (value > 255) note(unread, at, at + len, "an octal number above 377");
-        else if (!found) note(unread, at, at + len, left[0] === "\\" ? "an unknown escape" : "not an ASCII character");
+        else if (value > 255) note(unread, from + at, from + at + len, "an octal number above 377");
+        else if (!found) note(unread, from + at, from + at + len, isEscape ? "an unknown escape" : "not an ASCII character");
         return len;
     }
     // Returns the value of a byte; NaN for a line that is continued.

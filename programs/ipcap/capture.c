@@ -33,17 +33,17 @@ static bool fail_as_source(struct capture *capture)
 }
 
 /*
- * Reads the first bytes of a file, up to MAGIC_LEN, and pushes them back. The C standard guarantees only one byte of
+ * Reads the first bytes of a file, up to MAGIC_LEN, and pushes them back. Stores their number. The C standard guarantees only one byte of
  * pushback. The C libraries we know take back everything just read from their buffer. With others, ungetc fails.
  */
-static bool look_at_magic(FILE *file, uint8_t magic[MAGIC_LEN])
+static bool look_at_magic(FILE *file, uint8_t magic[MAGIC_LEN], size_t *len)
 {
-    size_t len = fread(magic, 1, MAGIC_LEN, file);
+    *len = fread(magic, 1, MAGIC_LEN, file);
     if (ferror(file)) return false;
     clearerr(file);
-    for (size_t i = len; i > 0; i--)
+    for (size_t i = *len; i > 0; i--)
         if (ungetc(magic[i - 1], file) == EOF) return false;
-    memset(magic + len, 0, MAGIC_LEN - len);
+    memset(magic + *len, 0, MAGIC_LEN - *len);
     return true;
 }
 
@@ -179,7 +179,9 @@ static void close_file(struct capture *capture)
 static bool open_opened(struct capture *capture)
 {
     uint8_t magic[MAGIC_LEN];
-    if (!look_at_magic(capture->file, magic)) return fail_as_source(capture);
+    size_t len;
+    if (!look_at_magic(capture->file, magic, &len)) return fail_as_source(capture);
+    if (len == 0) return fail(capture, "the file is empty");
     return is_pcapng_magic(magic) ? open_blocks(capture) : open_handle(capture, magic);
 }
 
@@ -241,6 +243,7 @@ static bool read_from_blocks(struct capture *capture, struct packet *packet)
     packet->link_type = found.interface->link_type;
     packet->block = file->block;
     packet->block_len = file->len;
+    packet->is_big_endian = file->is_big_endian;
     packet->is_left_out = !found.interface->link_layer;
     packet->has_time = found.has_time;
     capture->link_layer = found.interface->link_layer;
@@ -259,10 +262,23 @@ static bool read_next(struct capture *capture, struct packet *packet)
     return true;
 }
 
+static bool is_stopped(const struct capture *capture)
+{
+    return capture->stop && *capture->stop;
+}
+
+/* Sets the error if reading had to stop, and returns false. */
+static bool end_reading(struct capture *capture)
+{
+    unsigned long long number = capture->number;
+    if (is_stopped(capture)) fail(capture, "interrupted after %llu %s", number, number == 1 ? "packet" : "packets");
+    return false;
+}
+
 bool read_packet(struct capture *capture, struct packet *packet)
 {
     do
-        if (!read_next(capture, packet)) return false;
+        if (is_stopped(capture) || !read_next(capture, packet)) return end_reading(capture);
     while (capture->pass && !capture->pass(capture, packet));
     return true;
 }

@@ -3,6 +3,7 @@
 #define IPCAP_CAPTURE_H
 
 #include <pcap/pcap.h>
+#include <signal.h>
 #include <stdbool.h>
 #include <stddef.h>
 #include <stdint.h>
@@ -47,6 +48,7 @@ struct capture {
     const struct link_layer *link_layer;
     bool is_live;    /* the input is not a regular file, so packets may arrive as they are captured */
     uint64_t number; /* number of packets read so far */
+    const volatile sig_atomic_t *stop; /* null, or not 0 once no more packets are to be read */
     void (*follow)(struct capture *capture); /* called after each packet is read, unless it is null */
     /* Called with each packet that was read, unless it is null. May change it. If it returns false, the packet is skipped. */
     bool (*pass)(struct capture *capture, struct packet *packet);
@@ -70,6 +72,7 @@ struct packet {
     int link_type;        /* one of libpcap's DLT_ values */
     const uint8_t *block; /* of a pcapng file, the block with the packet, otherwise null */
     size_t block_len;
+    bool is_big_endian;   /* the numbers of the block have their most significant byte first */
     bool is_left_out;     /* its link layer isn't supported */
     bool has_time;
     bool is_ip;
@@ -81,7 +84,10 @@ struct packet {
 /* Opens a file or standard input. On failure, sets `error` and returns false. */
 bool open_capture(struct capture *capture, const char *path);
 
-/* Reads the next packet and returns true. At the end, and on failure, which sets `error`, returns false. */
+/*
+ * Reads the next packet and returns true. At the end, on failure, and if reading has to stop, returns false. Both of the latter
+ * set `error`.
+ */
 bool read_packet(struct capture *capture, struct packet *packet);
 
 /* Whether the timestamps of a capture may be in nanoseconds. If not, they are in microseconds. */

@@ -6,6 +6,7 @@
 #include <stdlib.h>
 #include <string.h>
 
+#include "arguments.h"
 #include "network.h"
 #include "report.h"
 #include "text.h"
@@ -68,6 +69,9 @@ static size_t write_port(const char *word, size_t len, char digits[PORT_DIGITS +
     return service ? (size_t)snprintf(digits, PORT_DIGITS + 1, "%d", ntohs((uint16_t)service->s_port)) : 0;
 }
 
+/* The term that every packet meets, and what it stands for. */
+static const char any[] = "any", any_packet[] = "(ip or not ip)";
+
 /* Appends bytes to a text. They come from the byte at `origin` and those after it, or all stand for it. */
 static void append(struct text *text, size_t *len, const char *bytes, size_t count, size_t origin, bool is_copied)
 {
@@ -95,6 +99,7 @@ static void copy_words(struct text *text, const struct text *arguments)
         while (arguments->ends[argument] <= at) text->ends[argument++] = len;
         size = word_len(word, end - at);
         if (is_own_term(word, size)) append(text, &len, text->stand_in, strlen(text->stand_in), at, false);
+        else if (is_word(word, size, any)) append(text, &len, any_packet, strlen(any_packet), at, false);
         else copy_word(text, &len, word, size, at, is_port);
         if (!is_space(*word)) is_port = is_word(word, size, "port");
     }
@@ -119,17 +124,13 @@ static bool replace_words(struct text *text, const struct text *arguments, const
 /* Writes the condition, and a caret below the byte at an offset. */
 static void show_place(const struct text *text, size_t offset)
 {
-    size_t len = text->ends[text->count - 1];
-    int columns = 0;
     fputs("  ", stderr);
-    for (size_t i = 0; i < len; i++) {
-        char byte = text->bytes[i];
-        fputc(is_control(byte) ? ' ' : byte, stderr);
-        /* of a character in UTF-8, only the first byte takes a column */
-        if (i < offset && ((unsigned char)byte & 0xc0) != 0x80) columns++;
-    }
-    fprintf(stderr, "\n  %*s^\n", columns, "");
+    size_t columns = write_columns(stderr, text->bytes, text->ends[text->count - 1], offset);
+    fprintf(stderr, "\n  %*s^\n", (int)columns, "");
 }
+
+/* How long the name of an extension header is at most. */
+enum { MOST_HEADER = 32 };
 
 /* Words of libpcap's expressions, and what is written instead of them. */
 static const struct {
@@ -145,9 +146,25 @@ static const struct {
     {"tcp[tcpflags]", "tcp-flags FLAGS"},
 };
 
-/* Says what is written instead of a word of libpcap's expressions. */
-static void show_ours(const char *word, size_t size)
+/* Says what is written instead of libpcap's `proto` if the word after it is an extension header. Returns whether it is. */
+static bool show_header(const char *word, size_t size, size_t left)
 {
+    char name[MOST_HEADER];
+    uint64_t headers = 0;
+    while (size < left && is_space(word[size])) size++;
+    size_t len = size < left ? word_len(word + size, left - size) : 0;
+    if (len == 0 || len >= sizeof name) return false;
+    memcpy(name, word + size, len);
+    name[len] = '\0';
+    if (!read_header_argument(name, &headers)) return false;
+    fprintf(stderr, "  for libpcap's `proto %s`, write `header %s`\n", name, name);
+    return true;
+}
+
+/* Says what is written instead of a word of libpcap's expressions, which is the first of the `left` bytes. */
+static void show_ours(const char *word, size_t size, size_t left)
+{
+    if (is_word(word, size, "proto") && show_header(word, size, left)) return;
     for (size_t i = 0; i < sizeof libpcap_words / sizeof *libpcap_words; i++)
         if (strlen(libpcap_words[i].word) == size && memcmp(libpcap_words[i].word, word, size) == 0)
             fprintf(stderr, "  for libpcap's `%s`, write `%s`\n", libpcap_words[i].word, libpcap_words[i].ours);
@@ -166,7 +183,7 @@ static void complain_of_condition(const struct text *text, uint8_t wanted, size_
     else
         complain("condition: expected %s, found '%.*s' in column %zu", expected, size > 40 ? 40 : (int)size, word, offset + 1);
     show_place(text, offset);
-    show_ours(word, size);
+    show_ours(word, size, left);
 }
 
 /* Reports the networks that have bits set after their prefix, which are likely mistakes. Returns whether there are any. */

@@ -8,12 +8,16 @@
 #include "report.h"
 #include "source.h"
 
-/* Whether the output is the file to read, which opening it for writing would truncate. */
-static bool is_input(const char *output, const char *path)
+/* Returns what the system says of a file, or of a standard stream. */
+static bool look_at(const char *path, int stream, struct stat *status)
+{
+    return (is_standard_stream(path) ? fstat(stream, status) : stat(path, status)) == 0;
+}
+
+bool is_input(const char *output, const char *path)
 {
     struct stat to, from;
-    if (stat(output, &to) != 0 || !S_ISREG(to.st_mode)) return false;
-    if ((is_standard_stream(path) ? fstat(STDIN_FILENO, &from) : stat(path, &from)) != 0) return false;
+    if (!look_at(output, STDOUT_FILENO, &to) || !S_ISREG(to.st_mode) || !look_at(path, STDIN_FILENO, &from)) return false;
     return to.st_dev == from.st_dev && to.st_ino == from.st_ino;
 }
 
@@ -25,7 +29,7 @@ static const char *name_of(const char *path)
 bool open_copy(struct output *output, const char *path, struct capture *capture, const char *input, begin_call *begin)
 {
     bool is_standard = is_standard_stream(path);
-    bool is_same = !is_standard && is_input(path, input);
+    bool is_same = is_input(path, input);
     FILE *file = is_same ? NULL : is_standard ? stdout : fopen(path, "wb");
     if (file && begin(output, capture, file)) return true;
     complain("%s: %s", name_of(path), is_same ? "input and output are the same file" : file ? output->error : strerror(errno));

@@ -4,6 +4,12 @@
 
 #include "output.h"
 
+/*
+ * Whether the file `output`, or standard output if that is null or `-`, is the file at a path or on standard input. Opening it
+ * for writing would truncate it, and appending to it would go on for ever.
+ */
+bool is_input(const char *output, const char *path);
+
 /* Begins an output in the format of a capture: `begin_output` or `begin_long_output`. */
 typedef bool begin_call(struct output *output, struct capture *capture, FILE *file);
 

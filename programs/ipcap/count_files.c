@@ -7,6 +7,7 @@
 
 #include "defragment.h"
 #include "input.h"
+#include "stop.h"
 
 /* Each thread may be ahead of the file that is handed over by this many files. */
 enum { FILES_AHEAD = 2 };
@@ -29,23 +30,33 @@ struct pool {
     size_t room;
 };
 
-/* Counts a file by its number. Only one that is alone shows its progress. */
-static void count_file(struct counted_file *file, const struct files *files, size_t number, bool is_alone)
+/* Counts the packets of a file. Only one that is alone shows its progress. */
+static void count_packets(struct counted_file *file, const struct files *files, struct input *input, bool is_alone)
 {
-    struct input input;
-    *file = (struct counted_file){.path = files->paths[number]};
-    init_counts(&file->counts, files->has_tunnels);
-    file->is_open = begin_input(&input, file->path);
-    if (!is_alone) input.capture.follow = NULL;
+    file->is_open = begin_input(input, file->path);
+    if (!is_alone) input->capture.follow = NULL;
     if (file->is_open) {
         if (files->has_whole) file->defragmenter = begin_defragmenter(DEFAULT_SLOTS, false);
-        if (file->defragmenter) pass_whole(file->defragmenter, &input.capture);
-        file->is_memory_short = (files->has_whole && !file->defragmenter) || !count_capture(&file->counts, &input.capture);
+        if (file->defragmenter) pass_whole(file->defragmenter, &input->capture);
+        file->is_memory_short = (files->has_whole && !file->defragmenter) || !count_capture(&file->counts, &input->capture);
         if (file->defragmenter) stop_defragmenter(file->defragmenter);
-        end_input(&input);
+        end_input(input);
     }
-    file->name = input.capture.name;
-    memcpy(file->error, input.capture.error, sizeof file->error);
+    file->name = input->capture.name;
+    memcpy(file->error, input->capture.error, sizeof file->error);
+}
+
+/* Counts a file by its number, unless reading was stopped before. The input is too large for the stacks of some threads. */
+static void count_file(struct counted_file *file, const struct files *files, size_t number, bool is_alone)
+{
+    memset(file, 0, sizeof *file);
+    file->name = file->path = files->paths[number];
+    init_counts(&file->counts, files->has_tunnels);
+    if (stop_signal) return;
+    struct input *input = malloc(sizeof *input);
+    file->is_memory_short = !input;
+    if (input) count_packets(file, files, input, is_alone);
+    free(input);
 }
 
 /* Releases what is known of a file. */

@@ -34,6 +34,17 @@ static const struct option_row options[] = {
     {"keep", set_flag, offsetof(struct request, keeps), NULL},
 };
 
+/* Writes the fragments that were kept. Those of a section that isn't the last one follow that section's header once more. */
+static void write_kept(struct output *output, struct defragmenter *defragmenter, const struct capture *capture)
+{
+    struct packet packet;
+    const struct section *section;
+    while (!has_output_failed(output) && next_kept(defragmenter, &packet, &section)) {
+        if (section) write_blocks(output, capture, section->blocks, section->len);
+        write_packet(output, capture, &packet);
+    }
+}
+
 /* Writes all packets. */
 static bool write_packets(struct output *output, const struct request *request, struct defragmenter *defragmenter,
                           struct capture *capture)
@@ -42,10 +53,9 @@ static bool write_packets(struct output *output, const struct request *request, 
     pass_whole(defragmenter, capture);
     while (!has_output_failed(output) && read_packet(capture, &packet)) write_packet(output, capture, &packet);
     stop_defragmenter(defragmenter);
-    while (request->keeps && !has_output_failed(output) && next_kept(defragmenter, &packet))
-        write_packet(output, capture, &packet);
+    if (request->keeps) write_kept(output, defragmenter, capture);
     report_fragments(defragmenter, capture->name);
-    return finish_copy(output, request->output);
+    return finish_copy(output, request->output) && has_kept_all(defragmenter);
 }
 
 static bool defragment_file(const struct request *request, const char *path)
@@ -68,8 +78,8 @@ int run_defrag(int count, char **arguments)
     struct request request = {.slots = DEFAULT_SLOTS};
     int status = read_options(count, arguments, usage, options, sizeof options / sizeof *options, &request);
     if (status >= 0) return status;
-    if (count - optind > 1) return refuse_usage(usage, "defrag reads a single file");
+    if (count - optind > 1) return refuse_usage("ipcap defrag", "defrag reads a single file");
     if (is_standard_stream(request.output) && isatty(STDOUT_FILENO))
-        return refuse_usage(usage, "refusing to write a capture to a terminal: use -w or a pipe");
+        return refuse_usage("ipcap defrag", "refusing to write a capture to a terminal: use -w or a pipe");
     return defragment_file(&request, arguments[optind]) ? STATUS_DONE : STATUS_FAILED;
 }

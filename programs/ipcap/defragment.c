@@ -21,16 +21,10 @@ enum { BLOCK_HEAD = 28, BLOCK_END = 8 };
 /* How long the link headers of a first fragment are at most. Those of frames with longer ones are of the last fragment. */
 enum { MOST_LINK_LEN = 256 };
 
-/* A fragment that is kept. */
-struct kept {
-    struct kept *next;
-    uint64_t number;
-    struct packet packet; /* with a frame and a block of its own, after this struct */
-};
-
 /* What the frames of an incomplete packet had besides the packet. */
 struct pending {
     uint64_t fragments; /* number of fragments that arrived; 0 if the slot is free */
+    uint64_t lost;      /* number of those that weren't kept, since memory ran out */
     struct kept *kept;
     int link_type;
     uint16_t link_len; /* length of the first fragment's link headers */
@@ -39,7 +33,7 @@ struct pending {
 };
 
 /* Why fragments made no packet whole, besides the outcomes that aren't 0 to 2. */
-enum { LEFT_TIMED_OUT = 13, LEFT_DISPLACED, LEFT_INCOMPLETE, LEFT_UNSTATED, LEFT_REASONS };
+enum { LEFT_TIMED_OUT = WOLFAREN_MIXED_ECN + 1, LEFT_DISPLACED, LEFT_INCOMPLETE, LEFT_LONG_LINK, LEFT_REASONS };
 
 struct defragmenter {
     size_t slot_count;
@@ -47,12 +41,16 @@ struct defragmenter {
     struct wolfaren_packet_memory *memories;
     struct pending *pendings;
     struct wolfaren_defragmenter_counts counts;
-    uint32_t factor;
+    struct wolfaren_defragmenter_settings settings;
     uint64_t time; /* of the last packet that had one, in nanoseconds */
     bool keeps;
+    struct keeper keeper;
     struct kept *kept; /* those that made no packet whole; sorted after it was stopped */
     struct kept *last; /* the one that `next_kept` returned last */
+    const struct section *section; /* the one that was written last */
+    bool (*copy)(struct capture *capture, const uint8_t *block, size_t len); /* how blocks are copied */
     uint64_t left[LEFT_REASONS]; /* number of fragments by reason */
+    uint64_t lost; /* number of those that weren't kept, since memory ran out */
     uint8_t block[BLOCK_HEAD + MOST_LINK_LEN + WOLFAREN_WHOLE_PACKET_ROOM + BLOCK_END];
 };
 
@@ -81,25 +79,25 @@ static void release_all(struct defragmenter *defragmenter)
     defragmenter->slot_count = 0;
 }
 
-/* Frees a list of fragments. */
-static void free_list(struct kept *list)
-{
-    while (list) {
-        struct kept *next = list->next;
-        free(list);
-        list = next;
-    }
-}
-
 void end_defragmenter(struct defragmenter *defragmenter)
 {
     if (!defragmenter) return;
     for (size_t i = 0; defragmenter->pendings && defragmenter->keeps && i < defragmenter->slot_count; i++)
-        free_list(defragmenter->pendings[i].kept);
-    free_list(defragmenter->kept);
-    free(defragmenter->last);
+        free_kept(&defragmenter->keeper, defragmenter->pendings[i].kept);
+    free_kept(&defragmenter->keeper, defragmenter->kept);
+    free_kept(&defragmenter->keeper, defragmenter->last);
+    end_keeper(&defragmenter->keeper);
     release_all(defragmenter);
     free(defragmenter);
+}
+
+/* Returns settings with a random seed. If the system has no random numbers, the seed is 0, which senders can guess. */
+static struct wolfaren_defragmenter_settings random_settings(void)
+{
+    struct wolfaren_defragmenter_settings settings = {.timeout = WOLFAREN_DEFAULT_TIMEOUT};
+    if (getrandom(settings.seed, sizeof settings.seed, 0) != sizeof settings.seed)
+        memset(settings.seed, 0, sizeof settings.seed);
+    return settings;
 }
 
 struct defragmenter *begin_defragmenter(uint64_t slots, bool keeps)
@@ -111,48 +109,19 @@ struct defragmenter *begin_defragmenter(uint64_t slots, bool keeps)
         defragmenter->slots = reserve(slots, sizeof *defragmenter->slots);
         defragmenter->memories = reserve(slots, sizeof *defragmenter->memories);
         defragmenter->pendings = reserve(slots, sizeof *defragmenter->pendings);
-        if (getrandom(&defragmenter->factor, sizeof defragmenter->factor, 0) < 0) defragmenter->factor = 0x9e3779b1;
+        defragmenter->settings = random_settings();
         if (defragmenter->slots && defragmenter->memories && defragmenter->pendings) return defragmenter;
     }
     end_defragmenter(defragmenter);
     return NULL;
 }
 
-/* Returns a copy of a packet, or null without memory. */
-static struct kept *copy_of(const struct capture *capture, const struct packet *packet)
-{
-    size_t frame_len = packet->block ? packet->block_len : packet->header.caplen;
-    struct kept *kept = malloc(sizeof *kept + frame_len);
-    if (!kept) return NULL;
-    uint8_t *bytes = (uint8_t *)(kept + 1);
-    memcpy(bytes, packet->block ? packet->block : packet->frame, frame_len);
-    kept->number = capture->number;
-    kept->packet = *packet;
-    kept->packet.block = packet->block ? bytes : NULL;
-    kept->packet.frame = packet->block ? bytes + (packet->frame - packet->block) : bytes;
-    return kept;
-}
-
-/* Keeps a fragment in a list, if fragments are kept. Without memory it isn't kept, and that is reported. */
-static void keep(struct defragmenter *defragmenter, struct kept **list, const struct capture *capture,
-                 const struct packet *packet)
-{
-    if (!defragmenter->keeps) return;
-    struct kept *kept = copy_of(capture, packet);
-    if (!kept) {
-        complain_of_memory();
-        return;
-    }
-    kept->next = *list;
-    *list = kept;
-}
-
 /* Frees the fragments of a packet that is whole. */
-static void forget(struct pending *pending)
+static void forget(struct defragmenter *defragmenter, struct pending *pending)
 {
-    free_list(pending->kept);
+    free_kept(&defragmenter->keeper, pending->kept);
     pending->kept = NULL;
-    pending->fragments = 0;
+    pending->fragments = pending->lost = 0;
     pending->has_link = false;
 }
 
@@ -164,8 +133,9 @@ static void give_up(struct defragmenter *defragmenter, struct pending *pending, 
     *end = defragmenter->kept;
     defragmenter->kept = pending->kept;
     defragmenter->left[reason] += pending->fragments;
+    defragmenter->lost += pending->lost;
     pending->kept = NULL;
-    forget(pending);
+    forget(defragmenter, pending);
 }
 
 /* Notes a fragment that was accepted. If it is the first one, copies its link headers. */
@@ -173,7 +143,7 @@ static void note(struct defragmenter *defragmenter, struct pending *pending, siz
                  const struct capture *capture, const struct packet *packet)
 {
     pending->fragments++;
-    keep(defragmenter, &pending->kept, capture, packet);
+    if (defragmenter->keeps && !keep(&defragmenter->keeper, &pending->kept, capture, packet)) pending->lost++;
     if (pending->has_link || !defragmenter->memories[slot].first_here || packet->ip_offset > MOST_LINK_LEN) return;
     pending->has_link = true;
     pending->link_type = packet->link_type;
@@ -181,16 +151,27 @@ static void note(struct defragmenter *defragmenter, struct pending *pending, siz
     memcpy(pending->link, packet->frame, packet->ip_offset);
 }
 
-/* Whether numbers of the block with a packet are in the byte order in which the least significant byte is the first. */
-static bool is_little(const struct packet *packet)
+/* Returns the type of the block with a packet. */
+static uint32_t block_type(const struct packet *packet)
 {
-    return is_little_endian(packet->block, packet->block_len);
+    return block_number(packet->block, !packet->is_big_endian);
 }
 
-/* Returns the type of the block with a packet. */
-static unsigned block_type(const struct packet *packet)
+/* Returns the number of the interface of a packet, which is 0 in a simple packet block and in other files than pcapng. */
+static uint32_t interface_of(const struct packet *packet)
 {
-    return is_little(packet) ? packet->block[0] : packet->block[3];
+    if (!packet->block || block_type(packet) == SIMPLE_PACKET) return 0;
+    bool little = !packet->is_big_endian;
+    uint32_t number = block_number(packet->block + 8, little);
+    if (block_type(packet) == ENHANCED_PACKET) return number;
+    return little ? number & 0xffff : number >> 16;
+}
+
+/* Returns the context of a packet: its interface, of which only the last 8 bits count, and its first two VLANs. */
+static uint32_t context_of(const struct capture *capture, const struct packet *packet)
+{
+    enum { VLAN_BITS = 24 };
+    return interface_of(packet) << VLAN_BITS | vlans_of(capture->link_layer, packet->frame, packet->header.caplen);
 }
 
 /*
@@ -199,17 +180,15 @@ static unsigned block_type(const struct packet *packet)
  */
 static void make_block(struct defragmenter *defragmenter, struct packet *packet)
 {
-    bool little = is_little(packet), is_simple = block_type(packet) == SIMPLE_PACKET;
+    bool little = !packet->is_big_endian, is_simple = block_type(packet) == SIMPLE_PACKET;
     uint32_t len = packet->header.caplen, padded = padded_len(len);
     uint8_t *block = is_simple ? defragmenter->block + BLOCK_HEAD - 12 : defragmenter->block;
     uint32_t block_len = (is_simple ? 16 : 32) + padded;
-    uint32_t interface = block_number(packet->block + 8, little);
     put_block_number(block, is_simple ? SIMPLE_PACKET : ENHANCED_PACKET, little);
     put_block_number(block + 4, block_len, little);
     if (!is_simple) {
-        bool is_enhanced = block_type(packet) == ENHANCED_PACKET;
         memcpy(block + 8, packet->block + 8, 12);
-        if (!is_enhanced) put_block_number(block + 8, little ? interface & 0xffff : interface >> 16, little);
+        put_block_number(block + 8, interface_of(packet), little);
         put_block_number(block + 20, len, little);
     }
     put_block_number(defragmenter->block + BLOCK_HEAD - 4, len, little);
@@ -219,7 +198,7 @@ static void make_block(struct defragmenter *defragmenter, struct packet *packet)
     packet->block_len = block_len;
 }
 
-/* Replaces the last fragment of a packet by the whole one. Returns false if it can't be written. */
+/* Replaces the last fragment of a packet by the whole one. Returns false if its link headers are too long. */
 static bool make_whole(struct defragmenter *defragmenter, struct pending *pending, size_t slot, struct packet *packet)
 {
     uint8_t *frame = defragmenter->block + BLOCK_HEAD;
@@ -245,85 +224,78 @@ static void note_time(struct defragmenter *defragmenter, const struct capture *c
     defragmenter->time = (uint64_t)time.tv_sec * 1000000000 + (uint64_t)time.tv_nsec;
 }
 
-/* Whether an outcome is that of a fragment whose packet has a slot. */
-static bool has_slot(const struct wolfaren_added *added)
-{
-    return added->outcome == WOLFAREN_MORE_WANTED || added->outcome == WOLFAREN_WHOLE
-        || (added->outcome >= WOLFAREN_UNALIGNED && added->outcome <= WOLFAREN_HEADERS_TOO_LONG);
-}
-
 /* Adds a packet. Returns whether it is to be read, changed or not. */
 static bool add(struct defragmenter *defragmenter, struct capture *capture, struct packet *packet)
 {
     struct wolfaren_added added;
     note_time(defragmenter, capture, packet);
     if (!wolfaren_defragment(defragmenter->slots, defragmenter->slot_count, defragmenter->memories,
-                             defragmenter->slot_count, &defragmenter->counts, defragmenter->factor,
+                             defragmenter->slot_count, &defragmenter->counts, &defragmenter->settings,
                              packet->frame + packet->ip_offset, packet->header.caplen - packet->ip_offset,
-                             defragmenter->time, &added))
+                             context_of(capture, packet), defragmenter->time, &added))
         return true;
     if (added.outcome == WOLFAREN_NOT_FRAGMENT) return true;
-    struct pending *pending = has_slot(&added) ? &defragmenter->pendings[added.slot] : NULL;
+    struct pending *pending = &defragmenter->pendings[added.slot]; /* used after a loss, or if the fragment was stored */
     if (added.loss != WOLFAREN_NO_LOSS)
         give_up(defragmenter, pending, added.loss == WOLFAREN_TIMED_OUT ? LEFT_TIMED_OUT : LEFT_DISPLACED);
     if (added.outcome > WOLFAREN_WHOLE) {
         defragmenter->left[added.outcome]++;
-        keep(defragmenter, &defragmenter->kept, capture, packet);
+        if (defragmenter->keeps && !keep(&defragmenter->keeper, &defragmenter->kept, capture, packet)) defragmenter->lost++;
         return false;
     }
     note(defragmenter, pending, added.slot, capture, packet);
     if (added.outcome == WOLFAREN_MORE_WANTED) return false;
     bool is_whole = make_whole(defragmenter, pending, added.slot, packet);
     if (is_whole)
-        forget(pending);
+        forget(defragmenter, pending);
     else
-        give_up(defragmenter, pending, LEFT_UNSTATED);
+        give_up(defragmenter, pending, LEFT_LONG_LINK);
     return is_whole;
 }
 
-/* Merges two sorted lists. */
-static struct kept *merge(struct kept *a, struct kept *b)
+/*
+ * Makes a simple packet block that the snap length truncated state the captured length: the snap length, which said how many
+ * bytes there are, isn't copied.
+ */
+static void state_captured_len(struct capture *capture, struct packet *packet)
 {
-    struct kept *first = NULL, **end = &first;
-    while (a && b) {
-        struct kept **least = a->number <= b->number ? &a : &b;
-        *end = *least;
-        end = &(*least)->next;
-        *least = (*least)->next;
-    }
-    *end = a ? a : b;
-    return first;
-}
-
-/* Sorts a list by the numbers of the packets. */
-static struct kept *sort(struct kept *list)
-{
-    struct kept *sorted[64] = {NULL}, *all = NULL;
-    while (list) {
-        struct kept *one = list;
-        size_t i = 0;
-        list = list->next;
-        one->next = NULL;
-        for (; i < 63 && sorted[i]; i++) {
-            one = merge(sorted[i], one);
-            sorted[i] = NULL;
-        }
-        sorted[i] = one;
-    }
-    for (size_t i = 0; i < 64; i++) all = merge(sorted[i], all);
-    return all;
+    enum { SIMPLE_LEN_AT = 8 };
+    if (!capture->copy || !packet->is_short || block_type(packet) != SIMPLE_PACKET) return;
+    put_block_number(capture->blocks.file.block + SIMPLE_LEN_AT, packet->header.caplen, !packet->is_big_endian);
+    packet->header.len = packet->header.caplen;
 }
 
 /* Passes a packet that was read: all but fragments, and whole packets. */
 static bool pass(struct capture *capture, struct packet *packet)
 {
+    state_captured_len(capture, packet);
     return !packet->is_ip || packet->is_left_out || add(capture->passer, capture, packet);
+}
+
+/* Notes a block of the head of a pcapng file. */
+static void note_head_block(uint8_t *block, size_t len, bool is_little, void *place)
+{
+    struct defragmenter *defragmenter = place;
+    note_block(&defragmenter->keeper, block, len, is_little);
+}
+
+/* Copies the last block that was read, which is no packet, and notes it. */
+static bool copy_block(struct capture *capture, const uint8_t *block, size_t len)
+{
+    struct defragmenter *defragmenter = capture->passer;
+    if (!defragmenter->copy(capture, block, len)) return false;
+    note_block(&defragmenter->keeper, block, len, !capture->blocks.file.is_big_endian);
+    return true;
 }
 
 void pass_whole(struct defragmenter *defragmenter, struct capture *capture)
 {
     capture->pass = pass;
     capture->passer = defragmenter;
+    if (!defragmenter->keeps || !capture->copy) return;
+    visit_blocks(capture->blocks.head, capture->blocks.head_len, note_head_block, defragmenter);
+    defragmenter->copy = capture->copy;
+    capture->copy = copy_block;
 }
 
 void stop_defragmenter(struct defragmenter *defragmenter)
@@ -331,17 +303,26 @@ void stop_defragmenter(struct defragmenter *defragmenter)
     for (size_t i = 0; i < defragmenter->slot_count; i++)
         if (defragmenter->pendings[i].fragments > 0) give_up(defragmenter, &defragmenter->pendings[i], LEFT_INCOMPLETE);
     release_all(defragmenter);
-    defragmenter->kept = sort(defragmenter->kept);
+    defragmenter->kept = sort_kept(defragmenter->kept);
+    defragmenter->section = defragmenter->keeper.section;
 }
 
-bool next_kept(struct defragmenter *defragmenter, struct packet *packet)
+bool next_kept(struct defragmenter *defragmenter, struct packet *packet, const struct section **section)
 {
-    free(defragmenter->last);
-    defragmenter->last = defragmenter->kept;
-    if (!defragmenter->last) return false;
-    defragmenter->kept = defragmenter->last->next;
-    *packet = defragmenter->last->packet;
+    free_kept(&defragmenter->keeper, defragmenter->last);
+    struct kept *kept = defragmenter->last = defragmenter->kept;
+    if (!kept) return false;
+    defragmenter->kept = kept->next;
+    kept->next = NULL;
+    *packet = kept->packet;
+    *section = kept->section == defragmenter->section ? NULL : kept->section;
+    defragmenter->section = kept->section;
     return true;
+}
+
+bool has_kept_all(const struct defragmenter *defragmenter)
+{
+    return defragmenter->lost == 0;
 }
 
 void report_fragments(const struct defragmenter *defragmenter, const char *name)
@@ -351,19 +332,23 @@ void report_fragments(const struct defragmenter *defragmenter, const char *name)
         [WOLFAREN_NO_STATED_LENGTH] = "that state no length",
         [WOLFAREN_BYTES_MISSING] = "of which bytes are missing",
         [WOLFAREN_UNALIGNED] = "whose length isn't a positive multiple of 8, though more follow",
-        [WOLFAREN_TOO_LONG] = "that end after byte 65,535",
+        [WOLFAREN_TOO_LONG] = "that make their packet too long for its length field",
         [WOLFAREN_OVERLAP] = "that overlap others",
         [WOLFAREN_TWO_ENDS] = "that contradict the end of their packet",
-        [WOLFAREN_ABANDONED] = "of packets with an overlap or two ends",
+        [WOLFAREN_ABANDONED] = "of packets with an overlap, two ends or mixed ECN code points",
         [WOLFAREN_HEADERS_TOO_LONG] = "with more than 4,096 bytes of headers",
         [WOLFAREN_NO_SLOT] = "without a slot",
+        [WOLFAREN_MIXED_ECN] = "that are ECN-capable where others of their packet aren't, or the reverse",
         [LEFT_TIMED_OUT] = "of packets that weren't whole after 60 seconds",
         [LEFT_DISPLACED] = "of packets given up for others, since all slots were in use",
         [LEFT_INCOMPLETE] = "of packets that aren't whole at the end",
-        [LEFT_UNSTATED] = "of packets that are too long for their length field",
+        [LEFT_LONG_LINK] = "of packets with more than 256 bytes of link-layer headers",
     };
     for (int i = 0; i < LEFT_REASONS; i++)
         if (defragmenter->left[i] > 0)
             complain("%s: %llu %s %s", name, (unsigned long long)defragmenter->left[i],
                      defragmenter->left[i] == 1 ? "fragment" : "fragments", reasons[i]);
+    if (defragmenter->lost > 0)
+        complain("%s: %llu of these %s kept: out of memory", name, (unsigned long long)defragmenter->lost,
+                 defragmenter->lost == 1 ? "wasn't" : "weren't");
 }

@@ -6,6 +6,7 @@
 #include <stdint.h>
 
 #include "capture.h"
+#include "kept.h"
 
 /* How many packets can be incomplete at once, unless it is said otherwise. */
 enum { DEFAULT_SLOTS = 4096 };
@@ -30,9 +31,13 @@ void stop_defragmenter(struct defragmenter *defragmenter);
 
 /*
  * Stores the next of the fragments that were kept, in the order of the capture, and returns true. At the end, returns false. The
- * defragmenter must have been stopped.
+ * defragmenter must have been stopped. If the fragment is of another section than the packet before it, stores the section,
+ * otherwise null.
  */
-bool next_kept(struct defragmenter *defragmenter, struct packet *packet);
+bool next_kept(struct defragmenter *defragmenter, struct packet *packet, const struct section **section);
+
+/* Whether memory was enough for all fragments that were to be kept. */
+bool has_kept_all(const struct defragmenter *defragmenter);
 
 /* Reports how many fragments of the capture made no packet whole, by reason. It must have been stopped. */
 void report_fragments(const struct defragmenter *defragmenter, const char *name);

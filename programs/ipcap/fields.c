@@ -75,7 +75,7 @@ static bool read_fault(const char *name, size_t *element)
 const struct scalar scalars[SCALARS] = {
     {FIELD(other_frames), "frames without an IP packet"},
     {FIELD(truncated_frames), "frames truncated by the snap length"},
-    {FIELD(packets), "IP packets"},
+    [PACKETS] = {FIELD(packets), "IP packets"},
     {FIELD(without_header), "packets without an IP header"},
     {FIELD(ipv4), "IPv4 packets"},
     {FIELD(ipv6), "IPv6 packets"},

@@ -33,8 +33,8 @@ struct array {
 /* The number of fields of each kind, and the largest number of elements of an array. */
 enum { SCALARS = 17, ARRAYS = 7, ARRAY_ELEMENTS = 256 };
 
-/* The index of the count of mismatched packets, which version 1.3 of JSON doesn't have. */
-enum { MISMATCHED = SCALARS - 1 };
+/* The index of the count of packets, and of that of mismatched ones, which version 1.3 of JSON doesn't have. */
+enum { PACKETS = 2, MISMATCHED = SCALARS - 1 };
 
 /*
  * The version of the JSON format. With another major number, members mean something else. With a larger minor number,

@@ -4,12 +4,12 @@
 #include <stddef.h>
 #include <stdio.h>
 #include <string.h>
-#include <sys/stat.h>
 #include <unistd.h>
 
 #include "arguments.h"
 #include "commands.h"
 #include "condition.h"
+#include "copy.h"
 #include "defragment.h"
 #include "input.h"
 #include "long_output.h"
@@ -17,6 +17,7 @@
 #include "output.h"
 #include "program.h"
 #include "report.h"
+#include "stop.h"
 #include "terms.h"
 #include "wolfaren.h"
 
@@ -26,8 +27,8 @@ static const char usage[] =
     "       ipcap filter --show COND\n"
     "       ipcap filter --help-terms\n"
     "Writes the packets of each FILE, or standard input, that meet a condition.\n"
-    "  COND          terms such as `fragment`, `header 44` or `payload > 1000`, combined with `not`, `and`, `or` and\n"
-    "                parentheses\n"
+    "  COND          `any`, or terms such as `fragment`, `header 44` or `payload > 1000`, combined with `not`, `and`, `or`\n"
+    "                and parentheses\n"
     "  -c N          stop after N packets that meet the condition\n"
     "  -n            accepted as for tcpdump, and ignored\n"
     "  -r FILE       read this file, as tcpdump does: all operands are then the condition\n"
@@ -83,6 +84,7 @@ struct target {
     int link_type;     /* one of libpcap's DLT_ values */
     bool has_failed;   /* nothing more can be written, and why was reported */
     bool has_left_out; /* packets of the last file don't fit into the output */
+    bool has_empty;    /* there was a file without interfaces */
 };
 
 static bool refuse_output(struct target *target, const char *words)
@@ -98,33 +100,46 @@ static bool is_written(struct target *target)
     return has_output_failed(&target->output) ? refuse_output(target, target->output.error) : true;
 }
 
-/* Whether the output is one of the files to read, which opening it for writing would truncate. */
-static bool is_input(const struct request *request)
+/* Whether the output is one of the files to read. */
+static bool is_any_input(const struct request *request)
 {
-    struct stat input, output;
-    if (stat(request->output, &output) != 0 || !S_ISREG(output.st_mode)) return false;
-    for (int i = 0; i < request->file_count; i++) {
-        const char *path = request->files[i];
-        if ((is_standard_stream(path) ? fstat(STDIN_FILENO, &input) : stat(path, &input)) != 0) continue;
-        if (input.st_dev == output.st_dev && input.st_ino == output.st_ino) return true;
-    }
-    return false;
+    bool is_any = false;
+    for (int i = 0; i < request->file_count && !is_any; i++) is_any = is_input(request->output, request->files[i]);
+    return is_any;
+}
+
+/* Opens the file that is written, or takes standard output. Returns null on failure, which is reported. */
+static FILE *open_target(struct target *target, const struct request *request)
+{
+    bool is_standard = is_standard_stream(request->output), is_same = is_any_input(request);
+    target->name = is_standard ? "standard output" : request->output;
+    FILE *file = is_same ? NULL : is_standard ? stdout : fopen(request->output, "wb");
+    if (!file) refuse_output(target, is_same ? "input and output are the same file" : strerror(errno));
+    return file;
 }
 
 /* Opens the output. For a single file, it has the format, the snap length and the timestamp precision of that. */
 static bool open_output(struct target *target, const struct request *request, struct capture *capture)
 {
-    bool is_standard = is_standard_stream(request->output);
-    target->name = is_standard ? "standard output" : request->output;
+    FILE *file = open_target(target, request);
     target->first = capture->name;
     target->link_type = capture->link_type;
-    if (!is_standard && is_input(request)) return refuse_output(target, "input and output are the same file");
-    FILE *file = is_standard ? stdout : fopen(request->output, "wb");
-    if (!file) return refuse_output(target, strerror(errno));
+    if (!file) return false;
     if (request->file_count == 1)
         (request->has_whole ? begin_long_output : begin_output)(&target->output, capture, file);
     else if (begin_joint_output(&target->output, target->link_type, file) && capture->is_live)
         flush_output(&target->output);
+    return is_written(target);
+}
+
+/* Writes an output without interfaces and packets, if all files that could be read were without. Returns false on failure. */
+static bool write_empty_output(struct target *target, const struct request *request)
+{
+    if (target->output.file || target->has_failed || !target->has_empty) return true;
+    FILE *file = open_target(target, request);
+    if (!file) return false;
+    errno = 0;
+    if (begin_empty_output(&target->output, file)) flush_output(&target->output);
     return is_written(target);
 }
 
@@ -228,18 +243,28 @@ static bool filter_file(const struct request *request, struct target *target, co
     struct capture *capture = &input.capture;
     if (!open_input(&input, path)) return false;
     if (!is_standard_stream(request->output)) allow_progress(&input);
-    if (request->file_count > 1 && has_no_link_type(capture)) return close_input(&input);
+    if (request->file_count > 1 && has_no_link_type(capture)) {
+        target->has_empty = true;
+        return close_input(&input);
+    }
     bool is_open = target->output.file ? has_link_type(target, capture) : open_output(target, request, capture);
     bool is_done = is_open && (request->has_whole ? filter_whole_packets : filter_packets)(request, target, capture);
     return close_input(&input) && is_done;
+}
+
+/* Whether another file is to be read. */
+static bool wants_files(const struct request *request, const struct target *target)
+{
+    return target->output.written < request->most && !target->has_failed && !stop_signal;
 }
 
 static bool filter_files(const struct request *request)
 {
     struct target target = {0};
     bool is_done = true;
-    for (int i = 0; i < request->file_count && target.output.written < request->most && !target.has_failed; i++)
+    for (int i = 0; i < request->file_count && wants_files(request, &target); i++)
         if (!filter_file(request, &target, request->files[i])) is_done = false;
+    if (!write_empty_output(&target, request)) is_done = false;
     end_output(&target.output);
     return is_done;
 }
@@ -277,15 +302,15 @@ static void choose_files(struct request *request, int count, char *const *operan
 static int read_operands(struct request *request, int count, char *const *operands)
 {
     int taken;
-    if (count == 0) return refuse_usage(usage, "filter needs a condition");
+    if (count == 0) return refuse_usage("ipcap filter", "filter needs a condition");
     int status = read_condition(request->condition, count, operands, request->input != NULL, &taken);
     if (status >= 0) return status;
     if (request->is_shown)
         return request->input || request->output || taken < count
-            ? refuse_usage(usage, "--show takes only a condition") : -1;
+            ? refuse_usage("ipcap filter", "--show takes only a condition") : -1;
     if (taken < count && !is_file(operands[taken])) return STATUS_FAILED;
     if (is_standard_stream(request->output) && isatty(STDOUT_FILENO))
-        return refuse_usage(usage, "refusing to write a capture to a terminal: use -w or a pipe");
+        return refuse_usage("ipcap filter", "refusing to write a capture to a terminal: use -w or a pipe");
     choose_files(request, count - taken, operands + taken);
     return -1;
 }

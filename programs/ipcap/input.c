@@ -1,39 +1,23 @@
 #include "input.h"
 
-#include <signal.h>
 #include <stdio.h>
 #include <sys/stat.h>
 #include <unistd.h>
 
 #include "report.h"
+#include "stop.h"
 #include "text.h"
 
 /* How many packets are read between two checks whether to update the progress line. */
 enum { PROGRESS_PACKETS = 1024 };
 
-static void leave_interrupt(int signal_number)
-{
-    (void)signal_number;
-}
-
-/*
- * Ignores the first interrupt, which the program at the other end of the pipe receives too: whatever it still writes is
- * read. The second interrupt ends this program.
- */
-static void outlive_interrupt(void)
-{
-    struct sigaction action = {.sa_handler = leave_interrupt, .sa_flags = (int)(SA_RESTART | SA_RESETHAND)};
-    struct sigaction before;
-    if (sigaction(SIGINT, NULL, &before) == 0 && before.sa_handler == SIG_DFL) sigaction(SIGINT, &action, NULL);
-}
-
-/* Determines how long the file at a path is, and outlives an interrupt if it is a pipe. */
+/* Determines how long the file at a path is, and ignores an interrupt if it is a pipe. */
 static void look_at_file(struct input *input, const char *path)
 {
     struct stat status;
     if ((is_standard_stream(path) ? fstat(STDIN_FILENO, &status) : stat(path, &status)) != 0) return;
     if (S_ISREG(status.st_mode)) input->len = status.st_size;
-    if (S_ISFIFO(status.st_mode)) outlive_interrupt();
+    if (S_ISFIFO(status.st_mode)) spare_interrupt();
 }
 
 /* What moves the cursor to the start of the line and erases the line. */
@@ -114,6 +98,9 @@ bool begin_input(struct input *input, const char *path)
     *input = (struct input){0};
     look_at_file(input, path);
     if (!open_capture(&input->capture, path)) return false;
+    input->capture.stop = &stop_signal;
+    input->capture.source.wait = wait_for_bytes;
+    begin_stopping();
     if (shows_progress()) allow_progress(input);
     return true;
 }
@@ -122,6 +109,7 @@ void end_input(struct input *input)
 {
     clear_progress(input);
     close_capture(&input->capture);
+    end_stopping();
 }
 
 bool open_input(struct input *input, const char *path)

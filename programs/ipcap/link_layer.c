@@ -178,6 +178,18 @@ static enum layer skip_typed_or_length(struct rest *rest, const struct typed_hea
     return number <= MAX_LENGTH ? LAYER_LLC : layer_of(rest, &ethertypes, number);
 }
 
+/* IEEE 802.1Q: notes the identifier of a VLAN, the last 12 bits of the first two bytes. */
+static enum layer skip_vlan_tag(struct rest *rest)
+{
+    enum { IDENTIFIER_MASK = 0xfff, IDENTIFIER_BITS = 12 };
+    if (rest->len >= vlan_tag.len && rest->tags < 2) {
+        uint32_t identifier = number_at(rest->bytes) & IDENTIFIER_MASK;
+        rest->vlans |= identifier << (rest->tags == 0 ? IDENTIFIER_BITS : 0);
+        rest->tags++;
+    }
+    return skip_typed_or_length(rest, &vlan_tag);
+}
+
 /* IEEE 802.2, with the service access points and the control byte of SNAP (RFC 1042). */
 static enum layer skip_llc(struct rest *rest)
 {
@@ -380,7 +392,7 @@ static enum layer skip_layer(struct rest *rest, enum layer layer)
         case LAYER_IP: break;
         case LAYER_IP_BY_VERSION: return ip_by_version(rest);
         case LAYER_ETHERNET: return skip_typed_or_length(rest, &ethernet);
-        case LAYER_VLAN_TAG: return skip_typed_or_length(rest, &vlan_tag);
+        case LAYER_VLAN_TAG: return skip_vlan_tag(rest);
         case LAYER_LLC: return skip_llc(rest);
         case LAYER_SNAP: return skip_snap(rest);
         case LAYER_TOKEN_RING: return skip_token_ring(rest);
@@ -421,11 +433,24 @@ static bool skip_to_ip(struct rest *rest, enum layer layer)
     return layer == LAYER_IP;
 }
 
+/* Skips the headers of a frame up to the IP packet. Returns false if there is none. */
+static bool skip_frame(struct rest *rest, const struct link_layer *link_layer)
+{
+    return skip_to_ip(rest, skip(rest, link_layer->before) ? link_layer->first : LAYER_OTHER);
+}
+
+uint32_t vlans_of(const struct link_layer *link_layer, const uint8_t *frame, size_t len)
+{
+    struct rest rest = {.bytes = frame, .len = len};
+    skip_frame(&rest, link_layer);
+    return rest.vlans;
+}
+
 bool find_ip(const struct link_layer *link_layer, const uint8_t *frame, size_t len, size_t *offset,
              struct protocol *protocol)
 {
     struct rest rest = {.bytes = frame, .len = len};
-    bool is_ip = skip_to_ip(&rest, skip(&rest, link_layer->before) ? link_layer->first : LAYER_OTHER);
+    bool is_ip = skip_frame(&rest, link_layer);
     *offset = len - rest.len;
     *protocol = rest.protocol;
     return is_ip;

@@ -35,6 +35,12 @@ const struct link_layer *find_link_layer(int number);
 bool find_ip(const struct link_layer *link_layer, const uint8_t *frame, size_t len, size_t *offset,
              struct protocol *protocol);
 
+/*
+ * Returns the VLAN identifiers in the `len` bytes of a frame: that of the first tag in the bits from 12 to 23, and that of the
+ * second one in the bits below. A tag that isn't there has the identifier 0, as one that names no VLAN.
+ */
+uint32_t vlans_of(const struct link_layer *link_layer, const uint8_t *frame, size_t len);
+
 /* Finds the IP packet in the `len` bytes after an EtherType, as `find_ip` does in a frame. */
 bool find_ip_after(unsigned ethertype, const uint8_t *bytes, size_t len, size_t *offset, struct protocol *protocol);
 

@@ -22,8 +22,8 @@ int print_help(const char *usage);
 /* Writes the version to standard output and returns the exit status. */
 int print_version(void);
 
-/* Writes the message, if it isn't null, and the usage text to standard error, and returns STATUS_USAGE. */
-int refuse_usage(const char *usage, const char *message);
+/* Reports that a program such as `ipcap stat` was called in a wrong way, formatted as by printf, and returns STATUS_USAGE. */
+int refuse_usage(const char *program, const char *format, ...) __attribute__((format(printf, 2, 3)));
 
 /*
  * Parses the options of a subcommand: those in the `row_count` rows, whose values are stored in `values`, and `--help`

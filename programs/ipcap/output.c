@@ -46,18 +46,17 @@ bool begin_joint_output(struct output *output, int link_type, FILE *file)
     return is_begun;
 }
 
-/* Writes bytes of a pcapng file. Flushes them immediately if the input is live. */
-static bool write_bytes(struct output *output, const struct capture *capture, const uint8_t *bytes, size_t len)
+bool write_blocks(struct output *output, const struct capture *capture, const uint8_t *blocks, size_t len)
 {
     errno = 0;
-    bool is_written = fwrite(bytes, 1, len, output->file) == len;
+    bool is_written = fwrite(blocks, 1, len, output->file) == len;
     return is_written && !capture->is_live ? true : flush_output(output);
 }
 
 /* Writes a block that is no packet, as it is. */
 static bool copy_block(struct capture *capture, const uint8_t *block, size_t len)
 {
-    return write_bytes(capture->copier, capture, block, len);
+    return write_blocks(capture->copier, capture, block, len);
 }
 
 /* Begins an output with the blocks of a pcapng file. */
@@ -66,7 +65,15 @@ static bool begin_blocks(struct output *output, struct capture *capture, FILE *f
     output->file = file;
     capture->copy = copy_block;
     capture->copier = output;
-    return write_bytes(output, capture, capture->blocks.head, capture->blocks.head_len);
+    return write_blocks(output, capture, capture->blocks.head, capture->blocks.head_len);
+}
+
+bool begin_empty_output(struct output *output, FILE *file)
+{
+    static const uint8_t section[] = {0x0a, 0x0d, 0x0d, 0x0a, 28,   0,    0,    0,    0x4d, 0x3c, 0x2b, 0x1a, 1,  0, 0, 0,
+                                      0xff, 0xff, 0xff, 0xff, 0xff, 0xff, 0xff, 0xff, 28,   0,    0,    0};
+    output->file = file;
+    return fwrite(section, 1, sizeof section, file) == sizeof section || flush_output(output);
 }
 
 bool begin_output(struct output *output, struct capture *capture, FILE *file)
@@ -81,7 +88,7 @@ void write_packet(struct output *output, const struct capture *capture, const st
     struct pcap_pkthdr header = packet->header;
     output->written++;
     if (!output->dumper) {
-        write_bytes(output, capture, packet->block, packet->block_len);
+        write_blocks(output, capture, packet->block, packet->block_len);
         return;
     }
     if (output->is_joint) header.ts.tv_usec = time_of(capture, packet).tv_nsec;

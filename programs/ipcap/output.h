@@ -38,11 +38,17 @@ bool begin_output(struct output *output, struct capture *capture, FILE *file);
  */
 bool begin_joint_output(struct output *output, int link_type, FILE *file);
 
+/* Begins a pcapng file without interfaces, which has no packets. Errors are as for `begin_output`. */
+bool begin_empty_output(struct output *output, FILE *file);
+
 /* Whether writing failed, so that nothing more can be written. */
 bool has_output_failed(const struct output *output);
 
 /* Writes the packet that was read last. Flushes it immediately if the capture is live. On failure, sets `error`. */
 void write_packet(struct output *output, const struct capture *capture, const struct packet *packet);
+
+/* Writes blocks of a pcapng file. Flushes them immediately if the capture is live. On failure, sets `error` and returns false. */
+bool write_blocks(struct output *output, const struct capture *capture, const uint8_t *blocks, size_t len);
 
 /* Flushes an output that was begun. Returns false if that or an earlier write failed; `error` then says why. */
 bool flush_output(struct output *output);

@@ -8,6 +8,7 @@
 #include "capture.h"
 #include "counts.h"
 #include "print_counts.h"
+#include "source.h"
 
 _Static_assert((int)CAPTURE_ERROR_ROOM <= WOLFAREN_PCAP_ERROR_ROOM, "every error fits");
 
@@ -28,26 +29,38 @@ static char *json_of(struct counts *counts)
     return NULL;
 }
 
-/* Counts a capture that was opened, and closes it. Returns the statistics as JSON, or null if memory runs out. */
-static char *count_opened(struct capture *capture)
-{
+/* A capture and its counts, which are too large for the stacks of some threads. */
+struct counting {
+    struct capture capture;
     struct counts counts;
-    init_counts(&counts, false);
-    char *json = count_capture(&counts, capture) ? json_of(&counts) : NULL;
-    close_capture(capture);
-    free_counts(&counts);
+};
+
+/* Counts a capture that was opened, and closes it. Returns the statistics as JSON, or null if memory runs out. */
+static char *count_opened(struct counting *counting)
+{
+    init_counts(&counting->counts, false);
+    char *json = count_capture(&counting->counts, &counting->capture) ? json_of(&counting->counts) : NULL;
+    close_capture(&counting->capture);
+    free_counts(&counting->counts);
     return json;
 }
 
 EXPORTED char *wolfaren_pcap_count(const char *path, char error[WOLFAREN_PCAP_ERROR_ROOM])
 {
-    struct capture capture;
-    bool is_open = open_capture(&capture, path);
-    char *json = is_open ? count_opened(&capture) : NULL;
-    bool is_memory_short = is_open && !json;
-    snprintf(error, WOLFAREN_PCAP_ERROR_ROOM, "%s", is_memory_short ? "out of memory" : capture.error);
-    errno = is_memory_short ? 0 : capture.system_error;
+    struct counting *counting = malloc(sizeof *counting);
+    bool is_open = counting && open_capture(&counting->capture, path);
+    char *json = is_open ? count_opened(counting) : NULL;
+    bool is_memory_short = !counting || (is_open && !json);
+    int system_error = is_memory_short ? 0 : counting->capture.system_error;
+    snprintf(error, WOLFAREN_PCAP_ERROR_ROOM, "%s", is_memory_short ? "out of memory" : counting->capture.error);
+    free(counting);
+    errno = system_error;
     return json;
+}
+
+EXPORTED void wolfaren_pcap_stop_waiting_if(bool (*is_stopped)(void))
+{
+    stop_waiting_if(is_stopped);
 }
 
 EXPORTED void wolfaren_pcap_free(char *json)

@@ -159,23 +159,45 @@ static int outcome_of(struct capture *capture, const struct output *output, char
     return is_left_out ? WOLFAREN_PCAP_LEFT_OUT : WOLFAREN_PCAP_FILTERED;
 }
 
+/* A capture and the buffer of its output, which are too large for the stacks of some threads. */
+struct filtering {
+    struct capture capture;
+    char buffer[OUTPUT_BUFFER];
+};
+
 /* Filters an open capture, and returns where that failed, with its error. */
-static int filter_opened(const struct wolfaren_filter *condition, struct capture *capture, int descriptor,
+static int filter_opened(const struct wolfaren_filter *condition, struct filtering *filtering, int descriptor,
                          struct wolfaren_pcap_counts *counts, char error[WOLFAREN_PCAP_ERROR_ROOM])
 {
-    char buffer[OUTPUT_BUFFER];
     struct output output = {0};
     errno = 0;
-    FILE *file = open_copy(descriptor, buffer);
+    FILE *file = open_copy(descriptor, filtering->buffer);
     if (!file) {
         int system_error = errno;
         write_error(error, system_error ? strerror(system_error) : "out of memory", system_error);
         return WOLFAREN_PCAP_OUTPUT_FAILED;
     }
+    struct capture *capture = &filtering->capture;
     if (begin_output(&output, capture, file)) write_frames(condition, capture, &output);
     end_output(&output);
     *counts = (struct wolfaren_pcap_counts){capture->number, output.written};
     return outcome_of(capture, &output, error);
+}
+
+/* Filters a capture, and returns where that failed, with its error. */
+static int filter_input(const struct wolfaren_filter *condition, struct filtering *filtering, const char *input, int output,
+                        struct wolfaren_pcap_counts *counts, char error[WOLFAREN_PCAP_ERROR_ROOM])
+{
+    struct capture *capture = &filtering->capture;
+    if (!open_capture(capture, input)) {
+        write_error(error, capture->error, capture->system_error);
+        return WOLFAREN_PCAP_INPUT_FAILED;
+    }
+    int outcome = filter_opened(condition, filtering, output, counts, error);
+    int system_error = errno;
+    close_capture(capture);
+    errno = system_error;
+    return outcome;
 }
 
 EXPORTED int wolfaren_pcap_filter(const char *condition, size_t condition_len, const char *input, int output,
@@ -183,19 +205,19 @@ EXPORTED int wolfaren_pcap_filter(const char *condition, size_t condition_len, c
 {
     struct wolfaren_filter filter;
     struct wolfaren_filter_error place;
-    struct capture capture;
     *counts = (struct wolfaren_pcap_counts){0};
     if (!wolfaren_parse_filter(condition, condition_len, &filter, &place)) {
         write_error(error, "the condition is not a filter", 0);
         return WOLFAREN_PCAP_CONDITION_FAILED;
     }
-    if (!open_capture(&capture, input)) {
-        write_error(error, capture.error, capture.system_error);
+    struct filtering *filtering = malloc(sizeof *filtering);
+    if (!filtering) {
+        write_error(error, "out of memory", 0);
         return WOLFAREN_PCAP_INPUT_FAILED;
     }
-    int outcome = filter_opened(&filter, &capture, output, counts, error);
+    int outcome = filter_input(&filter, filtering, input, output, counts, error);
     int system_error = errno;
-    close_capture(&capture);
+    free(filtering);
     errno = system_error;
     return outcome;
 }

@@ -134,19 +134,29 @@ static void begin_counts(FILE *file, const struct form *form)
     if (form->file && !form->json) putc('\n', file);
 }
 
+/* Writes the counts that are in no table of their own. Without JSON, only the number of packets is written if it is 0. */
 static void write_scalars(struct output *output, struct packet_counts *counts)
 {
     if (!output->json) fprintf(output->file, "%spackets\n", output->before_title);
-    for (size_t i = 0; i < SCALARS; i++)
-        write_named(output, output->before_name, output->json ? scalars[i].name : scalars[i].words,
-                    *scalar_in(counts, &scalars[i]));
+    for (size_t i = 0; i < SCALARS; i++) {
+        uint64_t count = *scalar_in(counts, &scalars[i]);
+        if (count == 0 && !output->json && i != PACKETS) continue;
+        write_named(output, output->before_name, output->json ? scalars[i].name : scalars[i].words, count);
+    }
+}
+
+/* Writes the protocols of frames without an IP packet. Without JSON, there is no table if there are no such frames. */
+static void write_protocols(struct output *output, struct packet_counts *counts)
+{
+    if (!output->json && counts->statistics.other_frames == 0) return;
+    begin_table(output, "protocols of frames without an IP packet", "other_protocols");
+    write_entries(output, &counts->protocols, output->most_protocols, write_protocol);
 }
 
 static void write_packet_counts(struct output *output, struct packet_counts *counts)
 {
     write_scalars(output, counts);
-    begin_table(output, "protocols of frames without an IP packet", "other_protocols");
-    write_entries(output, &counts->protocols, output->most_protocols, write_protocol);
+    write_protocols(output, counts);
     begin_table(output, "chains", "chains");
     write_entries(output, &counts->chains, output->most, write_chain);
     for (size_t i = 0; i < ARRAYS; i++) write_array(output, &arrays[i], array_in(counts, &arrays[i]));

@@ -12,6 +12,8 @@ struct rest {
     const uint8_t *bytes;
     size_t len;
     struct protocol protocol; /* the last number that says what is left */
+    unsigned tags;            /* number of VLAN tags that were skipped */
+    uint32_t vlans;           /* the identifiers of the first two, 12 bits each, that of the first one above */
 };
 
 /* Skips `count` bytes, unless there are fewer. */

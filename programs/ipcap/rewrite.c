@@ -78,9 +78,9 @@ int run_rewrite(int count, char **arguments)
     int status = read_options(count, arguments, usage, options, sizeof options / sizeof *options, &request);
     if (status >= 0) return status;
     if (request.without == 0 && !request.clears && !request.orders)
-        return refuse_usage(usage, "--without, --clear or --in-order is missing: there is nothing to rewrite");
-    if (count - optind > 1) return refuse_usage(usage, "rewrite reads a single file");
+        return refuse_usage("ipcap rewrite", "--without, --clear or --in-order is missing: there is nothing to rewrite");
+    if (count - optind > 1) return refuse_usage("ipcap rewrite", "rewrite reads a single file");
     if (is_standard_stream(request.output) && isatty(STDOUT_FILENO))
-        return refuse_usage(usage, "refusing to write a capture to a terminal: use -w or a pipe");
+        return refuse_usage("ipcap rewrite", "refusing to write a capture to a terminal: use -w or a pipe");
     return rewrite_file(&request, arguments[optind]) ? STATUS_DONE : STATUS_FAILED;
 }

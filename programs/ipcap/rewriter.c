@@ -25,6 +25,7 @@ struct change {
     uint8_t *places;
     size_t room;
     bool keeps_checksums;
+    bool keeps_check_values;
 };
 
 /* The number of extension headers that so many bytes have at most. */
@@ -114,19 +115,29 @@ static void take_result(struct change *change, const struct wolfaren_rewritten *
     change->keeps_checksums &= done->keeps_checksums;
 }
 
+/* Leaves out the headers of a number. Returns WOLFAREN_NOT_REFUSED, or why the packet is refused. */
+static uint8_t leave_out_number(const struct rewriter *rewriter, struct change *change, uint8_t number, bool may_be_invalid)
+{
+    struct wolfaren_rewritten done;
+    if (wolfaren_without_number(change->packet.bytes, change->packet.len, number, may_be_invalid, place_for(change), change->room,
+                                &done)) {
+        take_result(change, &done);
+        change->keeps_check_values &= !may_be_invalid;
+    } else if (done.refusal == WOLFAREN_REFUSED_AUTHENTICATED && rewriter->breaks_authentication && !may_be_invalid) {
+        return leave_out_number(rewriter, change, number, true);
+    } else if (done.refusal != WOLFAREN_REFUSED_NO_HEADER) {
+        return done.refusal;
+    }
+    return WOLFAREN_NOT_REFUSED;
+}
+
 /* Leaves out the headers, one number after another. Returns WOLFAREN_NOT_REFUSED, or why the packet is refused. */
 static uint8_t leave_out(const struct rewriter *rewriter, struct change *change)
 {
-    struct wolfaren_rewritten done;
-    for (size_t i = 0; i < sizeof order; i++) {
-        if (!(rewriter->without >> order[i] & 1)) continue;
-        if (wolfaren_without_number(change->packet.bytes, change->packet.len, order[i], rewriter->breaks_authentication,
-                                    place_for(change), change->room, &done))
-            take_result(change, &done);
-        else if (done.refusal != WOLFAREN_REFUSED_NO_HEADER)
-            return done.refusal;
-    }
-    return WOLFAREN_NOT_REFUSED;
+    uint8_t refusal = WOLFAREN_NOT_REFUSED;
+    for (size_t i = 0; i < sizeof order && refusal == WOLFAREN_NOT_REFUSED; i++)
+        if (rewriter->without >> order[i] & 1) refusal = leave_out_number(rewriter, change, order[i], false);
+    return refusal;
 }
 
 /* A call of the library that changes all headers of a packet. */
@@ -137,16 +148,22 @@ typedef bool change_call(const uint8_t *bytes, size_t len, bool may_be_invalid, 
 static uint8_t make_change(const struct rewriter *rewriter, struct change *change, change_call *call)
 {
     struct wolfaren_rewritten done;
-    if (!call(change->packet.bytes, change->packet.len, rewriter->breaks_authentication, place_for(change), change->room, &done))
-        return done.refusal;
+    bool may_be_invalid = false;
+    bool is_done = call(change->packet.bytes, change->packet.len, may_be_invalid, place_for(change), change->room, &done);
+    if (!is_done && done.refusal == WOLFAREN_REFUSED_AUTHENTICATED && rewriter->breaks_authentication) {
+        may_be_invalid = true;
+        is_done = call(change->packet.bytes, change->packet.len, may_be_invalid, place_for(change), change->room, &done);
+    }
+    if (!is_done) return done.refusal;
     take_result(change, &done);
+    change->keeps_check_values &= !may_be_invalid;
     return WOLFAREN_NOT_REFUSED;
 }
 
 /* Makes the block of a frame that is at its place in the new block already, from the old one: its options and all else stay. */
 static void make_block(struct packet *packet, uint8_t *block, uint32_t old_captured_len)
 {
-    const bool is_little = is_little_endian(packet->block, packet->block_len);
+    const bool is_little = !packet->is_big_endian;
     const size_t frame_at = (size_t)(packet->frame - packet->block);
     const uint8_t *options = packet->frame + padded_len(old_captured_len), *end = packet->block + packet->block_len - TRAILER_LEN;
     const uint32_t len = packet->header.caplen;
@@ -174,7 +191,8 @@ static void replace(struct packet *packet, uint8_t *block, struct span old, stru
     memcpy(frame + packet->ip_offset, new.bytes, new.len);
     memcpy(end, old.bytes + old.len, old_len - packet->ip_offset - old.len);
     packet->header.caplen -= removed;
-    packet->header.len -= removed;
+    /* a damaged capture may state fewer bytes than it has */
+    packet->header.len = packet->header.len > removed ? packet->header.len - removed : 0;
     if (packet->block) make_block(packet, block, old_len);
     packet->frame = frame;
 }
@@ -219,14 +237,14 @@ bool rewrite_packet(struct rewriter *rewriter, struct packet *packet)
     if (!packet->is_ip || packet->is_left_out) return true;
     if (!reserve(rewriter, packet->block ? packet->block_len : packet->header.caplen)) return false;
     if (!is_concerned(rewriter, old)) return true;
-    struct change change = {old, rewriter->buffer + rewriter->room, rewriter->room, true};
+    struct change change = {old, rewriter->buffer + rewriter->room, rewriter->room, true, true};
     const uint8_t refusal = make_changes(rewriter, packet, &change);
     if (refusal != WOLFAREN_NOT_REFUSED) {
         rewriter->refused[refusal < REFUSALS ? refusal : WOLFAREN_REFUSED_HEADERS]++;
         return true;
     }
     rewriter->without_checksums += !change.keeps_checksums;
-    rewriter->without_check_values += has_header(UINT64_C(1) << WOLFAREN_AUTHENTICATION, change.packet);
+    rewriter->without_check_values += !change.keeps_check_values;
     struct wolfaren_dissection dissection;
     wolfaren_dissect(old.bytes, old.len, NULL, 0, &dissection);
     old.len -= dissection.padding;
@@ -252,6 +270,7 @@ void report_rewrites(const struct rewriter *rewriter, const char *name)
         [WOLFAREN_REFUSED_FRAGMENTED] = "a header in the part that is fragmented",
         [WOLFAREN_REFUSED_AUTHENTICATED] = "an authentication header that covers the change",
         [WOLFAREN_REFUSED_HEADER_FOLLOWS] = "a payload that would be read as a header",
+        [WOLFAREN_REFUSED_NO_LENGTH] = "a length that isn't stated",
         [WOLFAREN_REFUSED_TOO_LONG] = "a length that the length field can't state",
         [WOLFAREN_REFUSED_NO_ROOM] = "no room",
     };

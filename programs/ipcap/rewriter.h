@@ -10,7 +10,7 @@
 #include "wolfaren.h"
 
 /* The number of refusals of the library, with that of none. */
-enum { REFUSALS = 11 };
+enum { REFUSALS = 14 };
 
 /* All zeros are one that changes nothing. */
 struct rewriter {

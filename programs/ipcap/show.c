@@ -161,13 +161,21 @@ static const struct option_row options[] = {
     {"defrag", set_flag, offsetof(struct request, has_whole), NULL},
 };
 
+/* Refuses several operands. They are likely a condition and a file, as for `ipcap filter`, if the first one is no file. */
+static int refuse_files(int count, char *const *operands)
+{
+    const char *file = operands[count - 1];
+    if (access(operands[0], F_OK) == 0) return refuse_usage("ipcap show", "show reads a single file");
+    return refuse_usage("ipcap show", "show takes a single file and no condition: use `ipcap filter COND %s | ipcap show`", file);
+}
+
 int run_show(int count, char **arguments)
 {
     struct request request = {.in_color = is_color_terminal(), .most = UINT64_MAX};
     int status = read_options(count, arguments, usage, options, sizeof options / sizeof *options, &request);
     if (status >= 0) return status;
-    if (count - optind > 1) return refuse_usage(usage, "show reads only one file");
+    if (count - optind > 1) return refuse_files(count - optind, arguments + optind);
     if (request.json + request.csv + request.is_one_line > 1)
-        return refuse_usage(usage, "--one-line, --json and --csv exclude each other");
+        return refuse_usage("ipcap show", "--one-line, --json and --csv exclude each other");
     return show_capture(&request, optind < count ? arguments[optind] : NULL) ? STATUS_DONE : STATUS_FAILED;
 }

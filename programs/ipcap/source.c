@@ -11,6 +11,23 @@
 #include <sys/stat.h>
 #include <unistd.h>
 
+/* What is asked after a signal, or null. */
+static bool (*is_waiting_stopped)(void);
+
+void stop_waiting_if(bool (*is_stopped)(void))
+{
+    is_waiting_stopped = is_stopped;
+}
+
+/* Whether a call that failed is made again: a signal's handler has run, and doesn't stop the waiting. Keeps `errno`. */
+static bool is_made_again(void)
+{
+    if (errno != EINTR) return false;
+    bool is_stopped = is_waiting_stopped && is_waiting_stopped();
+    errno = EINTR;
+    return !is_stopped;
+}
+
 /* At most this many bytes are decompressed at once. Libraries count some lengths in 32 bits. */
 enum { MOST_AT_ONCE = 1 << 24 };
 
@@ -40,9 +57,10 @@ static ssize_t fail_as_system(struct source *source)
 static ssize_t read_file(struct source *source, void *bytes, size_t len)
 {
     ssize_t count;
+    if (source->wait && !source->wait(source->descriptor)) return fail(source, "interrupted");
     do
         count = read(source->descriptor, bytes, len);
-    while (count < 0 && errno == EINTR);
+    while (count < 0 && is_made_again());
     if (count < 0) return fail_as_system(source);
     source->is_ended = count == 0;
     source->position += (uint64_t)count;
@@ -175,10 +193,20 @@ static FILE *open_stream(struct source *source)
     return stream;
 }
 
+/* Opens a file, which waits for a writer if the file is a pipe. Returns its descriptor, or -1 on failure. */
+static int open_file(const char *path)
+{
+    int descriptor;
+    do
+        descriptor = open(path, O_RDONLY | O_CLOEXEC);
+    while (descriptor < 0 && is_made_again());
+    return descriptor;
+}
+
 FILE *open_source(struct source *source, const char *path)
 {
     *source = (struct source){.descriptor = STDIN_FILENO};
-    if (!is_standard_stream(path)) source->descriptor = open(path, O_RDONLY | O_CLOEXEC);
+    if (!is_standard_stream(path)) source->descriptor = open_file(path);
     if (source->descriptor < 0) {
         fail_as_system(source);
         return NULL;

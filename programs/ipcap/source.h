@@ -24,10 +24,17 @@ struct source {
     size_t start, end; /* where the bytes that were read and not yet consumed are in `bytes` */
     const struct compression *compression; /* null if the bytes aren't compressed */
     void *decoder;
+    bool (*wait)(int descriptor); /* called before bytes are read, unless it is null; returns false if none are wanted */
     char error[SOURCE_ERROR_ROOM]; /* why opening or reading failed, otherwise empty */
     int system_error;              /* the `errno` of that if the system refused it, otherwise 0 */
     uint8_t bytes[SOURCE_ROOM];
 };
+
+/*
+ * Sets what is asked if the handler of a signal has run while a file was opened or read. If that returns true, opening or
+ * reading fails; otherwise, or if nothing is set, it goes on.
+ */
+void stop_waiting_if(bool (*is_stopped)(void));
 
 /* Whether a path stands for standard input or output: it is null or `-`. */
 bool is_standard_stream(const char *path);

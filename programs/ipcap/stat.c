@@ -173,7 +173,7 @@ int run_sum(int count, char **arguments)
     struct request request = {0};
     int status = read_options(count, arguments, sum_usage, options, SUM_OPTIONS, &request);
     if (status >= 0) return status;
-    if (optind != count) return refuse_usage(sum_usage, "sum reads standard input and takes no file name");
+    if (optind != count) return refuse_usage("ipcap sum", "sum reads standard input and takes no file name");
     init_counts(&total, false);
     bool is_done = add_objects(&total) && write_counts(&request, &total, NULL);
     free_counts(&total);

@@ -17,20 +17,6 @@ char *append_number(char *place, uint64_t number)
     return place + count;
 }
 
-bool is_control(char byte)
-{
-    return (unsigned char)byte < ' ' || byte == 0x7f;
-}
-
-void write_escaped(FILE *file, const char *text)
-{
-    for (; *text; text++)
-        if (is_control(*text))
-            fprintf(file, "\\x%02x", (unsigned)*text);
-        else
-            fputc(*text, file);
-}
-
 /* How the first byte of a character says how many bytes it has, by that number, and the least character with them. */
 static const struct {
     uint8_t mask;
@@ -59,6 +45,44 @@ static size_t take_character(const char *text, uint32_t *character)
         if (read_character(text, size, character)) return size;
     *character = 0xdc00 | (uint8_t)text[0];
     return 1;
+}
+
+/* Characters that change a terminal or the order in which it shows others: the first and the last of each range. */
+static const uint32_t hidden[][2] = {{0, 0x1f}, {0x7f, 0x9f}, {0x61c, 0x61c}, {0x200e, 0x200f}, {0x2028, 0x202e},
+                                     {0x2066, 0x2069}, {0xd800, 0xdfff}};
+
+/* Whether a character, or a byte that isn't part of one, may not be shown as it is. */
+static bool is_hidden(uint32_t character)
+{
+    bool is_any = false;
+    for (size_t i = 0; i < sizeof hidden / sizeof *hidden; i++)
+        is_any |= character >= hidden[i][0] && character <= hidden[i][1];
+    return is_any;
+}
+
+void write_escaped(FILE *file, const char *text)
+{
+    uint32_t character;
+    for (size_t len; *text; text += len) {
+        len = take_character(text, &character);
+        for (size_t i = 0; i < len; i++)
+            if (is_hidden(character))
+                fprintf(file, "\\x%02x", (unsigned)(uint8_t)text[i]);
+            else
+                fputc(text[i], file);
+    }
+}
+
+size_t write_columns(FILE *file, const char *text, size_t len, size_t end)
+{
+    uint32_t character;
+    size_t columns = 0;
+    for (size_t at = 0, size; at < len; at += size) {
+        size = take_character(text + at, &character);
+        fprintf(file, "%.*s", is_hidden(character) ? 1 : (int)size, is_hidden(character) ? " " : text + at);
+        if (at < end) columns++;
+    }
+    return columns;
 }
 
 static void write_character(FILE *file, uint32_t character)

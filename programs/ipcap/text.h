@@ -13,11 +13,17 @@ enum { NUMBER_DIGITS = 20 };
 char *append_text(char *place, const char *text);
 char *append_number(char *place, uint64_t number);
 
-/* Whether a byte is an ASCII control character, which may change the terminal. */
-bool is_control(char byte);
-
-/* Writes a text with its control characters escaped, such as `\x1b`. */
+/*
+ * Writes a text in which the bytes of some characters are escaped, such as `\x1b`: control characters, of ASCII and of C1, those
+ * that change the direction of a text, separators of lines, and bytes that aren't UTF-8.
+ */
 void write_escaped(FILE *file, const char *text);
+
+/*
+ * Writes `len` bytes of a text, with a space for each such character, in one column for each character. Returns the number of
+ * columns before the byte `end`. A character must not go on after the text.
+ */
+size_t write_columns(FILE *file, const char *text, size_t len, size_t end);
 
 /*
  * Writes a text in quotes as in JSON, in printable ASCII without a quote or a backslash in it except in escapes such as

@@ -38,6 +38,13 @@ char *wolfaren_pcap_count(const char *path, char error[WOLFAREN_PCAP_ERROR_ROOM]
 /* Releases what wolfaren_pcap_count has returned. The pointer may be null. */
 void wolfaren_pcap_free(char *json);
 
+/*
+ * Sets what a call asks if the handler of a signal has run while the call waited for a file, such as a pipe. If that
+ * returns true, the call fails, and `errno` is EINTR; otherwise the call waits on, as each does while nothing is set or
+ * the pointer is null. Make this call while no other call is made.
+ */
+void wolfaren_pcap_stop_waiting_if(bool (*is_stopped)(void));
+
 /* A capture that is being read. */
 struct wolfaren_pcap_reader;
 

@@ -205,18 +205,29 @@ static bool has_number(const struct extension *extensions, size_t count, uint8_t
     return false;
 }
 
+/* Whether an authentication header among the headers covers the one with this index: any but a fragment header before it. */
+static bool is_covered(const struct extension *extensions, size_t index)
+{
+    return extensions[index].number != WOLFAREN_FRAGMENT || has_number(extensions, index, WOLFAREN_AUTHENTICATION);
+}
+
 /* Compares one selection of headers with the packet that is built without them. */
 static void test_selection(const struct extension *extensions, size_t count, struct change change)
 {
     const struct packet packet = built(extensions, count);
     struct extension kept[MOST_HEADERS] = {{0, 0}};
     size_t kept_count = 0;
-    for (size_t i = 0; i < count; i++)
-        if (change.call == WITHOUT_NUMBER ? extensions[i].number != change.value : i != change.value) kept[kept_count++] = extensions[i];
+    bool changes_covered = false;
+    for (size_t i = 0; i < count; i++) {
+        if (change.call == WITHOUT_NUMBER ? extensions[i].number != change.value : i != change.value)
+            kept[kept_count++] = extensions[i];
+        else
+            changes_covered |= is_covered(extensions, i);
+    }
     const struct packet wanted = built(kept, kept_count);
     if (kept_count == count)
         expect_refused(&packet, change, WOLFAREN_REFUSED_NO_HEADER, "no such header");
-    else if (has_number(kept, kept_count, WOLFAREN_AUTHENTICATION) && !change.may_be_invalid)
+    else if (changes_covered && has_number(kept, kept_count, WOLFAREN_AUTHENTICATION) && !change.may_be_invalid)
         expect_refused(&packet, change, WOLFAREN_REFUSED_AUTHENTICATED, "an authentication header is kept");
     else
         expect_written(&packet, change, &wanted);
@@ -255,11 +266,12 @@ static void test_payload(const struct extension *extensions, size_t count, struc
         expect_written(&packet, change, &wanted);
 }
 
-/* Sets some reserved bits of the headers of a packet that was built of them. Returns whether there are any. */
+/* Sets some reserved bits of the headers of a packet that was built of them. Returns whether one is set in a header that
+ * authentication headers cover. */
 static bool set_reserved(struct packet *packet, const struct extension *extensions, size_t count, uint8_t bits)
 {
     uint8_t *place = packet->bytes + IPV6_LEN, ignored[MOST_LEN];
-    bool is_set = false;
+    bool is_covered_set = false;
     for (size_t i = 0; i < count; i++) {
         const bool is_fragment = extensions[i].number == WOLFAREN_FRAGMENT;
         if (is_fragment) {
@@ -269,10 +281,11 @@ static bool set_reserved(struct packet *packet, const struct extension *extensio
             place[2] = bits & 0xf0;
             place[3] = bits & 0x0f;
         }
-        is_set |= extensions[i].number == WOLFAREN_AUTHENTICATION ? bits != 0 : is_fragment && (bits & 0xf6) != 0;
+        const bool is_set = extensions[i].number == WOLFAREN_AUTHENTICATION ? bits != 0 : is_fragment && (bits & 0xf6) != 0;
+        is_covered_set |= is_set && is_covered(extensions, i);
         place += put_header(ignored, extensions[i], 0);
     }
-    return is_set;
+    return is_covered_set;
 }
 
 /* Compares cleared reserved bits with the packet that is built without them. */
@@ -280,9 +293,9 @@ static void test_clearing(const struct extension *extensions, size_t count, uint
 {
     const struct packet wanted = built(extensions, count);
     struct packet packet = wanted;
-    const bool is_set = set_reserved(&packet, extensions, count, bits);
+    const bool is_covered_set = set_reserved(&packet, extensions, count, bits);
     const struct change change = {CLEARED, 0, may_be_invalid, {0, NULL, 0}};
-    if (is_set && has_number(extensions, count, WOLFAREN_AUTHENTICATION) && !may_be_invalid)
+    if (is_covered_set && has_number(extensions, count, WOLFAREN_AUTHENTICATION) && !may_be_invalid)
         expect_refused(&packet, change, WOLFAREN_REFUSED_AUTHENTICATED, "an authentication header covers the bits");
     else
         expect_written(&packet, change, &wanted);
@@ -409,7 +422,8 @@ static void test_refusals(void)
     expect_refused(&packet, last, WOLFAREN_REFUSED_FRAGMENTED, "a header that is fragmented");
     expect(rewrite(packet.bytes, packet.len, first, packet.len, NULL).len == packet.len - 16, "a first fragment");
     *offset = 9;
-    expect_refused(&packet, first, WOLFAREN_REFUSED_LATER_FRAGMENT, "a later fragment");
+    expect(rewrite(packet.bytes, packet.len, first, packet.len, NULL).len == packet.len - 16, "a later fragment");
+    expect_refused(&packet, fragment, WOLFAREN_REFUSED_FRAGMENT_HEADER, "the fragment header of a later fragment");
     packet = built(extensions, 3);
     for (size_t len = 0; len < packet.len; len++) {
         const uint8_t refusal = len < packet.len - PAYLOAD ? WOLFAREN_REFUSED_HEADERS : WOLFAREN_REFUSED_MISSING;
@@ -419,20 +433,18 @@ static void test_refusals(void)
     expect_refused(&packet, first, WOLFAREN_REFUSED_HEADERS, "faulty headers");
 }
 
-/* A packet without a stated length keeps its length field, and one with segments left loses its checksums. */
+/* A packet with segments left loses its checksums, and one without a stated length isn't made shorter. */
 static void test_fields(void)
 {
     const struct extension extensions[] = {{43, 1}, {60, 2}};
     const struct change options = without_number(60, false);
-    struct packet packet = built(extensions, 2), wanted = built(extensions, 1);
+    struct packet packet = built(extensions, 2);
     expect(rewrite(packet.bytes, packet.len, first, packet.len, NULL).keeps_checksums == 1, "no segments left");
-    packet.bytes[IPV6_LEN + 3] = wanted.bytes[IPV6_LEN + 3] = 1;
+    packet.bytes[IPV6_LEN + 3] = 1;
     expect(rewrite(packet.bytes, packet.len, first, packet.len, NULL).keeps_checksums == 0, "segments left");
     expect(rewrite(packet.bytes, packet.len, options, packet.len, NULL).keeps_checksums == 1, "another header than the routing header");
-    packet.bytes[5] = wanted.bytes[5] = 0;
-    uint8_t out[MOST_LEN];
-    const struct wolfaren_rewritten done = rewrite(packet.bytes, packet.len, options, packet.len, out);
-    expect(done.len == wanted.len && memcmp(out, wanted.bytes, wanted.len) == 0, "a length field of 0");
+    packet.bytes[5] = 0;
+    expect_refused(&packet, options, WOLFAREN_REFUSED_NO_LENGTH, "a length field of 0");
 }
 
 /* A fragment is changed only before its fragment header, and a header that is added must be one. */
@@ -482,6 +494,23 @@ static void test_longest(void)
     }
 }
 
+/* Packets with a length field of 0, before whose payload bytes follow, keep their length. */
+static void test_unstated(void)
+{
+    const struct extension extensions[] = {{0, 1}, {60, 2}};
+    struct packet packet = built(extensions, 2), ipv4 = built_ipv4(true);
+    packet.bytes[4] = packet.bytes[5] = ipv4.bytes[2] = ipv4.bytes[3] = 0;
+    expect_refused(&packet, first, WOLFAREN_REFUSED_NO_LENGTH, "the first header");
+    expect_refused(&packet, without_number(60, false), WOLFAREN_REFUSED_NO_LENGTH, "destination options");
+    expect_refused(&ipv4, first, WOLFAREN_REFUSED_NO_LENGTH, "the header of IPv4");
+    for (size_t len = 0; len <= PAYLOAD; len++) {
+        const uint8_t refusal = len == PAYLOAD ? WOLFAREN_NOT_REFUSED : WOLFAREN_REFUSED_NO_LENGTH;
+        expect_refused(&packet, with_payload((struct part){UDP, data, len}, false), refusal, "the length of the payload");
+    }
+    expect_refused(&packet, (struct change){CLEARED, 0, false, {0, NULL, 0}}, WOLFAREN_NOT_REFUSED, "cleared bits");
+    expect_refused(&packet, (struct change){IN_ORDER, 0, false, {0, NULL, 0}}, WOLFAREN_NOT_REFUSED, "the order");
+}
+
 /* Any change of any packet that is made here. */
 static struct change any_change(const uint8_t *header)
 {
@@ -518,7 +547,7 @@ static void test_any_bytes(void)
         wolfaren_dissect(out, done.len, NULL, 0, &after);
         const size_t more = change.call == WITH_HEADER, same = change.call >= WITH_PAYLOAD;
         expect(same || more ? after.headers == before.headers + more : after.headers < before.headers, "the number of headers");
-        expect(after.padding == 0 && after.end == WOLFAREN_AT_PAYLOAD, "headers");
+        expect(after.padding == 0 && after.end == before.end && after.fault.kind == WOLFAREN_NO_FAULT, "headers");
         const bool is_new = change.call == WITH_PAYLOAD;
         const uint8_t *payload = is_new ? data : packet.bytes + before.payload_offset;
         expect(after.payload_len == (is_new ? PAYLOAD : before.payload_len) && memcmp(out + after.payload_offset, payload, after.payload_len) == 0
@@ -554,6 +583,7 @@ int main(void)
     test_more_refusals();
     test_fields();
     test_longest();
+    test_unstated();
     test_recommended_index();
     test_any_bytes();
     return 0;

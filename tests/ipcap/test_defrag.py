@@ -61,17 +61,15 @@ class Plain:
 
     def add(self, key, time, offset, more, data):
         """Returns the payload if it is whole, `None` if more is wanted, or why the fragment is dropped."""
+        start, end = 8 * offset, 8 * offset + len(data)
+        if more and (len(data) == 0 or len(data) % 8):
+            return "whose length isn't a positive multiple of 8, though more follow"
         if key in self.packets and time - self.packets[key]["since"] > 60:
             del self.packets[key]
         of = self.packets.setdefault(key, {"since": time, "bytes": {}, "accepted": [], "end": None, "dead": False})
-        start, end = 8 * offset, 8 * offset + len(data)
         reach = max([at + 1 for at in of["bytes"]] + [8 * o + len(d) for o, _, d in of["accepted"]], default=0)
         if of["dead"]:
-            return "of packets with an overlap or two ends"
-        if more and (len(data) == 0 or len(data) % 8):
-            return "whose length isn't a positive multiple of 8, though more follow"
-        if end > 65535:
-            return "that end after byte 65,535"
+            return "of packets with an overlap, two ends or mixed ECN code points"
         if (offset, more, data) not in of["accepted"]:
             if any(at in of["bytes"] for at in range(start, end)):
                 of["dead"] = True
@@ -147,7 +145,7 @@ def refused(harness):
     for part, _ in FAMILIES:
         for piece in overlaps:
             frames = [frame(part(3, *it)) for it in [a, piece, b, c, a]]
-            wanted = ("ipcap: FILE: 1 fragment that overlap others\nipcap: FILE: 3 fragments of packets with an overlap or two ends\n"
+            wanted = ("ipcap: FILE: 1 fragment that overlap others\nipcap: FILE: 3 fragments of packets with an overlap, two ends or mixed ECN code points\n"
                       "ipcap: FILE: 1 fragment of packets that aren't whole at the end\n")
             harness.equal(defragment(harness, frames), ([], wanted), "overlap", piece)
             harness.equal(defragment(harness, frames, "--keep")[0], frames, "overlap kept", piece)
@@ -156,8 +154,10 @@ def refused(harness):
             harness.check("1 fragment that contradict the end of their packet" in defragment(harness, frames)[1], "two ends", pieces_of)
         found = defragment(harness, [frame(part(3, 0, True, data[:20])), frame(part(3, 0, True, b""))])[1]
         harness.check("2 fragments whose length isn't a positive multiple of 8" in found, "lengths", found)
-        found = defragment(harness, [frame(part(3, 8191, False, data[:8])), frame(part(3, 8191, False, data[:7]))])[1]
-        harness.check("1 fragment that end after byte 65,535" in found, "long payloads", found)
+    for part, at in [(ipv4_part, 8188), (ipv6_part, 8190)]:
+        found = defragment(harness, [frame(part(3, at, False, data[:8])), frame(part(3, at, False, data[:7]))])
+        harness.equal(found, ([], "ipcap: FILE: 1 fragment that make their packet too long for its length field\n"
+                              "ipcap: FILE: 1 fragment of packets that aren't whole at the end\n"), "long payloads", part)
     faulty = frame(ipv6(44, fragment(60, 0, 1) + b"\x11\x04" + bytes(6)))
     found = defragment(harness, [faulty, frame(ipv6(44, fragment(17, 0, 1) + bytes(8), 0)), frame(ipv6(44, fragment(17, 0, 1) + bytes(8), 24))])
     harness.equal(found, ([], "ipcap: FILE: 1 fragment whose headers are truncated or faulty\nipcap: FILE: 1 fragment that state no length\n"
@@ -186,6 +186,60 @@ def keys(harness):
                   "fragments of different packets")
     harness.equal(defragment(harness, [frame(ipv6_part(5, *first)), frame(ipv6_part(5, *last, 6))])[0],
                   [frame(ipv6_whole(5, data))], "another number in a later fragment of IPv6")
+
+
+def tagged(packet_bytes, *identifiers):
+    """An Ethernet frame with one tag for each VLAN identifier, with a priority and the drop bit."""
+    ethertypes = (0x9100, 0x88A8, 0x8100)[3 - len(identifiers):]
+    return LINK + b"".join(struct.pack(">HH", *it) for it in zip(ethertypes, (0xB000 | it for it in identifiers))) + frame(packet_bytes, b"")
+
+
+def contexts(harness):
+    """Only fragments of the same VLANs and interface are joined."""
+    lost = "ipcap: FILE: 2 fragments of packets that aren't whole at the end\n"
+    vlans = [(), (5,), (6,), (0x805,), (5, 6), (6, 5), (5, 7), (7, 6), (5, 0x806)]
+    for part, whole in FAMILIES:
+        packet_bytes = whole(5, payload(12, 32))
+        first, last = [part(5, *it) for it in pieces(payload(12, 32), [16])]
+        harness.equal(defragment(harness, [tagged(first, 5), tagged(last, 6)]), ([], lost), "VLANs 5 and 6")
+        frames = [tagged(first, *it) for it in vlans] + [tagged(last, *it) for it in reversed(vlans)]
+        harness.equal(defragment(harness, frames), ([tagged(packet_bytes, *it) for it in reversed(vlans)], ""), "VLANs")
+        for a, b in [((), (0,)), ((5, 6, 7), (5, 6, 8))]:
+            harness.equal(defragment(harness, [tagged(first, *a), tagged(last, *b)]), ([tagged(packet_bytes, *a)], ""), "the same VLANs")
+        for number in (5, 6):
+            frames = [cooked(struct.pack(">H", vlan) + tagged(it)[12:], 0x8100) for vlan, it in [(5, first), (number, last)]]
+            found = harness.run("defrag", content=capture(frames, SLL))
+            harness.equal(found[1][24:] != b"", number == 5, "VLANs of a cooked capture", number)
+    for order, make in itertools.product("<>", (packet, obsolete)):
+        head = section(order) + interface(order=order) + interface(order=order)
+        found = harness.run("defrag", content=head + make(frame(first), 0, order=order) + make(frame(last), 1, order=order))
+        harness.equal(found[1], head, "two interfaces", found[2])
+
+
+def congestion(harness):
+    """Fragments with any ECN code points, which scapy makes, are joined as RFC 3168, section 5.3, says."""
+    from scapy.layers.inet import IP, UDP as ScapyUdp, fragment as fragment4
+    from scapy.layers.inet6 import IPv6, IPv6ExtHdrFragment, fragment6
+    frames, wanted, dropped = [], [], 0
+    for number, points in enumerate(itertools.product(range(4), repeat=3)):
+        is_mixed, point = 0 in points and any(points), 3 if 3 in points else points[0]
+        data = ScapyUdp(dport=9999) / random.Random(number).randbytes(1000)
+        base4 = {"src": "192.0.2.1", "dst": "192.0.2.2", "id": number}
+        base6 = {"src": "2001:db8::1", "dst": "2001:db8::2", "fl": 0x12345}
+        parts4 = fragment4(IP(bytes(IP(tos=0x28, **base4) / data)), 400)
+        parts6 = fragment6(IPv6(bytes(IPv6(tc=0x28, **base6) / IPv6ExtHdrFragment(id=number) / data)), 448)
+        harness.equal((len(parts4), len(parts6)), (3, 3), "fragments")
+        for part4, part6, one in zip(parts4, parts6, points):
+            part4.tos |= one
+            part4.chksum = None
+            part6.tc |= one
+        frames += [frame(bytes(it)) for it in parts4 + parts6]
+        dropped += 2 * is_mixed
+        if not is_mixed:
+            wanted += [frame(bytes(IP(tos=0x28 | point, **base4) / data)), frame(bytes(IPv6(tc=0x28 | point, **base6) / data))]
+    found = harness.run("defrag", content=timed([1000 + i / 1000 for i in range(len(frames))], frames))
+    harness.equal([it for _, _, it in frames_of(found[1])], wanted, "packets with ECN code points")
+    harness.check(": %d fragments that are ECN-capable where others of their packet aren't, or the reverse\n" % dropped in found[2], found[2])
 
 
 def timed(times, frames):
@@ -225,9 +279,21 @@ def long_packets(harness):
             found = defragment(harness, frames)
             if more:
                 harness.equal(found[0], [], "too long a packet")
-                harness.check("of packets that are too long for their length field" in found[1], found[1])
+                harness.check("1 fragment that make their packet too long for its length field" in found[1], found[1])
             else:
                 harness.equal(found, ([frame(whole(7, data))], ""), "the longest packet")
+
+
+def long_links(harness):
+    """Whole packets have at most 256 bytes of link-layer headers."""
+    data = payload(11, 32)
+    for count in (60, 61):
+        tags = LINK + struct.pack(">HH", 0x8100, 5) * count
+        frames = [tags + frame(ipv6_part(9, *it), b"") for it in pieces(data, [16])]
+        wanted = ([tags + frame(ipv6_whole(9, data), b"")], "") if count == 60 else (
+            [], "ipcap: FILE: 2 fragments of packets with more than 256 bytes of link-layer headers\n")
+        harness.equal(defragment(harness, frames), wanted, count, "tags")
+        harness.equal(defragment(harness, frames, "--keep")[0], wanted[0] or frames, count, "tags")
 
 
 def forms_of_files(harness):
@@ -237,12 +303,12 @@ def forms_of_files(harness):
     whole = frame(ipv6_whole(9, data))
     for order in "<>":
         head = section(order) + interface(snap_len=96, order=order) + interface(order=order)
-        blocks = packet(first, 0, 5, order=order) + interface(snap_len=70, order=order) + packet(last, 1, 77, options=struct.pack(order + "HH4sHH", 1, 4, b"note", 0, 0), order=order)
+        blocks = packet(first, 1, 5, order=order) + interface(snap_len=70, order=order) + packet(last, 1, 77, options=struct.pack(order + "HH4sHH", 1, 4, b"note", 0, 0), order=order)
         wanted = (section(order) + interface(order=order) + interface(order=order) + interface(order=order)
                   + packet(whole, 1, 77, order=order))
         found = harness.run("defrag", content=head + blocks)
         harness.equal(found[1], wanted, "pcapng with order", order, found[2])
-        found = harness.run("defrag", content=head + packet(first, 0, 5, order=order) + obsolete(last, 1, 77, order=order))
+        found = harness.run("defrag", content=head + packet(first, 1, 5, order=order) + obsolete(last, 1, 77, order=order))
         harness.equal(found[1][-len(packet(whole)):], packet(whole, 1, 77, order=order), "obsolete packet block", order)
         found = harness.run("defrag", content=head + simple(first[:], order=order) + simple(last, order=order))
         harness.equal(found[1][-len(simple(whole)):], simple(whole, order=order), "simple packet block", order)

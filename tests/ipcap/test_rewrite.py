@@ -64,6 +64,20 @@ def chains(most):
             yield list(numbers)
 
 
+def is_covered(numbers, changed):
+    """Whether an authentication header covers one of the headers with these indexes: any but a fragment header before it."""
+    return 51 in numbers and any(numbers[i] != 44 or 51 in numbers[:i] for i in changed)
+
+
+def indexes_of(numbers, left_out):
+    return [i for i, number in enumerate(numbers) if number in left_out]
+
+
+def with_bits(numbers, bits):
+    """The indexes of the headers of which reserved bits are among these."""
+    return [i for i, number in enumerate(numbers) if bits & {44: 0xff06, 51: 0xffff}.get(number, 0)]
+
+
 def headers(harness):
     """Any headers are left out of any chain: alone, together, by name or by number."""
     for left_out in [[0], [43], [44], [51], [60], [0, 60], [60, 51, 0], [51, 43], [0, 43, 44, 51, 60]]:
@@ -71,9 +85,9 @@ def headers(harness):
         for numbers, units in itertools.product(chains(3), [0, 2]):
             kept = [it for it in numbers if it not in left_out]
             frames.append(ethernet(ipv6_chain(numbers, units=units)))
-            is_covered = 51 in kept and kept != numbers
-            covered += is_covered
-            wanted.append(frames[-1] if is_covered else ethernet(ipv6_chain(kept, units=units)))
+            is_refused = 51 in kept and is_covered(numbers, indexes_of(numbers, left_out))
+            covered += is_refused
+            wanted.append(frames[-1] if is_refused else ethernet(ipv6_chain(kept, units=units)))
         found = rewrite(harness, frames, *left_out)
         harness.equal(found[0], wanted, "chains without", left_out)
         harness.equal(found[1], message(covered, "unchanged: " + COVERED), "messages")
@@ -92,10 +106,10 @@ def reserved_bits(harness):
             kept = [it for it in numbers if it not in left_out]
             is_changed = kept != numbers or with_reserved(kept, bits)[1]
             frames.append(ethernet(with_reserved(numbers, bits)[0]))
-            is_covered = is_changed and 51 in kept and not breaks
-            wanted.append(ethernet(ipv6_chain(kept)) if is_changed and not is_covered else frames[-1])
-            covered += is_covered
-            broken += is_changed and 51 in kept and breaks
+            breaks_value = 51 in kept and (is_covered(numbers, indexes_of(numbers, left_out)) or is_covered(kept, with_bits(kept, bits)))
+            wanted.append(ethernet(ipv6_chain(kept)) if is_changed and (breaks or not breaks_value) else frames[-1])
+            covered += breaks_value and not breaks
+            broken += breaks_value and breaks
         found = rewrite(harness, frames, *left_out, options=["--clear"] + ["--break-authentication"] * breaks)
         harness.equal(found[0], wanted, "reserved bits", bits, left_out)
         harness.equal(found[1], message(covered, "unchanged: " + COVERED) + message(broken, BROKEN), "messages", bits, left_out)
@@ -109,11 +123,9 @@ def reserved_bits(harness):
 def reserved_bits_refused(harness):
     """Reserved bits that can't be cleared stay, and the packet is counted by its reason. Others of its kind without them aren't."""
     def rows(bits):
-        later = bytearray(LATER_FRAGMENT)
-        later[41] |= bits
         second = ipv6(44, fragment(44, 0, 1) + bytes([17, bits]) + bytes(6) + UDP)
         covered = b"\x06\x04" + bytes([0, bits]) + authentication(0)[4:]
-        return [(bytes(later), "a later fragment"), (second, "a header in the part that is fragmented"),
+        return [(second, "a header in the part that is fragmented"),
                 (ipv6(44, bytes([60, bits]) + bytes(6) + b"\x11\x09" + bytes(6)), "headers that are truncated or faulty"),
                 (ipv6(44, bytes([17, bits]) + bytes(6) + UDP, 30), "bytes that are missing"),
                 (ipv4(51, covered + TCP, 0x2000), "a header in the part that is fragmented"), (ipv4(51, covered + TCP), COVERED)]
@@ -124,6 +136,8 @@ def reserved_bits_refused(harness):
     harness.equal(rewrite(harness, frames, options=["--clear"]), (frames, ""), "no reserved bits")
     first = [ethernet(ipv6(44, bytes([60, bits, 0, bits & 6 | 1, 0, 0, 0, 7]) + options(17) + bytes(8))) for bits in (0xff, 0)]
     harness.equal(rewrite(harness, first[:1], options=["--clear"]), (first[1:], ""), "a first fragment")
+    later = [ethernet(LATER_FRAGMENT[:41] + bytes([bits]) + LATER_FRAGMENT[42:]) for bits in (0xff, 0)]
+    harness.equal(rewrite(harness, later[:1], options=["--clear"]), (later[1:], ""), "a later fragment")
     both = ethernet(ipv6(60, options(44) + fragment(44, 0, 1) + bytes([17, 1]) + bytes(6) + UDP))
     found = rewrite(harness, [both], 60, options=["--clear"])
     harness.equal(found, ([both], message(1, "unchanged: a header in the part that is fragmented")), "all changes or none")
@@ -133,6 +147,25 @@ def reserved_bits_refused(harness):
     wrong[36] = 1
     found = rewrite(harness, [bytes(wrong)], options=["--clear", "--break-authentication"])
     harness.equal(found, ([covered], message(1, BROKEN)), "IPv4")
+
+
+def fragments(harness):
+    """Each fragment loses the headers before its fragment header. Made whole, they are the packet without these headers."""
+    payload = bytes(range(64))
+    for left_out, before in [([0], [0]), ([60], [60, 43]), ([0, 43], [0, 60, 43])]:
+        kept, chains = [it for it in before if it not in left_out], []
+        for numbers in (before, kept):
+            leading = [header(number, following) for number, following in zip(numbers, numbers[1:] + [44])]
+            parts = [fragment(17, at // 8, at + 24 < len(payload)) + payload[at:at + 24] for at in range(0, len(payload), 24)]
+            chains.append([ethernet(ipv6((numbers + [44])[0], b"".join(leading) + part)) for part in parts])
+        harness.equal(rewrite(harness, chains[0], *left_out), (chains[1], ""), "fragments without", left_out)
+        whole = [harness.run("defrag", harness.file(capture(frames))) for frames in chains]
+        path = harness.file(whole[0][1])
+        found = harness.run("rewrite", *arguments_for(left_out), path)
+        harness.equal([it[3] for it in frames_of(found[1])], [it[3] for it in frames_of(whole[1][1])], "the whole packet without", left_out)
+        harness.equal(len(frames_of(whole[1][1])), 1, "whole packets")
+    covered = [ethernet(ipv6(0, options(44) + fragment(51, at, at == 0) + (authentication(17) + bytes(8) if at == 0 else bytes(8)))) for at in (0, 4)]
+    harness.equal(rewrite(harness, covered, 0), (covered, message(2, "unchanged: " + COVERED)), "fragments of a covered packet")
 
 
 def ordered(numbers):
@@ -150,10 +183,11 @@ def orders(harness):
             kept = [it for it in numbers if it not in left_out]
             is_changed = kept != numbers or ordered(kept) != kept or with_reserved(kept, bits)[1]
             frames.append(ethernet(with_reserved(numbers, bits)[0]))
-            is_covered = is_changed and 51 in kept and not breaks
-            wanted.append(ethernet(ipv6_chain(ordered(kept))) if is_changed and not is_covered else frames[-1])
-            covered += is_covered
-            broken += is_changed and 51 in kept and breaks
+            breaks_value = 51 in kept and (is_covered(numbers, indexes_of(numbers, left_out)) or ordered(kept) != kept
+                                           or is_covered(kept, with_bits(kept, bits)))
+            wanted.append(ethernet(ipv6_chain(ordered(kept))) if is_changed and (breaks or not breaks_value) else frames[-1])
+            covered += breaks_value and not breaks
+            broken += breaks_value and breaks
         words = ["--in-order"] + ["--clear"] * (bits != 0) + ["--break-authentication"] * breaks
         found = rewrite(harness, frames, *left_out, options=words)
         harness.equal(found[0], wanted, "orders", bits, left_out)
@@ -169,7 +203,7 @@ def orders_refused(harness):
         first = ipv6(one, header(one, other) + header(other, 44) + fragment(60, 0, 1) + options(17) + bytes(8))
         later = ipv6(one, header(one, other) + header(other, 44) + LATER_FRAGMENT[40:])
         faulty = ipv6(one, header(one, other) + header(other, 60) + b"\x11\x09" + bytes(6))
-        return [(first, "a header in the part that is fragmented"), (later, "a later fragment"),
+        return [(first, "a header in the part that is fragmented"), (later, "a header in the part that is fragmented"),
                 (faulty, "headers that are truncated or faulty"), (ipv6(one, header(one, other) + header(other, 17), 60), "bytes that are missing"),
                 (ipv6_chain([one, other, 51]), COVERED)]
     for refused_packet, reason in rows(44, 43):
@@ -194,9 +228,9 @@ def other_bytes(harness):
     ipv4_packets = [ethernet(ipv4(51, authentication(6) + TCP, words=words, option_bytes=bytes([1]) * 4 * (words - 5))) for words in (5, 7)]
     wanted = [ethernet(ipv4(6, TCP, words=words, option_bytes=bytes([1]) * 4 * (words - 5))) for words in (5, 7)]
     harness.equal(rewrite(harness, ipv4_packets, 51), (wanted, ""), "IPv4")
-    jumbo, without = [bytearray(ethernet(ipv6_chain(numbers))) for numbers in ([0, 60], [0])]
-    jumbo[18:20] = without[18:20] = b"\0\0"
-    harness.equal(rewrite(harness, [bytes(jumbo)], 60), ([bytes(without)], ""), "a packet that states no length")
+    unstated = bytearray(ethernet(ipv6_chain([0, 60])))
+    unstated[18:20] = b"\0\0"
+    harness.equal(rewrite(harness, [bytes(unstated)], 60), ([bytes(unstated)], message(1, "unchanged: a length that isn't stated")), "no length")
     for link_layer, head in [(RAW, b""), (NULL, struct.pack("<I", 10)), (IPV6, b""), (SLL, cooked(b"", 0x86DD)), (SLL2, cooked2(b"", 0x86DD))]:
         found = harness.run("rewrite", "--without", "0", content=capture([head + ipv6_chain([0])], link_layer))
         harness.equal(found, (0, capture([head + ipv6_chain([])], link_layer), "", None), "link layer", link_layer)
@@ -216,7 +250,6 @@ def refused(harness):
     """Packets that can't be changed stay as they are, and are counted by reason."""
     first = ipv6(0, options(44) + fragment(60, 0, 1) + options(17) + bytes(8))
     rows = [([60], first, "a header in the part that is fragmented"), ([44], first, "the fragment header of a fragment"),
-            ([0], ipv6(0, options(44) + LATER_FRAGMENT[40:]), "a later fragment"),
             ([0], ipv6(0, options(60) + b"\x11\x09" + bytes(6)), "headers that are truncated or faulty"),
             ([0], ipv6(0, options(17) + UDP, 30), "bytes that are missing"), ([0, 60], ipv6_chain([0, 51, 60]), COVERED),
             ([60, 44], first, "the fragment header of a fragment"), ([0, 60], first, "a header in the part that is fragmented"),
@@ -229,7 +262,7 @@ def refused(harness):
             harness.equal(found, ([frame] * count, message(count, "unchanged: " + reason)), left_out)
     frames = [ethernet(it) for left_out, it, _ in rows if 0 in left_out]
     found = rewrite(harness, frames, 0, 60)[1]
-    harness.equal([line.split(" ", 1)[0] for line in found.splitlines()], ["1", "1", "1", "1", "1"], "reasons in order", found)
+    harness.equal([line.split(" ", 1)[0] for line in found.splitlines()], ["1"] * 4, "reasons in order", found)
     harness.equal(rewrite(harness, [ethernet(first)], 0)[0], [ethernet(ipv6(44, fragment(60, 0, 1) + options(17) + bytes(8)))], "a first fragment")
     # packets without such a header aren't counted, whatever else is wrong with them
     frames = [ethernet(ipv6_chain([43]))[:50], ethernet(LATER_FRAGMENT), ethernet(b"\x50" * 40)]
@@ -279,13 +312,12 @@ def random_packet(rng, left_out, clears, orders_them, breaks):
     bits, padding = rng.choice([0, rng.getrandbits(16)]), bytes(rng.randint(0, 9))
     kept = [it for it in numbers if it not in left_out]
     old = ethernet(with_reserved(numbers, bits, units, data)[0]) + padding
-    is_set = with_reserved(kept, bits, units, data)[1]
     new = ordered(kept) if orders_them else kept
-    is_changed = new != numbers or is_set and clears
+    breaks_value = 51 in kept and (is_covered(numbers, indexes_of(numbers, left_out)) or new != kept
+                                   or clears and is_covered(kept, with_bits(kept, bits)))
     new = ethernet(with_reserved(new, 0 if clears else bits, units, data)[0]) + padding
-    is_covered = is_changed and 51 in kept
-    is_refused = is_covered and not breaks
-    return old, old if is_refused else new, is_refused, is_covered and breaks
+    is_refused = breaks_value and not breaks
+    return old, old if is_refused else new, is_refused, breaks_value and breaks
 
 
 def random_packets(harness):

@@ -245,6 +245,15 @@ def buffers(harness):
         harness.equal(harness.run("show", *form, content=content), whole, form)
 
 
+def conditions(harness):
+    """A condition is refused, with what can be done instead."""
+    path = harness.file(capture([]))
+    for arguments in (["tcp", path], ["header", "44", path], ["-c", "1", "tcp", path], ["tcp", "-"]):
+        words = "show takes a single file and no condition: use `ipcap filter COND %s | ipcap show`; see `ipcap show --help`" % arguments[-1]
+        harness.equal(harness.run("show", *arguments), (2, b"", "ipcap: %s\n" % words, None), arguments)
+    harness.equal(harness.run("show", path, path)[2], "ipcap: show reads a single file; see `ipcap show --help`\n", "two files")
+
+
 def colors(harness):
     content = capture([ethernet(ipv6_chain([0, 43])), ethernet(ipv6(60, b"\x11"))])
     plain = harness.run("show", content=content)[1]

@@ -1,6 +1,7 @@
 """Tests of `ipcap stat`. Expected values were worked out by hand from the bytes, except where tshark is named."""
 
 import collections
+import gzip
 import json
 import os
 import random
@@ -186,6 +187,12 @@ def what_cant_be_read(harness):
             harness.equal(harness.run(command, path)[0::2], (1, "ipcap: %s: %s\n" % (path, words)), command)
         harness.equal(harness.run("filter", "fault", path), (1, b"", "ipcap: %s: %s\n" % (path, words), None),
                       "filter")
+    empty, compressed = harness.file(b""), harness.file(gzip.compress(b""), ".gz")
+    for path in (empty, compressed):
+        for command in (["stat"], ["show"], ["filter", "fault"], ["defrag"], ["rewrite", "--clear"]):
+            harness.equal(harness.run(*command, path), (1, b"", "ipcap: %s: the file is empty\n" % path, None), command)
+    harness.equal(harness.run("stat"), (1, b"", "ipcap: standard input: the file is empty\n", None), "standard input")
+    harness.check("the file is empty" not in harness.run("stat", content=b"\xd4")[2], "one byte")
     for arguments in [[], ["--json"], ["--per-file"], ["--per-file", "--json"]]:
         words = "ipcap: /nonexistent: No such file or directory\nipcap: %s: Is a directory\n" % harness.folder
         found = harness.run("stat", *arguments, "/nonexistent", harness.folder)
@@ -203,7 +210,11 @@ def names():
     yield "\U0010ffff".encode(), "\U0010ffff".encode(), "\\udbff\\udfff"
     for wrong in [b"\x80", b"\xff", b"\xc3", b"\xc0\x80", b"\xc1\xbf", b"\xe0\x9f\xbf", b"\xed\xa0\x80", b"\xf0\x8f\xbf\xbf",
                   b"\xf4\x90\x80\x80", b"\xf8\x88\x80\x80\x80", b"\xe2\x82"]:
-        yield wrong, wrong, "".join("\\udc%02x" % byte for byte in wrong)
+        yield wrong, "".join("\\x%02x" % byte for byte in wrong).encode(), "".join("\\udc%02x" % byte for byte in wrong)
+    for text in ["\x80", "\x9b", "\x9f", "\u061c", "\u200e", "\u200f", "\u2028", "\u202e", "\u2066", "\u2069"]:
+        yield text.encode(), "".join("\\x%02x" % byte for byte in text.encode()).encode(), "\\u%04x" % ord(text)
+    for text in ["\xa0", "\u061b", "\u200d", "\u2010", "\u2027", "\u202f", "\u2065", "\u206a"]:
+        yield text.encode(), text.encode(), "\\u%04x" % ord(text)
 
 
 def files_apart(harness):
@@ -415,22 +426,12 @@ def tables(harness):
                                  ethernet(ipv6(60, b"\x11")), ethernet(bytes(46), (), 0x0806)]))
     wanted = """packets
            1  frames without an IP packet
-           0  frames truncated by the snap length
            4  IP packets
-           0  packets without an IP header
            1  IPv4 packets
            3  IPv6 packets
            3  headers that end at the payload
-           0  headers that end at the payload of a later fragment
-           0  headers that end at a truncated header
            1  headers that end at a fault
-           0  atomic fragments
-           0  first fragments
-           0  middle fragments
-           0  last fragments
-           0  packets with missing bytes
           44  payload bytes
-           0  IPv4 packets announced as IPv6, or IPv6 as IPv4
 protocols of frames without an IP packet
            1  EtherType 0x0806
 chains

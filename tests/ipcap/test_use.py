@@ -4,12 +4,15 @@ import os
 import pty
 import random
 import re
+import resource
 import select
+import shutil
 import signal
 import subprocess
 
 from captures import *
 
+STACK = 160 << 10
 COMMANDS = ["stat", "sum", "filter", "show", "defrag", "rewrite"]
 
 
@@ -25,8 +28,18 @@ def helps(harness):
         harness.check(re.match(rb"ipcap \d+\.\d+\.\d+\nlibpcap ", found), arguments, found)
 
 
+    for arguments in [["help"]] + [["help", c] for c in COMMANDS]:
+        wanted = harness.run(*arguments[1:], "--help")
+        harness.equal(harness.run(*arguments), wanted, arguments)
+        harness.equal(wanted[0], 0, arguments)
+
+
 def wrong_usage(harness):
-    for arguments in [[], ["frob"], ["--frob"], ["x" * 500], ["stat", "--frob"], ["sum", "file"], ["sum", "--frob"],
+    """Without arguments, the usage is printed. Otherwise one line says what is wrong."""
+    found = harness.run()
+    harness.equal((found[0], found[1], found[2].encode()), (2, b"", harness.run("--help")[1]), "no argument")
+    for arguments in [["frob"], ["--frob"], ["x" * 500], ["help", "frob"], ["help", "stat", "sum"],
+                      ["stat", "--frob"], ["sum", "file"], ["sum", "--frob"],
                       ["show", "a", "b"],
                       ["show", "--color"], ["show", "--color=red"], ["show", "-w", "x"], ["show", "-c", "0"],
                       ["show", "--json", "--one-line"], ["show", "--csv", "--json"],
@@ -36,7 +49,73 @@ def wrong_usage(harness):
                       ["stat", "--tunnels=1"], ["sum", "--tunnels"], ["show", "--tunnels"]]:
         status, found, errors, _ = harness.run(*arguments)
         harness.equal((status, found), (2, b""), arguments)
-        harness.check("usage: ipcap " in errors, arguments, errors)
+        name = "ipcap " + arguments[0] if arguments[0] in COMMANDS else "ipcap"
+        harness.check(errors.startswith("ipcap: ") and errors.endswith("; see `%s --help`\n" % name) and errors.count("\n") == 1,
+                      arguments, errors)
+    for arguments, words in [(["--frob"], "unknown option '--frob'"), (["--frob=1"], "unknown option '--frob=1'"),
+                             (["-x"], "unknown option '-x'"), (["-nx"], "unknown option '-x'"), (["--s"], "ambiguous option '--s'"),
+                             (["--s=1"], "ambiguous option '--s=1'"), (["--since"], "--since needs an argument: a time such as "),
+                             (["-w"], "-w needs an argument: a path"), (["-nw"], "-w needs an argument: a path"),
+                             (["--show=1"], "--show takes no argument"), (["--help=1"], "--help takes no argument"),
+                             (["--version=1"], "--version takes no argument"), (["-c0"], "-c must be a number above 0")]:
+        found = harness.run("filter", *arguments)
+        harness.check(found[2].startswith("ipcap: " + words) and found[2].count("\n") == 1, arguments, found[2])
+    harness.equal(harness.run("filter", "--sh", "fault")[0], 0, "a shortened option")
+
+
+# What is given, and how it is shown: characters of C1 in UTF-8 and alone, those that change a text's direction, and others.
+HIDDEN = [(b"a\x9b31mb", "a\\x9b31mb"), ("a\x9b31mb".encode(), "a\\xc2\\x9b31mb"), (b"\xe9", "\\xe9"),
+          ("a\u202egnp.pcap".encode(), "a\\xe2\\x80\\xaegnp.pcap"), ("\u2066x\u2069".encode(), "\\xe2\\x81\\xa6x\\xe2\\x81\\xa9"),
+          ("\u200f\u061c".encode(), "\\xe2\\x80\\x8f\\xd8\\x9c"), ("\u2028".encode(), "\\xe2\\x80\\xa8"), (b"\033]0;x\007", "\\x1b]0;x\\x07"),
+          ("\u00a0\u4e2d\u00e9\U0001f600".encode(), "\u00a0\u4e2d\u00e9\U0001f600")]
+
+
+def hidden_characters(harness):
+    """Characters that change the terminal, or the direction of its text, are escaped wherever arguments are shown."""
+    for number, (given, shown) in enumerate(HIDDEN):
+        name = os.fsdecode(given)
+        for command in COMMANDS[number % 6:][:1] if number else COMMANDS:
+            words = "sum reads standard input and takes no file name; see `ipcap sum --help`" if command == "sum" else "%s: No such file or directory" % shown
+            found = harness.run(command, *{"filter": ["-r", name, "fault"], "rewrite": ["--clear", name]}.get(command, [name]))
+            harness.equal(found[2], "ipcap: %s\n" % words, command, given)
+            found = harness.run(command, "--" + name)
+            harness.equal(found[2], "ipcap: unknown option '--%s'; see `ipcap %s --help`\n" % (shown, command), command, "option", given)
+            found = harness.run(command, "--version=" + name)
+            harness.equal(found[2], "ipcap: --version takes no argument; see `ipcap %s --help`\n" % command, command, "argument", given)
+        harness.equal(harness.run(name)[2], "ipcap: unknown command '%s'; see `ipcap --help`\n" % shown, "command", given)
+        errors = harness.run("filter", "ip frob%s and ip" % name)[2]
+        harness.check(not re.search("[\x00-\x09\x0b-\x1f\x7f-\x9f\u061c\u200e\u200f\u2028-\u202e\u2066-\u2069]", errors), given, repr(errors))
+        harness.check(errors.endswith("\n     ^\n"), given, repr(errors))
+    found = harness.run("stat", "-\u00e9")
+    harness.equal(found[2], "ipcap: unknown option '-\\xc3'; see `ipcap stat --help`\n", "a letter that isn't ASCII")
+
+
+def make_lines(compiler, folder):
+    """Returns the commands that make would run with a compiler."""
+    programs = os.path.join(os.path.dirname(os.path.abspath(__file__)), "..", "..", "programs")
+    library = "/nonexistent/libwolfaren.a"
+    command = ["make", "-n", "-B", "-C", programs, "-o", library, "ipcap", "CC=" + compiler, "LIB=" + library, "OUT=" + folder]
+    return subprocess.run(command, stdout=subprocess.PIPE, check=True).stdout.decode()
+
+
+def hardening(harness):
+    """The compiler is given the flags that harden a program, but for those that it doesn't take."""
+    for compiler, branches, other in [("gcc", "-fcf-protection", "-mbranch-protection"),
+                                      ("aarch64-linux-gnu-gcc", "-mbranch-protection=standard", "-fcf-protection")]:
+        if not shutil.which(compiler):
+            print("hardening: skipped, %s missing" % compiler)
+            continue
+        lines = make_lines(compiler, harness.path(""))
+        compiled = [line for line in lines.splitlines() if " -c -o " in line]
+        harness.check(len(compiled) > 20, compiler, lines)
+        for line in compiled:
+            for flag in (branches, "-fstack-clash-protection", "-D_FORTIFY_SOURCE=3", "-fstack-protector-strong"):
+                harness.check(" %s " % flag in line, compiler, flag, line)
+            harness.check(other not in line, compiler, other, line)
+    refusing = harness.file(b"#!/bin/sh\ncase \"$*\" in *-fcf-protection*|*clash*) exit 1;; esac\nexec gcc \"$@\"\n", ".sh")
+    os.chmod(refusing, 0o755)
+    lines = make_lines(refusing, harness.path(""))
+    harness.check("-D_FORTIFY_SOURCE=3" in lines and "-fcf-protection" not in lines and "clash" not in lines, "flags that are refused", lines)
 
 
 def names_of_files(harness):
@@ -185,6 +264,28 @@ def refuse_each(harness, arguments, given=b""):
             harness.check(found.returncode == 1 and found.stderr.startswith(b"ipcap: "), arguments, number, found)
             failures += 1
     harness.check(failures > 1, arguments, "failed on", failures)
+
+
+def manual(harness):
+    """What tcpdump writes to a pipe of the manual's examples arrives at once."""
+    path = os.path.join(os.path.dirname(os.path.abspath(__file__)), "..", "..", "programs", "ipcap", "ipcap.1")
+    with open(path) as file:
+        pipes = [line.replace("\\", "") for line in file if line.startswith("tcpdump") and "|" in line]
+    harness.check(pipes and all(" -U --immediate-mode -w - " in line for line in pipes), pipes)
+
+
+def limit_stack():
+    resource.setrlimit(resource.RLIMIT_STACK, (STACK, STACK))
+
+
+def small_stacks(harness):
+    """Threads with little room on their stacks, as some C libraries give them, count and filter files."""
+    path = harness.file(capture([ethernet(ipv6_chain([0]))] * 9))
+    wanted = harness.run("stat", "--json", path, path, path)[1]
+    for command, output in [(harness.plain + ["stat", "--json", "-j2", path, path, path], wanted),
+                            (harness.commands("count")[0] + [path], harness.run("stat", "--json", path)[1])]:
+        found = subprocess.run(command, stdout=subprocess.PIPE, env={}, preexec_fn=limit_stack)
+        harness.equal((found.returncode, found.stdout), (0, output), command)
 
 
 def refused_memory(harness):

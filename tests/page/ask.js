@@ -37,6 +37,8 @@
     }
     async function ask(it) {
         if (it.drop !== undefined) return drop(it);
+        if (it.choose !== undefined) return choose(it);
+        if (it.read !== undefined) return Wolfaren.input.read(it.read).format;
         if (it.hash !== undefined) return follow(it.hash);
         if (it.use !== undefined) return { save: save(), keys: keys(), stops: stops() };
         if (it.names !== undefined) return Array.from({ length: 256 }, (_, i) => Wolfaren.names.ofNumber(i));
@@ -72,14 +74,28 @@
         return { ...answer(), each: at("packets").hidden ? [[link()[0].slice(1), link().pop()]] : found };
     }
     async function drop(it) {
-        const transfer = new DataTransfer();
-        transfer.items.add(new File([Uint8Array.from(atob(it.drop), (letter) => letter.charCodeAt(0))], "some.pcap"));
+        const transfer = transferOf(it.drop);
         at("kind").value = it.kind || "auto";
         at("packet-list").replaceChildren();
         at("told").hidden = true;
         dispatchEvent(new DragEvent("drop", { dataTransfer: transfer, cancelable: true }));
         await until(() => at("packet-list").children.length > 0 || !at("told").hidden);
-        return it.keys ? chosenBy(it.keys) : it.link ? followOwn() : each();
+        return it.head ? { told: shown("told"), head: at("packets-head").textContent } : it.keys ? chosenBy(it.keys) : it.link ? followOwn() : each();
+    }
+    // Chooses a file. Returns how many files the field names then, and after an example was taken.
+    async function choose(it) {
+        at("file").files = transferOf(it.choose).files;
+        at("packet-list").replaceChildren();
+        at("file").dispatchEvent(new Event("change"));
+        await until(() => at("packet-list").children.length > 0);
+        const chosen = at("file").files.length;
+        await follow(it.then);
+        return [chosen, at("file").files.length];
+    }
+    function transferOf(content) {
+        const transfer = new DataTransfer();
+        transfer.items.add(new File([Uint8Array.from(atob(content), (letter) => letter.charCodeAt(0))], "some.pcap"));
+        return transfer;
     }
     // Follows the page's link to the packet that is drawn.
     async function followOwn() {

@@ -127,6 +127,10 @@ def spellings(packet):
 # Texts with the packets that they mean, and words of what the page says of the format.
 READ = [
     ("a colon is a byte of an escaped string", r'":\x00\x05\x02\x00\x00\x01\x00"', ["3a00050200000100"], "an escaped string: 8 bytes"),
+    ("what the kernel prints of a packet", dumped(bytes.fromhex(PACKET), lambda at: f"skb raw: {at:08x}: ", pairs, bare), [PACKET],
+     "60 bytes. Left out: what precedes the offsets"),
+    ("two packets that the kernel prints", dumped(bytes.fromhex(PACKET) * 2, lambda at: f"[    1.5] skb linear:   {at % 60:08x}: ", pairs,
+                                                  padded(48), 15), [PACKET] * 2, "120 bytes in 2 packets. Left out: what precedes the offsets"),
     ("a colon without quotes", r":\x00\x05\x02\x00\x00\x01\x00", ["3a00050200000100"], "an escaped string without quotes: 8 bytes"),
     ("a space is a byte unless all escapes are apart", r"\x60\x00 \x01", ["60002001"], "4 bytes"),
     ("Python's repr of 120 bytes", repr(PRINTABLE), [PRINTABLE.hex()], "an escaped string: 120 bytes"),
@@ -170,7 +174,7 @@ REFUSED = [
     ("decimal words of hexdump", "0000000   00096   00000   05120\n0000006\n", "", NOT_BYTES, None),
     ("xxd -e without its text", "00000000: 62610060 00004241\n", "", "groups of four bytes may be swapped", None),
     ("words with offsets that may be octal", "0000000" + " 0060" * 8 + "\n*\n0000040\n", "", "offsets may be octal or hexadecimal", None),
-    ("base32", "GAYTEMZUGU3DOOBZMFRGGZDF", "3ddf", "not a hexadecimal digit", None),
+    ("base32", "GAYTEMZUGU3DOOBZMFRGGZDF", "", "most of this isn't hexadecimal digits", None),
     ("numbers below 100", "96 0 0 0 0 20 60 64", "", SEVERAL, None),
     ("octal numbers", "0140, 0, 0, 0, 0, 024", "", SEVERAL, None),
     ("octal numbers in an array", "{0140, 0, 0, 024}", "", SEVERAL, None),
@@ -195,5 +199,9 @@ REFUSED = [
     ("repeated rows without an end", "00000000  60 00\n*\n", "6000", "no offset after the repeated rows", ["*"]),
     ("repeated rows that don't fit", "00000000  60 00\n*\n00000005\n", "6000", "no whole rows up to offset 00000005", ["*", "00000005"]),
     ("more than the text of a row", "0000  60 00  `. and more text\n", "6000", "more than the text of the row", ["`. and more text"]),
-    ("words of prose", "hello", "", "not a hexadecimal digit", None),
+    ("words of prose", "hello", "", "most of this isn't hexadecimal digits", ["hello"]),
+    ("words of prose with digits", "This is a packet of one.", "", "most of this isn't hexadecimal digits", None),
+    ("a comment that doesn't end", "6000 /* 00", "600000", "not a hexadecimal digit", ["/*"]),
 ]
+# What begins and doesn't end, of which long texts are made.
+UNENDED = ["/* ", "/*\n", '" /* ', '"\\', "'\\\"a ", "# /* ", '{0x60} /* ', '"\\x60" /* ', "[1,2]"]

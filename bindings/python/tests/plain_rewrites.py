@@ -65,8 +65,9 @@ class Packet:
         self.payload = rest
         if stated and whole > len(data):
             raise Refused("MISSING")
-        if is_later:
+        if is_later and self.version == 4:
             raise Refused("LATER_FRAGMENT")
+        self.is_later = is_later
 
     def extensions(self):
         """Returns the numbers that are extension headers after those so far."""
@@ -88,6 +89,8 @@ class Packet:
         numbers = [it for it, _ in headers] + [number]
         chain = b"".join(bytes([following]) + data[1:] for (_, data), following in zip(headers, numbers[1:]))
         base, counted = bytearray(self.base), len(chain) + len(payload) + (len(self.base) if self.version == 4 else 0)
+        if not self.states_length and len(chain) + len(payload) != sum(len(it) for _, it in self.headers) + len(self.payload):
+            raise Refused("NO_LENGTH")
         if self.states_length and counted > 65535:
             raise Refused("TOO_LONG")
         base[9 if self.version == 4 else 6] = numbers[0]
@@ -99,7 +102,19 @@ class Packet:
         return bytes(base) + chain + payload
 
     def is_covered(self, headers, may_be_invalid):
-        return not may_be_invalid and any(number == AUTHENTICATION for number, _ in headers)
+        """Whether there is an authentication header whose value has to hold. That of a later fragment is where its header leads."""
+        follows = self.is_later and self.number == AUTHENTICATION
+        return not may_be_invalid and (follows or any(number == AUTHENTICATION for number, _ in headers))
+
+    def has_covered(self, is_changed):
+        """Whether a header that is changed is part of what a check value is computed of: any but a fragment header that no
+        authentication header precedes, since a packet is whole where the value is computed (RFC 4302, sections 3.3.4, 3.4.1)."""
+        after = False
+        for index, header in enumerate(self.headers):
+            if is_changed(index, header) and (after or header[0] != FRAGMENT):
+                return True
+            after |= header[0] == AUTHENTICATION
+        return False
 
     def has_fragmented(self, is_changed):
         """Whether a header that is changed, by its index and itself, is in the part that is fragmented."""
@@ -122,7 +137,7 @@ def without(data, is_selected, may_be_invalid):
         raise Refused("FRAGMENT_HEADER")
     if packet.has_fragmented(is_selected):
         raise Refused("FRAGMENTED")
-    if packet.is_covered(kept, may_be_invalid):
+    if packet.is_covered(kept, may_be_invalid) and packet.has_covered(is_selected):
         raise Refused("AUTHENTICATED")
     if packet.version == 4 and packet.number == AUTHENTICATION:
         raise Refused("HEADER_FOLLOWS")
@@ -171,7 +186,7 @@ def cleared(data, may_be_invalid):
     packet = Packet(data)
     if packet.has_fragmented(lambda index, header: has_reserved(header)):
         raise Refused("FRAGMENTED")
-    if any(has_reserved(it) for it in packet.headers) and packet.is_covered(packet.headers, may_be_invalid):
+    if packet.has_covered(lambda index, header: has_reserved(header)) and packet.is_covered(packet.headers, may_be_invalid):
         raise Refused("AUTHENTICATED")
     headers = []
     for number, header in packet.headers:

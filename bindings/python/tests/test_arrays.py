@@ -5,6 +5,7 @@ import json
 import os
 import random
 import re
+import signal
 import tempfile
 import threading
 import time
@@ -93,6 +94,14 @@ class AsSingleCalls(unittest.TestCase):
                                              "IPv6 44 -> 60": 1})
         self.check(buffer, offsets, lengths)
 
+    def test_differences(self):
+        """Differences between rows have their sign."""
+        columns = dissect_many(*joined([ipv6(17, UDP), ipv6_chain([60, 60]), LATER_FRAGMENT]))
+        for name in ["payload_offset", "headers", "fragment_offset", "version", "fragment"]:
+            one, two, three = columns[name].tolist()
+            self.assertEqual(numpy.diff(columns[name]).tolist(), [two - one, three - two], name)
+        self.assertEqual(numpy.diff(columns["payload_offset"]).tolist(), [16, -8])
+
     def test_random_packets(self):
         for seed, gap in [(1, b""), (2, b"\x60\x00\x00")]:
             self.check(*joined(random_packets(3000, seed), gap))
@@ -148,6 +157,10 @@ class Arguments(unittest.TestCase):
         for dtype in ["u8", "i8", "u4", "i2", ">i4"]:
             many = dissect_many(buffer, numpy.array(offsets, dtype), tuple(lengths))
             self.assertEqual(many.tobytes(), wanted.tobytes())
+        unmasked = numpy.ma.array(offsets, mask=[False] * len(offsets))
+        objects = numpy.array(offsets, object)  # as pandas' Int64 becomes
+        for kind in [unmasked, objects]:
+            self.assertEqual(dissect_many(buffer, kind, lengths).tobytes(), wanted.tobytes())
         every = numpy.array(list(zip(offsets, lengths)))
         self.assertEqual(dissect_many(buffer, every[:, 0], every[:, 1]).tobytes(), wanted.tobytes())
 
@@ -173,20 +186,22 @@ class Arguments(unittest.TestCase):
                 self.assertEqual(raised.exception.offset, int(offsets[0]))
 
     def test_wrong(self):
-        for call, _ in self.calls():
-            for offsets, lengths in [([0.0], [1]), ([0], ["1"]), ([[0]], [[1]]), (0, 1), ([2**70], [1]), ([True], [True])]:
+        masked = numpy.ma.array([0, 1], mask=[False, True])
+        for call, state in self.calls():
+            for offsets, lengths in [(masked, [1, 1]), ([0, 1], masked), ([0, None], [1, 1]), ([0.0], [1]), ([0], ["1"]), ([[0]], [[1]]), (0, 1), ([2**70], [1]), ([True], [True])]:
                 with self.assertRaises(TypeError):
                     call(b"12", offsets, lengths)
             with self.assertRaises(ValueError):
                 call(b"12", [0, 1], [1])
             with self.assertRaises(TypeError):
                 call("12", [0], [1])
+            self.assertIn(state(), [None, 0])
 
 
 class Documentation(unittest.TestCase):
     def test_columns(self):
         """The documentation lists each column with its type."""
-        listed = re.findall(r"^    (\w+(?:\.\w+)?)  +(u\d) ", inspect.getdoc(dissect_many), re.M)
+        listed = re.findall(r"^    (\w+(?:\.\w+)?)  +([iu]\d) ", inspect.getdoc(dissect_many), re.M)
         dtype = dissect_many(b"", [], []).dtype
         columns = []
         for name in dtype.names:
@@ -195,7 +210,31 @@ class Documentation(unittest.TestCase):
         self.assertEqual(listed, columns)
 
 
+class Signalled(Exception):
+    pass
+
+
 class Threads(unittest.TestCase):
+    def test_signals(self):
+        """What the handler of a signal raises ends a call for many packets soon, and nothing is counted then."""
+        buffer, count = ipv6_chain([60] * 8000), 1200000  # ten seconds of work or more for each call
+        offsets, lengths, statistics = numpy.zeros(count, "u8"), numpy.full(count, len(buffer)), Statistics()
+
+        def handle(*_):
+            raise Signalled
+        before = signal.signal(signal.SIGALRM, handle)
+        try:
+            for call in [statistics.add_many, Filter("option 5").matches_many, dissect_many]:
+                began = time.monotonic()
+                signal.setitimer(signal.ITIMER_REAL, 0.1)
+                with self.assertRaises(Signalled):
+                    call(buffer, offsets, lengths)
+                self.assertLess(time.monotonic() - began, 5)
+        finally:
+            signal.setitimer(signal.ITIMER_REAL, 0)
+            signal.signal(signal.SIGALRM, before)
+        self.assertEqual(statistics, Statistics())
+
     def test_others_run(self):
         """Another thread runs while many packets are counted: the call doesn't hold the interpreter's lock."""
         buffer = ipv6_chain([60] * 8000)

@@ -24,7 +24,7 @@ from captures import LOOP, NANOSECONDS, RAW, SLL2, cooked2
 
 import wolfaren
 from wolfaren._library import captures
-from wolfaren import CaptureError, CaptureOSError, Filter, Packet, Statistics, Written, packets
+from wolfaren import CaptureError, CaptureOSError, CaptureWarning, Filter, Packet, Statistics, Written, packets
 
 ARP = ethernet(bytes(46), (), 0x0806)
 LATE = 2**32 - 1
@@ -154,8 +154,10 @@ class Packets(Scratch):
                 error = raised
                 self.assertEqual(open_files(path), 0)  # although the traceback refers to what the generator had
             self.assertRegex(error.reason, "can't read packet 4: ")
-            self.assertEqual((found, error.path, error.statistics), ([1, 2, 3], path, Statistics()))
+            self.assertEqual((found, error.path, error.statistics), ([1, 2, 3], path, None))
             self.assertNotIsInstance(error, OSError)
+            with self.assertWarnsRegex(CaptureWarning, f"^{re.escape(str(error))}$"):
+                self.assertEqual([it.number for it in packets(path, on_error="warn")], [1, 2, 3])
 
     def test_unreadable(self):
         """The capture is opened by the call, before a packet is asked for."""
@@ -167,6 +169,16 @@ class Packets(Scratch):
         with self.assertRaises(CaptureOSError) as raised:
             packets(f"{self.folder}/none")
         self.assertEqual((raised.exception.errno, raised.exception.filename), (errno.ENOENT, f"{self.folder}/none"))
+        with self.assertWarnsRegex(CaptureWarning, "No such file"):
+            self.assertEqual([*packets(f"{self.folder}/none", on_error="warn")], [])
+        with self.assertRaisesRegex(ValueError, "on_error is 'raise' or 'warn', not 'ignore'"):
+            packets(self.folder, on_error="ignore")
+
+    def test_null_byte(self):
+        path = self.file(capture([ethernet(PACKETS[0])]))
+        for name in [f"{path}\0", f"{path}\0b", "\0"]:
+            with self.assertRaisesRegex(ValueError, "^embedded null byte$"):
+                packets(name)
 
     def test_stopped_early(self):
         path = self.file(capture([ethernet(it) for it in PACKETS[:4]]))
@@ -377,7 +389,7 @@ class Writes(Scratch):
         before = self.file(b"kept", "b.pcap")
         with self.assertRaisesRegex(CaptureError, ": interface 1: link layer IEEE802_11 .* isn't supported$") as raised:
             Filter("version 6").write(path, before)
-        self.assertEqual(raised.exception.path, path)
+        self.assertEqual((raised.exception.path, raised.exception.written), (path, Written(3, 2)))
         ipcap("filter", "-w", f"{self.folder}/c", "version 6", path, status=1)
         with open(before, "rb") as found, open(f"{self.folder}/c", "rb") as wanted:
             self.assertEqual((found.read(), wanted.read()), (head + packet[0] + packet[2],) * 2)
@@ -416,6 +428,16 @@ class Writes(Scratch):
         for output in [self.input, f"{self.folder}/link", f"{self.folder}/symbolic"]:
             with self.assertRaisesRegex(shutil.SameFileError, "are the same file"):
                 Filter("version 6").write(self.input, output)
+        with open(self.input, "rb") as it:
+            self.assertEqual(it.read(), self.content)
+
+    def test_null_byte(self):
+        """A path with a null byte isn't that of the file before the byte, which may be the input."""
+        for one, other in [(f"{self.input}\0", self.input), (self.input, f"{self.input}\0"), (self.input, f"{self.output}\0"),
+                           (f"{self.input}\0b", self.output)]:
+            with self.assertRaisesRegex(ValueError, "^embedded null byte$"):
+                Filter("version 4").write(one, other)
+        self.assertEqual(self.left(), [])
         with open(self.input, "rb") as it:
             self.assertEqual(it.read(), self.content)
 

@@ -1,13 +1,16 @@
 """Tests of `Defragmenter`. Fragments are made here, and by scapy, which also makes them whole."""
 
+import copy
 import itertools
 import json
 import os
+import pickle
 import random
 import shutil
 import struct
 import subprocess
 import sys
+import threading
 import unittest
 
 from support import UDP, checksum, fragment, ipv4, ipv6, ipv6_chain
@@ -20,6 +23,11 @@ def pieces(identification, data, size):
     """Returns the fragments of an IPv6 packet with this payload."""
     starts = range(0, len(data), size)
     return [ipv6(44, fragment(17, start // 8, start + size < len(data), identification) + data[start:start + size]) for start in starts]
+
+
+def piece_to_end(packet):
+    """Returns a fragment as one that others follow."""
+    return packet[:43] + bytes([packet[43] | 1]) + packet[44:]
 
 
 # Sends fragments to the kernel, in a network namespace, and says what arrives.
@@ -112,6 +120,109 @@ class Defragmenters(unittest.TestCase):
         self.assertEqual(defragmenter.counts["timed_out"], 2)
         self.assertEqual(defragmenter.add(packets[2][1], 60 * 10**9 + 12), ipv6(17, bytes(range(16))))
         self.assertIsNone(defragmenter.add(packets[0][1], 60 * 10**9 + 12))
+
+    def test_missing_times(self):
+        """A packet without a time arrives with the last one that has a time, as in ipcap."""
+        defragmenter = Defragmenter(64)
+        first, last = pieces(1, bytes(16), 8)
+        self.assertIsNone(defragmenter.add(first, None))
+        self.assertIsNone(defragmenter.add(pieces(2, bytes(16), 8)[0], 60 * 10**9 + 1))
+        for time in [None, -1]:
+            self.assertEqual(defragmenter.counts["timed_out"], 0 if time is None else 1)
+            self.assertIsNone(defragmenter.add(last, time))
+        with self.assertRaises(TypeError):
+            defragmenter.add(first, "1")
+
+    def test_fork(self):
+        """After a fork, the packets of the parent are made whole with its own bytes, and those of the child with its own."""
+        defragmenter = Defragmenter()
+        mine, other = pieces(1, b"parent's" * 2, 8), pieces(1, b"children" * 2, 8)
+        self.assertIsNone(defragmenter.add(ipv6(44, fragment(17, 2, 0, 1) + b"the end.")))
+        child = os.fork()
+        if child == 0:
+            is_whole = [defragmenter.add(it) for it in (other[0], piece_to_end(other[1]))][1] == ipv6(17, b"children" * 2 + b"the end.")
+            os._exit(0 if is_whole else 1)
+        self.assertEqual(os.waitpid(child, 0)[1], 0)
+        found = [defragmenter.add(it) for it in (mine[0], piece_to_end(mine[1]))]
+        self.assertEqual(found, [None, ipv6(17, b"parent's" * 2 + b"the end.")])
+
+    def test_threads(self):
+        """Threads share a defragmenter: each packet has its own bytes."""
+        defragmenter, wrong = Defragmenter(), []
+
+        def add(thread):
+            for number in range(3000):
+                data = struct.pack(">II", thread, number) * 100
+                found = [defragmenter.add(it) for it in pieces(thread << 16 | number, data, 400)]
+                if found != [None, ipv6(17, data)]:
+                    wrong.append(number)
+        threads = [threading.Thread(target=add, args=(it,)) for it in range(4)]
+        for it in threads:
+            it.start()
+        for it in threads:
+            it.join()
+        self.assertEqual((len(wrong), defragmenter.counts["whole"]), (0, 12000))
+
+    def test_copies(self):
+        for make in [copy.copy, copy.deepcopy, pickle.dumps]:
+            with self.assertRaisesRegex(TypeError, "a Defragmenter can't be pickled or copied"):
+                make(Defragmenter(1))
+
+    def test_timeout(self):
+        defragmenter = Defragmenter(1, timeout=1.5)
+        first, last = pieces(1, bytes(range(16)), 8)
+        defragmenter.add(first, 10)
+        self.assertEqual(defragmenter.give_up(10 + 15 * 10**8), 0)
+        self.assertEqual(defragmenter.add(last, 10 + 15 * 10**8), ipv6(17, bytes(range(16))))
+        defragmenter.add(first, 10)
+        self.assertEqual(defragmenter.give_up(11 + 15 * 10**8), 1)
+        defragmenter = Defragmenter(1, timeout=0)
+        defragmenter.add(first, 10)
+        self.assertIsNone(defragmenter.add(last, 9))
+        self.assertEqual(defragmenter.counts["timed_out"], 1)
+        for timeout in (-1, 1e300, float("nan"), float("inf")):
+            with self.assertRaises(ValueError):
+                Defragmenter(timeout=timeout)
+
+    def test_contexts(self):
+        defragmenter = Defragmenter()
+        first, last = pieces(1, bytes(range(16)), 8)
+        self.assertIsNone(defragmenter.add(first, context=5))
+        self.assertIsNone(defragmenter.add(last, context=2**32 - 1))
+        self.assertIsNone(defragmenter.add(last))
+        for packet, context in [(last, 5), (first, 2**32 - 1), (first, 0)]:
+            self.assertEqual(defragmenter.add(packet, 0, context), ipv6(17, bytes(range(16))))
+        for context in (-1, 2**32):
+            with self.assertRaises(OverflowError):
+                defragmenter.add(first, context=context)
+
+    def test_congestion(self):
+        from scapy.layers.inet import IP, fragment as fragment4
+        for points in itertools.product(range(4), repeat=2):
+            with self.subTest(points):
+                parts = fragment4(IP(bytes(IP(src="192.0.2.1", dst="192.0.2.2", tos=0x28) / bytes(range(64)))), 32)
+                for part, point in zip(parts, points):
+                    part.tos |= point
+                    part.chksum = None
+                defragmenter = Defragmenter(1)
+                self.assertIsNone(defragmenter.add(bytes(parts[0])))
+                found = defragmenter.add(bytes(parts[1]))
+                if 0 in points and any(points):
+                    self.assertIsNone(found)
+                    self.assertEqual(defragmenter.counts["mixed_ecn"], 1)
+                else:
+                    tos = 0x28 | (3 if 3 in points else points[0])
+                    self.assertEqual(found, bytes(IP(src="192.0.2.1", dst="192.0.2.2", tos=tos) / bytes(range(64))))
+
+    def test_refused(self):
+        defragmenter = Defragmenter(1)
+        first, last = pieces(1, bytes(range(16)), 8)
+        self.assertIsNone(defragmenter.add(first))
+        self.assertIsNone(defragmenter.add(ipv6(44, fragment(17, 0, True, 2) + bytes(7))))
+        self.assertIsNone(defragmenter.add(ipv6(44, fragment(17, 8191, False, 2) + bytes(8))))
+        self.assertEqual(defragmenter.add(last), ipv6(17, bytes(range(16))))
+        counts = {name: count for name, count in defragmenter.counts.items() if count}
+        self.assertEqual(counts, {"more_wanted": 1, "whole": 1, "unaligned": 1, "too_long": 1})
 
     def test_scapy(self):
         from scapy.layers.inet import IP, UDP as ScapyUdp, defragment, fragment as fragment4

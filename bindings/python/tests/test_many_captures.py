@@ -66,8 +66,10 @@ class Cluster(unittest.TestCase):
         paths = write_captures(self.folder, 12)
         found = table(paths, ["chain", "src"]).compute(scheduler=self.client)
         self.assertEqual(found.chain.value_counts().to_dict(), dict(statistics_of_many(paths, self.client).statistics.chains))
+        with_none = [*paths, f"{self.folder}/none"]
+        self.assertEqual(len(table(with_none, ["number"]).compute(scheduler=self.client)), len(found))
         with self.assertRaisesRegex(CaptureError, "No such file"):
-            table([*paths, f"{self.folder}/none"], ["number"]).compute(scheduler=self.client)
+            table(with_none, ["number"], on_error="raise").compute(scheduler=self.client)
 
     def test_no_captures(self):
         statistics, damaged = statistics_of_many([], self.client)

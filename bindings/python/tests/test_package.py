@@ -1,7 +1,9 @@
 """Tests of what the package is made of: the declared calls, the libraries that it refuses, and its wheel."""
 
+import enum
 import glob
 import importlib.util
+import inspect
 import os
 import re
 import shutil
@@ -72,8 +74,14 @@ class Types(unittest.TestCase):
                   "packet.time_ns": "Union[builtins.int, None]", "packet.bytes": "builtins.bytes",
                   "packet.time": "Union[datetime.datetime, None]",
                   "wolfaren.Filter('fault').write('one', 'other').written": "builtins.int",
-                  "wolfaren.without(b'', index=0).packet": "builtins.bytes"}
-        lines = ["import wolfaren", "counts, parts = wolfaren.Statistics(), wolfaren.dissect(b'')", "counts.packet",
+                  "wolfaren.without(b'', index=0).packet": "builtins.bytes",
+                  "wolfaren.dissect(mmap.mmap(-1, 9)).version": "builtins.int",
+                  "wolfaren.Filter('fault').matches(array.array('B'))": "builtins.bool",
+                  "wolfaren.Defragmenter().add(packet.bytes, packet.time_ns)": "Union[builtins.bytes, None]",
+                  "error.statistics": "Union[wolfaren._statistics.Statistics, None]",
+                  "error.written": "Union[Tuple[builtins.int, builtins.int, fallback=wolfaren._captures.Written], None]"}
+        lines = ["import array, mmap", "import wolfaren", "error = wolfaren.CaptureError('', '')",
+                 "counts, parts = wolfaren.Statistics(), wolfaren.dissect(b'')", "counts.packet",
                  "packet = next(wolfaren.packets(''))"]
         with tempfile.TemporaryDirectory() as folder:
             program = write(folder, "program.py", "\n".join(lines + [f"reveal_type({it})" for it in wanted]).encode())
@@ -82,6 +90,17 @@ class Types(unittest.TestCase):
         self.assertEqual(status, 1)
         self.assertEqual(re.findall(r'Revealed type is "(.*)"', said), [*wanted.values()], said)
         self.assertEqual(re.findall(r"error: (.*?);", said), ['"Statistics" has no attribute "packet"'], said)
+
+
+class Documentation(unittest.TestCase):
+    def test_sharing(self):
+        """The documentation of each class says what threads, a fork and pickling do to its objects."""
+        named = [getattr(wolfaren, it) for it in wolfaren.__all__]
+        classes = [it for it in named if inspect.isclass(it) and not issubclass(it, (enum.Enum, Exception))]
+        self.assertGreater(len(classes), 9)
+        for it in classes:
+            for word in ["hreads", "fork", "pickled", "copied"]:
+                self.assertIn(word, inspect.getdoc(it), it)
 
 
 class Libraries(unittest.TestCase):
@@ -163,9 +182,13 @@ class Wheel(unittest.TestCase):
         """A wheel with the libraries is packed, its path is printed, and it is used where nothing else is found."""
         with tempfile.TemporaryDirectory() as folder:
             pip = [sys.executable, "-m", "pip", "--disable-pip-version-check"]
-            wheel = f"{folder}/wolfaren-{wolfaren.__version__}-py3-none-linux_x86_64.whl"
-            self.assertEqual(run([f"{ROOT}/scripts/wheel", folder, BUILD]), (0, f"{wheel}\n"))
-            self.assertEqual(os.listdir(folder), [os.path.basename(wheel)])
+            write(folder, f"wolfaren-{wolfaren.__version__}-py3-none-manylinux_2_1_x86_64.whl", b"of another build")
+            status, said = run([f"{ROOT}/scripts/wheel", folder, BUILD])
+            wheel = said.splitlines()[0]
+            self.assertEqual((status, os.listdir(folder)), (0, [os.path.basename(wheel)]), said)
+            self.assertRegex(wheel, rf"^{folder}/wolfaren-{wolfaren.__version__}-py3-none-(many)?linux_[0-9_]*x86_64\.whl$")
+            self.assertIn("PEP 668", said)
+            self.assertIn(f"python3 -m venv wolfaren-python && wolfaren-python/bin/pip install {wheel}\n", said)
             status, said = run([*pip, "install", "--no-deps", "--no-index", "--target", f"{folder}/target", wheel])
             self.assertEqual(status, 0, said)
             with open(glob.glob(f"{folder}/target/wolfaren-*.dist-info/METADATA")[0], encoding="utf-8") as it:
@@ -175,6 +198,20 @@ class Wheel(unittest.TestCase):
             used = ["env", "-u", "WOLFAREN_LIB_DIR", f"PYTHONPATH={folder}/target", sys.executable, "-c"]
             self.assertEqual(run([*used, DISSECT]), (0, "17\n"))
             self.assertIn("CaptureOSError: /nonexistent: No such file", run([*used, COUNT])[1])
+
+    def test_tags(self):
+        """The tag names the glibc that the libraries need, unless they need another library, or a version without a number."""
+        calls = "int pthread_create(void); int other(void); int f(void) { return %s; }"
+        for call, tag in [("0", "manylinux_2_17"), ("pthread_create()", "manylinux_2_34"), ("other()", "linux")]:
+            with tempfile.TemporaryDirectory() as folder:
+                build = ["cc", "-shared", "-nostartfiles", "-x", "c", "-", "-o"]
+                subprocess.run([*build, f"{folder}/libother.so", "-Wl,-soname,libother.so.1"], input="int other(void) { return 1; }",
+                               text=True, check=True)
+                needs = [f"-L{folder}", "-Wl,--as-needed", "-lother"]
+                for name, content in [("libwolfaren.so.0", calls % "0"), ("libwolfaren-pcap.so.0", calls % call)]:
+                    subprocess.run([*build, f"{folder}/{name}", *needs], input=content, text=True, check=True)
+                _, said = run([f"{ROOT}/scripts/wheel", f"{folder}/wheels", folder])
+                self.assertRegex(said, rf"^{folder}/wheels/wolfaren-[\d.]*-py3-none-{tag}_x86_64\.whl\n")
 
     def test_plain_wheel(self):
         """A wheel without the libraries is for any machine."""

@@ -66,6 +66,19 @@ class Rewrites(unittest.TestCase):
         self.assert_refused(Refusal.AUTHENTICATED, packet, call=cleared)
         self.assertEqual(cleared(packet, may_be_invalid=True), (ipv6_chain([51]), True))
 
+    def test_covered_fragment_header(self):
+        self.assertEqual(without(ipv6_chain([44, 51]), number=44), (ipv6_chain([51]), True))
+        self.assertEqual(without(ipv6_chain([60, 44, 51]), index=1), (ipv6_chain([60, 51]), True))
+        self.assert_refused(Refusal.AUTHENTICATED, ipv6_chain([51, 44]), number=44)
+        self.assertEqual(without(ipv6_chain([51, 44]), number=44, may_be_invalid=True).packet, ipv6_chain([51]))
+        for numbers, at in ([44, 51], 41), ([51, 44], -len(UDP) - 7):
+            packet = bytearray(ipv6_chain(numbers))
+            packet[at] = 0xff
+            if numbers[0] == 44:
+                self.assertEqual(cleared(packet), (ipv6_chain(numbers), True))
+            else:
+                self.assert_refused(Refusal.AUTHENTICATED, packet, call=cleared)
+
     def test_order(self):
         for numbers, wanted in [([0, 60, 44, 43, 60], [0, 60, 43, 44, 60]), ([44, 43], [43, 44]), ([60, 44], [44, 60]), ([], []),
                                 ([0, 60, 43, 44, 60], [0, 60, 43, 44, 60])]:
@@ -83,12 +96,30 @@ class Rewrites(unittest.TestCase):
         self.assertTrue(without(packet, index=1).keeps_checksums)
         self.assertFalse(with_header(ipv6_chain([]), 43, b"\0\0\0\1\0\0\0\0", 0).keeps_checksums)
 
+    def test_later_fragments(self):
+        for offset, more in (1, 1), (8, 0), (8191, 0):
+            end = fragment(60, offset, more) + bytes(range(24))
+            later, plain = ipv6(0, options(44) + end), ipv6(44, end)
+            self.assertEqual(without(later, number=0), (plain, True))
+            self.assertEqual(with_header(plain, 0, options(9), 0), (later, True))
+            self.assertEqual(in_order(later), (later, True))
+            reserved = bytearray(later)
+            reserved[49], reserved[51] = 0xff, reserved[51] | 6
+            self.assertEqual(cleared(reserved), (later, True))
+            self.assert_refused(Refusal.FRAGMENT_HEADER, later, number=44)
+            self.assert_refused(Refusal.FRAGMENTED, later, 60, options(0), 2, call=with_header)
+            self.assert_refused(Refusal.FRAGMENTED, later, 17, UDP, call=with_payload)
+        covered, plain = ipv6(0, options(44) + fragment(51, 8, 0) + bytes(24)), ipv6(44, fragment(51, 8, 0) + bytes(24))
+        self.assert_refused(Refusal.AUTHENTICATED, covered, number=0)
+        self.assertEqual(without(covered, number=0, may_be_invalid=True).packet, plain)
+
     def test_refusals(self):
         first = ipv6(0, options(44) + fragment(60, 0, 1) + options(17) + bytes(8))
         self.assert_refused(Refusal.HEADERS, b"", index=0)
         self.assert_refused(Refusal.HEADERS, ipv6_chain([0])[:45], index=0)
         self.assert_refused(Refusal.MISSING, ipv6_chain([0])[:-1], index=0)
-        self.assert_refused(Refusal.LATER_FRAGMENT, LATER_FRAGMENT, index=0)
+        self.assert_refused(Refusal.LATER_FRAGMENT, ipv4(6, TCP, 1), index=0)
+        self.assert_refused(Refusal.FRAGMENT_HEADER, LATER_FRAGMENT, index=0)
         self.assert_refused(Refusal.NO_HEADER, ipv6_chain([0]), number=60)
         self.assert_refused(Refusal.FRAGMENT_HEADER, first, number=44)
         self.assert_refused(Refusal.FRAGMENTED, first, index=2)
@@ -106,6 +137,9 @@ class Rewrites(unittest.TestCase):
         self.assert_refused(Refusal.FRAGMENTED, first, 17, UDP, call=with_payload)
         self.assert_refused(Refusal.AUTHENTICATED, ipv6_chain([51]), 17, UDP, call=with_payload)
         self.assert_refused(Refusal.HEADER_FOLLOWS, ipv6_chain([]), 60, UDP, call=with_payload)
+        unstated = ipv6_chain([0, 60])[:4] + b"\0\0" + ipv6_chain([0, 60])[6:]
+        self.assert_refused(Refusal.NO_LENGTH, unstated, index=0)
+        self.assertEqual(in_order(unstated).packet, unstated)
         self.assert_refused(Refusal.TOO_LONG, ipv6_chain([]), 17, bytes(65536), call=with_payload)
         for refusal in Refusal:
             error = RewriteError(refusal)

@@ -160,7 +160,7 @@ class Json(unittest.TestCase):
                                 ('"17":1', '"256":1', 'not in "payload_numbers"'), ("{", "[{", ""), ("}", "", "")]:
             with self.assertRaisesRegex(ValueError, words):
                 Statistics.from_json(text.replace(old, new, 1))
-        for other in ["", "[]", "1", "null"]:
+        for other in ["", "[]", "1", "null", "[" * 100000, text.replace(":1", ":" + '{"a":' * 100000 + "1" + "}" * 100000, 1)]:
             with self.assertRaises(ValueError):
                 Statistics.from_json(other)
         with self.assertRaisesRegex(ValueError, "unknown member new"):
@@ -227,8 +227,9 @@ class Captures(unittest.TestCase):
         with self.assertRaisesRegex(CaptureError, "can't read packet 5: ") as raised:
             statistics_of(path)
         self.assertEqual(raised.exception.path, path)
-        self.assertEqual(raised.exception.statistics.packets, 4)
-        self.assertEqual(str(pickle.loads(pickle.dumps(raised.exception))), str(raised.exception))
+        for error in [raised.exception, pickle.loads(pickle.dumps(raised.exception))]:
+            self.assertEqual((error.statistics.packets, error.table, error.written), (4, None, None))
+            self.assertEqual((str(error), repr(error)), (f"{path}: {error.reason}", f"CaptureError({path!r}, {error.reason!r})"))
 
     def test_unreadable(self):
         for path, words in [(write(self.folder.name, "x", b"no capture"), "unknown file format"),
@@ -236,14 +237,19 @@ class Captures(unittest.TestCase):
                             (f"{self.folder.name}/none", "No such file"), (self.folder.name, "Is a directory")]:
             with self.assertRaisesRegex(CaptureError, words) as raised:
                 statistics_of(path)
-            self.assertEqual(raised.exception.statistics, Statistics())
+            self.assertIsNone(raised.exception.statistics)
 
     def test_refused_by_system(self):
-        for path, reason in [(f"{self.folder.name}/none", errno.ENOENT), (self.folder.name, errno.EISDIR)]:
-            with self.assertRaises(OSError) as raised:
+        for path, reason, kind in [(f"{self.folder.name}/none", errno.ENOENT, FileNotFoundError),
+                                   (self.folder.name, errno.EISDIR, IsADirectoryError),
+                                   (f"{self.path}/none", errno.ENOTDIR, NotADirectoryError),
+                                   (f"{self.folder.name}/{'x' * 300}", errno.ENAMETOOLONG, OSError)]:
+            with self.assertRaises(kind) as raised:
                 statistics_of(path)
             for error in [raised.exception, pickle.loads(pickle.dumps(raised.exception))]:
-                self.assertIsInstance(error, CaptureError)
+                self.assertIsInstance(error, CaptureOSError)
+                self.assertIsInstance(error, kind)
+                self.assertEqual(repr(error), f"CaptureOSError({path!r}, {os.strerror(reason)!r})")
                 self.assertEqual((error.errno, error.strerror, error.filename), (reason, os.strerror(reason), path))
                 self.assertEqual(str(error), f"{path}: {os.strerror(reason)}")
         for content in [b"no capture", self.content[:-1]]:
@@ -278,6 +284,10 @@ class Captures(unittest.TestCase):
         thread.join(60)
         (error,) = errors
         self.assertEqual((error.errno, error.statistics.packets > 0), (errno.EISDIR, True))
+
+    def test_null_byte(self):
+        with self.assertRaisesRegex(ValueError, "^embedded null byte$"):
+            statistics_of(self.path + "\0")
 
     def test_names_of_files(self):
         os.chdir(self.folder.name)
@@ -326,6 +336,7 @@ class Fields(unittest.TestCase):
         pandas.testing.assert_series_equal(found + found, counted(PACKETS * 2).to_series().loc[found.index])
         largest = Statistics.from_json(counted([ipv4(6, TCP)]).to_json().replace('"payload_bytes":20', f'"payload_bytes":{MOST}'))
         self.assertEqual(largest.to_series()["payload_bytes", ""], MOST)
+        self.assertEqual((Statistics().to_series() - found)["packets", ""], -5)
 
     def test_without_pandas(self):
         with mock.patch.dict(sys.modules, {"pandas": None}):

@@ -3,10 +3,12 @@
 import gzip
 import inspect
 import os
+import pickle
 import random
 import re
 import tempfile
 import unittest
+import warnings
 
 import dask
 import pandas
@@ -18,7 +20,7 @@ import blocks
 from captures import NANOSECONDS, RAW
 
 import wolfaren
-from wolfaren import CaptureError, CaptureOSError, End, FaultKind, FragmentKind, Layer, distributed, packets, table
+from wolfaren import CaptureError, CaptureOSError, CaptureWarning, End, FaultKind, FragmentKind, Layer, distributed, packets, table
 
 ARP = ethernet(bytes(46), (), 0x0806)
 
@@ -29,7 +31,7 @@ PARTS = ["version", "payload_number", "payload_offset", "stated_len", "missing",
 
 def documented():
     """Returns the columns and types that the documentation lists."""
-    rows = re.findall(r"^    (\w+(?:, \w+)*)  +(u?int\d+|object|datetime64\[ns, UTC\]) ", inspect.getdoc(table), re.M)
+    rows = re.findall(r"^    (\w+(?:, \w+)*)  +(int\d+|object|datetime64\[ns, UTC\]) ", inspect.getdoc(table), re.M)
     return {name: dtype for names, dtype in rows for name in names.split(", ")}
 
 
@@ -107,9 +109,21 @@ class Tables(Scratch):
         path = self.file(capture([ethernet(it) for it in PACKETS]))
         self.assertEqual([*table(path, ["time", "number"]).columns], ["time", "number"])
         self.assertEqual([*table(path, iter(["src"])).columns], ["src"])
-        self.assertEqual(table(path, []).shape, (0, 0))
+        self.assertEqual(table(path, []).shape, (5, 0))
         with self.assertRaisesRegex(ValueError, "no column 'sport': the columns are number, time, "):
             table(path, ["src", "sport"])
+        with self.assertRaisesRegex(TypeError, r"^columns is a list of names, such as \['src'\]$"):
+            table(path, "src")
+
+    def test_differences(self):
+        """Differences between rows have their sign, also of the largest numbers."""
+        content = blocks.section() + blocks.interface(RAW) + blocks.packet(ipv6_chain([60] * 3)) + blocks.packet(LATER_FRAGMENT)
+        found = table(self.file(content))
+        for name in ["number", "captured_len", "payload_offset", "fragment_offset", "hop_limit", "version", "fragment"]:
+            one, other = found[name].tolist()
+            self.assertEqual((found[name] - found[name][::-1].values).tolist(), [one - other, other - one], name)
+        self.assertEqual((found.payload_offset.diff()[1], found.fragment_offset.diff()[1]), (48 - 64, 1480))
+        self.assertEqual(found.identification.dtype, "int64")
 
     def test_missing_times(self):
         """Times that pandas doesn't have are missing, and that of a packet without one."""
@@ -133,10 +147,36 @@ class Tables(Scratch):
 
     def test_errors(self):
         whole = capture([ethernet(it) for it in PACKETS])
-        with self.assertRaisesRegex(CaptureError, "can't read packet 5: "):
-            table(self.file(whole[:-1]))
-        with self.assertRaises(CaptureOSError):
-            table(f"{self.folder}/none")
+        wanted = table(self.file(whole), ["number", "chain"])[:4]
+        path = self.file(whole[:-1])
+        with self.assertRaisesRegex(CaptureError, "can't read packet 5: ") as raised:
+            table(path, ["number", "chain"])
+        for error in [raised.exception, pickle.loads(pickle.dumps(raised.exception))]:
+            pandas.testing.assert_frame_equal(error.table, wanted)
+            self.assertIsNone(error.statistics)
+        with self.assertWarnsRegex(CaptureWarning, f"^{re.escape(path)}: can't read packet 5: "):
+            pandas.testing.assert_frame_equal(table(path, iter(["number", "chain"]), on_error="warn"), wanted)
+
+    def test_unreadable(self):
+        path = f"{self.folder}/none"
+        with self.assertRaises(FileNotFoundError) as raised:
+            table(path)
+        self.assertIsInstance(raised.exception, CaptureOSError)
+        self.assertIsNone(raised.exception.table)
+        with self.assertWarnsRegex(CaptureWarning, "No such file"):
+            found = table(path, iter(["number", "src"]), on_error="warn")
+        self.assertEqual((len(found), [*found.columns]), (0, ["number", "src"]))
+        with self.assertRaisesRegex(ValueError, "on_error is 'raise' or 'warn'"):
+            table(path, on_error="none")
+        with self.assertRaisesRegex(ValueError, "^embedded null byte$"):
+            table(f"{path}\0")
+
+    def test_left_out(self):
+        content = (blocks.section() + blocks.interface(RAW) + blocks.interface(105) + blocks.packet(PACKETS[0])
+                   + blocks.packet(bytes(60), 1) + blocks.packet(PACKETS[2]))
+        with self.assertRaisesRegex(CaptureError, "interface 1: link layer") as raised:
+            table(self.file(content))
+        self.assertEqual(raised.exception.table.number.tolist(), [1, 3])
 
 
 class DaskTables(Scratch):
@@ -172,8 +212,24 @@ class DaskTables(Scratch):
         self.file(capture([ethernet(it) for it in PACKETS]))
         self.assertEqual((len(found), len(distributed.table([path]))), (5, 5))
         os.unlink(path)
-        with self.assertRaisesRegex(CaptureOSError, "No such file"):
-            found.compute()
+        with self.assertWarnsRegex(CaptureWarning, "No such file"):
+            self.assertEqual(len(found.compute()), 0)
+
+    def test_bad_captures(self):
+        """A capture that is cut or missing has the packets that are there, and doesn't end the computation."""
+        whole = capture([ethernet(it) for it in PACKETS])
+        paths = [self.file(whole, "1.pcap"), self.file(whole[:-1], "2.pcap"), f"{self.folder}/none", self.file(b"text", "4.pcap")]
+        with warnings.catch_warnings(record=True) as caught:
+            warnings.simplefilter("always")
+            found = distributed.table(paths, ["number", "src"]).compute()
+        self.assertEqual(found.number.tolist(), [1, 2, 3, 4, 5, 1, 2, 3, 4])
+        self.assertEqual([str(it.message).split(":")[0] for it in caught if it.category is CaptureWarning], paths[1:])
+        with self.assertRaisesRegex(CaptureError, "can't read packet 5: "):
+            distributed.table(paths[:2], on_error="raise").compute()
+        with self.assertRaisesRegex(ValueError, "on_error is 'raise' or 'warn'"):
+            distributed.table(paths, on_error=None)
+        with self.assertRaisesRegex(TypeError, "^paths is a list of paths, such as \\['"):
+            distributed.table(paths[0])
 
 
 if __name__ == "__main__":

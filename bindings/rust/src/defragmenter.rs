@@ -6,7 +6,7 @@ use alloc::boxed::Box;
 pub struct Added {
     /// What became of it.
     pub outcome: Outcome,
-    /// The index of its packet's slot, if it has one.
+    /// The index of its packet's slot, if it has one, but with [`DropReason::TooLong`] always `None`.
     pub slot: Option<usize>,
     /// Why the packet that had the slot before was given up, if one was.
     pub loss: Option<Loss>,
@@ -36,7 +36,7 @@ pub enum DropReason {
     BytesMissing,
     /// More fragments follow, and its length isn't a positive multiple of 8.
     Unaligned,
-    /// It ends after byte 65,535 of the payload.
+    /// Its packet would be too long for its length field.
     TooLong,
     /// Bytes of it have already arrived in another fragment, and its packet was abandoned (RFC 5722).
     Overlap,
@@ -48,12 +48,14 @@ pub enum DropReason {
     HeadersTooLong,
     /// There are no slots.
     NoSlot,
+    /// Some fragments of its packet are ECN-capable, others aren't, and the packet was abandoned (RFC 3168, section 5.3).
+    MixedEcn,
 }
 
 /// Why a packet was given up.
 #[derive(Clone, Copy, Debug, PartialEq, Eq, Hash)]
 pub enum Loss {
-    /// It wasn't whole 60 seconds after its first fragment (RFC 8200, section 4.5).
+    /// It wasn't whole at the timeout after its first fragment (RFC 8200, section 4.5).
     TimedOut,
     /// Another packet needed its slot, and it was the oldest.
     Displaced,
@@ -61,7 +63,7 @@ pub enum Loss {
 
 impl Outcome {
     /// The outcomes in the order of their codes.
-    const ALL: [Outcome; 13] = [
+    const ALL: [Outcome; 14] = [
         Outcome::NotFragment,
         Outcome::MoreWanted,
         Outcome::Whole,
@@ -75,6 +77,7 @@ impl Outcome {
         Outcome::Dropped(DropReason::Abandoned),
         Outcome::Dropped(DropReason::HeadersTooLong),
         Outcome::Dropped(DropReason::NoSlot),
+        Outcome::Dropped(DropReason::MixedEcn),
     ];
 
     /// Returns the outcome with this code. The library returns no others.
@@ -85,16 +88,17 @@ impl Outcome {
             .unwrap_or(Outcome::NotFragment)
     }
 
-    /// Whether a packet with this outcome has a slot.
+    /// Whether each packet with this outcome has a slot.
     fn has_slot(self) -> bool {
-        !matches!(
+        matches!(
             self,
-            Outcome::NotFragment
+            Outcome::MoreWanted
+                | Outcome::Whole
                 | Outcome::Dropped(
-                    DropReason::FaultyHeaders
-                        | DropReason::NoStatedLength
-                        | DropReason::BytesMissing
-                        | DropReason::NoSlot
+                    DropReason::Overlap
+                        | DropReason::TwoEnds
+                        | DropReason::Abandoned
+                        | DropReason::MixedEcn
                 )
         )
     }
@@ -102,11 +106,14 @@ impl Outcome {
 
 /// Makes packets whole from their fragments, which may arrive in any order, and repeated. Needs the feature `alloc`.
 ///
-/// A packet that isn't whole 60 seconds after its first fragment is given up when its next fragment arrives, or another
-/// packet needs its slot. Of more than 8 slots, 8 are for packets with the same hash; if all of these are in use, the oldest
-/// packet is given up. After an overlap or two ends, all further fragments of the packet are dropped (RFC 5722).
+/// A packet that isn't whole 60 seconds after its first fragment, or at another [timeout](Defragmenter::with_timeout), is given
+/// up when its next fragment arrives, or another packet needs its slot. Of more than 8 slots, 8 are for packets with the same
+/// hash; if all of these are in use, the oldest packet is given up. After an overlap or two ends, all further fragments of the
+/// packet are dropped (RFC 5722), and likewise if only some are ECN-capable. If one is marked with congestion, so is the whole
+/// packet (RFC 3168, section 5.3).
 ///
 /// ```
+/// use std::hash::{BuildHasher, RandomState};
 /// use wolfaren::{Defragmenter, Outcome};
 ///
 /// // Two fragments with 8 bytes of payload each, and a fragment header of UDP.
@@ -114,7 +121,8 @@ impl Outcome {
 /// (first[0], first[5], first[6], first[40], first[43]) = (0x60, 16, 44, 17, 1);
 /// let mut last = first;
 /// last[43] = 8;
-/// let mut defragmenter = Defragmenter::new(16, 0x1234_5678);
+/// let seed = [0, 1].map(|number| RandomState::new().hash_one(number));
+/// let mut defragmenter = Defragmenter::new(16, seed);
 /// assert_eq!(defragmenter.add(0, &last).outcome, Outcome::MoreWanted);
 /// let added = defragmenter.add(1, &first);
 /// assert_eq!((added.outcome, added.slot.is_some()), (Outcome::Whole, true));
@@ -127,7 +135,7 @@ pub struct Defragmenter {
     slots: Box<[library::Slot]>,
     memories: Box<[library::PacketMemory]>,
     counts: library::DefragmenterCounts,
-    factor: u32,
+    settings: library::DefragmenterSettings,
 }
 
 impl core::fmt::Debug for Defragmenter {
@@ -143,28 +151,49 @@ impl Defragmenter {
     /// A length in bytes that is enough for each whole packet.
     pub const PACKET_ROOM: usize = 65_575;
 
-    /// Returns a defragmenter for at most this many incomplete packets at once. `factor` should be a random number that
+    /// After how many nanoseconds a packet that isn't whole is given up, if no other time was chosen: 60 seconds (RFC 8200,
+    /// section 4.5).
+    pub const DEFAULT_TIMEOUT: u64 = 60_000_000_000;
+
+    /// Returns a defragmenter for at most this many incomplete packets at once. `seed` should be two random numbers that
     /// senders don't know.
     ///
     /// It allocates 72 KB for each slot as zeros, of which a system with virtual memory uses only the pages that packets need.
     #[must_use]
-    pub fn new(slots: usize, factor: u32) -> Defragmenter {
+    pub fn new(slots: usize, seed: [u64; 2]) -> Defragmenter {
         Defragmenter {
             slots: library::zeroed(slots),
             memories: library::zeroed(slots),
             counts: library::DefragmenterCounts::default(),
-            factor,
+            settings: library::DefragmenterSettings {
+                seed,
+                timeout: Defragmenter::DEFAULT_TIMEOUT,
+            },
         }
+    }
+
+    /// Returns the defragmenter with another timeout: packets that aren't whole after so many nanoseconds are given up.
+    #[must_use]
+    pub fn with_timeout(mut self, nanoseconds: u64) -> Defragmenter {
+        self.settings.timeout = nanoseconds;
+        self
     }
 
     /// Adds the packet at the start of `bytes`, which arrived at this time, in nanoseconds since any moment. If its packet is
     /// whole, [`write`](Defragmenter::write) writes it, until another packet has its slot.
     pub fn add(&mut self, nanoseconds: u64, bytes: &[u8]) -> Added {
+        self.add_in(0, nanoseconds, bytes)
+    }
+
+    /// Adds a packet as [`add`](Defragmenter::add) does, which arrived in this context: any number for an interface, a VLAN or
+    /// both. Fragments of different contexts are never joined; `add` has the context 0.
+    pub fn add_in(&mut self, context: u32, nanoseconds: u64, bytes: &[u8]) -> Added {
         let added = library::defragment(
             &mut self.slots,
             &mut self.memories,
             &mut self.counts,
-            self.factor,
+            &self.settings,
+            context,
             nanoseconds,
             bytes,
         );
@@ -180,18 +209,17 @@ impl Defragmenter {
         }
     }
 
-    /// Gives up the packets that aren't whole more than 60 seconds after their first fragments, as of this time, in nanoseconds.
-    /// Returns how many there were.
+    /// Gives up the packets that aren't whole after the timeout, as of this time, in nanoseconds. Returns how many there were.
     pub fn give_up(&mut self, nanoseconds: u64) -> usize {
+        let (counts, timeout) = (&mut self.counts, self.settings.timeout);
         let slots = self.slots.iter_mut();
         slots
-            .filter_map(|slot| library::give_up(slot, &mut self.counts, nanoseconds).then_some(()))
+            .filter_map(|slot| library::give_up(slot, counts, timeout, nanoseconds).then_some(()))
             .count()
     }
 
     /// Writes the whole packet of a slot to the start of `out`, and returns its length in bytes. Returns `None`, and writes
-    /// nothing, if there is no such slot, its packet isn't whole, the packet is longer than its length field can state, or
-    /// `out` is too short.
+    /// nothing, if there is no such slot, its packet isn't whole, or `out` is too short.
     pub fn write(&self, slot: usize, out: &mut [u8]) -> Option<usize> {
         library::write_whole_packet(self.memories.get(slot)?, out)
     }

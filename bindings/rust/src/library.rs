@@ -45,6 +45,7 @@ pub(crate) struct Slot {
     source: [u8; 16],
     destination: [u8; 16],
     identification: u32,
+    context: u32,
     protocol: u8,
     version: u8,
 }
@@ -58,6 +59,7 @@ pub(crate) struct PacketMemory {
     link: usize,
     first_here: u8,
     next_header: u8,
+    ecn: [u8; 3],
     short_head: [u8; 64],
     payload: [u8; 65536],
     head: [u8; 4096],
@@ -82,8 +84,16 @@ struct Reassembly {
 #[repr(C)]
 #[derive(Default)]
 pub(crate) struct DefragmenterCounts {
-    pub outcomes: [u64; 13],
+    pub outcomes: [u64; 14],
     pub losses: [u64; 3],
+}
+
+/// `struct wolfaren_defragmenter_settings`: how packets get slots, and when they are given up.
+#[cfg(feature = "alloc")]
+#[repr(C)]
+pub(crate) struct DefragmenterSettings {
+    pub seed: [u64; 2],
+    pub timeout: u64,
 }
 
 /// `struct wolfaren_added`: what became of a packet.
@@ -254,7 +264,7 @@ const _: () = {
 
 /// `WOLFAREN_ABI`: the checksum of the header that this file was written for (`scripts/abi` of the repository).
 #[cfg(all(test, not(miri)))]
-pub(crate) const ABI: u32 = 0xc417_8673;
+pub(crate) const ABI: u32 = 0x142e_74e9;
 
 unsafe extern "C" {
     fn wolfaren_parse_chain(
@@ -337,15 +347,21 @@ unsafe extern "C" {
         memories: *mut PacketMemory,
         memory_count: usize,
         counts: *mut DefragmenterCounts,
-        factor: u32,
+        settings: *const DefragmenterSettings,
         bytes: *const u8,
         len: usize,
+        context: u32,
         time: u64,
         added: *mut Added,
     ) -> bool;
 
     #[cfg(feature = "alloc")]
-    fn wolfaren_give_up(slot: *mut Slot, counts: *mut DefragmenterCounts, time: u64) -> bool;
+    fn wolfaren_give_up(
+        slot: *mut Slot,
+        counts: *mut DefragmenterCounts,
+        timeout: u64,
+        time: u64,
+    ) -> bool;
 
     #[cfg(feature = "alloc")]
     fn wolfaren_write_whole_packet(
@@ -1087,6 +1103,8 @@ mod tests {
                     "uint16_t" => 2,
                     "uint8_t" => 1,
                     "struct wolfaren_fault" => size_of::<Fault>(),
+                    #[cfg(feature = "alloc")]
+                    "struct wolfaren_reassembly" => size_of::<super::Reassembly>(),
                     _ => panic!("{kind} has no size"),
                 };
                 (size, count, field)
@@ -1198,6 +1216,63 @@ mod tests {
         );
     }
 
+    #[cfg(feature = "alloc")]
+    #[test]
+    fn structs_of_defragmenters_are_those_of_the_header() {
+        use super::{
+            Added, DefragmenterCounts, DefragmenterSettings, PacketMemory, Reassembly, Slot,
+        };
+        check!(
+            Slot,
+            "wolfaren_slot",
+            since,
+            source,
+            destination,
+            identification,
+            context,
+            protocol,
+            version
+        );
+        check!(
+            Reassembly,
+            "wolfaren_reassembly",
+            marks,
+            reach,
+            count,
+            ended,
+            abandoned,
+            kept,
+            run_units,
+            run_count
+        );
+        check!(
+            PacketMemory,
+            "wolfaren_packet_memory",
+            reassembly,
+            head_len,
+            link,
+            first_here,
+            next_header,
+            ecn,
+            short_head,
+            payload,
+            head
+        );
+        check!(
+            DefragmenterCounts,
+            "wolfaren_defragmenter_counts",
+            outcomes,
+            losses
+        );
+        check!(
+            DefragmenterSettings,
+            "wolfaren_defragmenter_settings",
+            seed,
+            timeout
+        );
+        check!(Added, "wolfaren_added", slot, outcome, loss);
+    }
+
     #[test]
     fn structs_of_packets_are_those_of_the_header() {
         check!(
@@ -1287,12 +1362,14 @@ pub(crate) fn defragment(
     slots: &mut [Slot],
     memories: &mut [PacketMemory],
     counts: &mut DefragmenterCounts,
-    factor: u32,
+    settings: &DefragmenterSettings,
+    context: u32,
     time: u64,
     bytes: &[u8],
 ) -> Added {
     let mut added = Added::default();
-    // SAFETY: slots, memories and counts are borrowed exclusively. The bytes are a slice, which the call only reads.
+    // SAFETY: slots, memories and counts are borrowed exclusively. The call only reads the settings, which are borrowed, and
+    // the bytes, which are a slice.
     let are_as_many = unsafe {
         wolfaren_defragment(
             slots.as_mut_ptr(),
@@ -1300,9 +1377,10 @@ pub(crate) fn defragment(
             memories.as_mut_ptr(),
             memories.len(),
             counts,
-            factor,
+            settings,
             bytes.as_ptr(),
             bytes.len(),
+            context,
             time,
             &raw mut added,
         )
@@ -1311,11 +1389,16 @@ pub(crate) fn defragment(
     added
 }
 
-/// Gives up the packet of a slot if it isn't whole more than 60 seconds after its first fragment. Returns whether it did.
+/// Gives up the packet of a slot if it isn't whole after the timeout. Returns whether it did.
 #[cfg(feature = "alloc")]
-pub(crate) fn give_up(slot: &mut Slot, counts: &mut DefragmenterCounts, time: u64) -> bool {
+pub(crate) fn give_up(
+    slot: &mut Slot,
+    counts: &mut DefragmenterCounts,
+    timeout: u64,
+    time: u64,
+) -> bool {
     // SAFETY: slot and counts are borrowed exclusively.
-    unsafe { wolfaren_give_up(slot, counts, time) }
+    unsafe { wolfaren_give_up(slot, counts, timeout, time) }
 }
 
 /// Writes the whole packet of a memory to the start of `out`, if there is one and it fits, and returns its length.

@@ -10,10 +10,11 @@ pub enum Which {
     Number(IpNumber),
 }
 
-/// What may become of an authentication header, which covers the whole packet (RFC 4302, section 3.3.3).
+/// What may become of an authentication header, which covers the whole packet (RFC 4302, section 3.3.3), except for the
+/// fragment header of an atomic fragment before it (section 3.3.4).
 #[derive(Clone, Copy, Debug, PartialEq, Eq, Hash)]
 pub enum Authentication {
-    /// A packet that keeps one isn't changed.
+    /// A packet that keeps one isn't changed where the header covers it.
     Valid,
     /// It is kept, and its check value doesn't hold for the changed packet.
     Invalid,

@@ -30,7 +30,7 @@ fn packet_in(defragmenter: &Defragmenter, slot: Option<usize>) -> Vec<u8> {
 
 #[test]
 fn any_order() {
-    let mut defragmenter = Defragmenter::new(4096, 7);
+    let mut defragmenter = Defragmenter::new(4096, [7, 8]);
     let orders = [
         [0, 1, 2],
         [0, 2, 1],
@@ -55,7 +55,7 @@ fn any_order() {
 
 #[test]
 fn losses_and_drops() {
-    let mut defragmenter = Defragmenter::new(1, 0);
+    let mut defragmenter = Defragmenter::new(1, [0; 2]);
     assert_eq!(defragmenter.add(5, &piece(1, 0, true)).slot, Some(0));
     assert_eq!(
         defragmenter.add(6, &piece(2, 0, true)).loss,
@@ -85,7 +85,7 @@ fn losses_and_drops() {
         (1, 1)
     );
     assert_eq!(defragmenter.write(9, &mut [0; 100]), None);
-    let mut none = Defragmenter::new(0, 0);
+    let mut none = Defragmenter::new(0, [0; 2]);
     assert_eq!(
         none.add(0, &piece(1, 0, true)).outcome,
         Outcome::Dropped(DropReason::NoSlot)
@@ -94,7 +94,7 @@ fn losses_and_drops() {
 
 #[test]
 fn give_up() {
-    let mut defragmenter = Defragmenter::new(64, 3);
+    let mut defragmenter = Defragmenter::new(64, [3, 4]);
     for (time, identification) in (10..).zip(1..=3) {
         defragmenter.add(time, &piece(identification, 0, true));
     }
@@ -105,4 +105,92 @@ fn give_up() {
     assert_eq!(packet_in(&defragmenter, added.slot), whole(2));
     let added = defragmenter.add(60_000_000_012, &piece(1, 1, false));
     assert_eq!((added.outcome, added.loss), (Outcome::MoreWanted, None));
+}
+
+#[test]
+fn timeout() {
+    let mut defragmenter = Defragmenter::new(1, [5, 6]).with_timeout(9);
+    defragmenter.add(20, &piece(1, 0, true));
+    assert_eq!(defragmenter.give_up(29), 0);
+    assert_eq!(defragmenter.give_up(11), 0);
+    assert_eq!(defragmenter.add(29, &piece(1, 1, true)).loss, None);
+    let added = defragmenter.add(30, &piece(1, 1, true));
+    assert_eq!(added.loss, Some(Loss::TimedOut));
+    assert_eq!(defragmenter.give_up(20), 1);
+}
+
+#[test]
+fn contexts() {
+    let mut defragmenter = Defragmenter::new(64, [5, 6]);
+    let wanted = Outcome::MoreWanted;
+    assert_eq!(
+        defragmenter.add_in(5, 0, &piece(1, 0, true)).outcome,
+        wanted
+    );
+    assert_eq!(
+        defragmenter.add_in(6, 0, &piece(1, 1, false)).outcome,
+        wanted
+    );
+    assert_eq!(defragmenter.add(0, &piece(1, 1, false)).outcome, wanted);
+    for context in [0, 5, 6] {
+        let number = u8::from(context == 5);
+        let added = defragmenter.add_in(context, 0, &piece(1, number, number == 0));
+        assert_eq!(added.outcome, Outcome::Whole);
+        assert_eq!(packet_in(&defragmenter, added.slot), whole(2));
+    }
+}
+
+/// The code points of two fragments and of their packet (RFC 3168, section 5.3).
+#[test]
+fn congestion() {
+    for (first, last, point) in [
+        (0, 0, Some(0)),
+        (1, 2, Some(1)),
+        (2, 1, Some(2)),
+        (2, 3, Some(3)),
+        (3, 1, Some(3)),
+        (0, 1, None),
+        (3, 0, None),
+    ] {
+        let mut defragmenter = Defragmenter::new(1, [5, 6]);
+        let (mut one, mut other) = (piece(1, 0, true), piece(1, 1, false));
+        (one[1], other[1]) = (first << 4, last << 4);
+        defragmenter.add(0, &one);
+        let added = defragmenter.add(0, &other);
+        assert_eq!(added.slot, Some(0));
+        let Some(point) = point else {
+            assert_eq!(added.outcome, Outcome::Dropped(DropReason::MixedEcn));
+            assert_eq!(
+                defragmenter.count(Outcome::Dropped(DropReason::MixedEcn)),
+                1
+            );
+            assert_eq!(packet_in(&defragmenter, added.slot), []);
+            continue;
+        };
+        let mut packet = whole(2);
+        packet[1] = point << 4;
+        assert_eq!(added.outcome, Outcome::Whole);
+        assert_eq!(packet_in(&defragmenter, added.slot), packet);
+    }
+}
+
+/// Fragments that are refused by themselves take no slot.
+#[test]
+fn refused() {
+    let mut defragmenter = Defragmenter::new(1, [5, 6]);
+    defragmenter.add(0, &piece(1, 0, true));
+    let mut unaligned = piece(2, 0, true);
+    unaligned[5] -= 1;
+    let mut long = piece(2, 0, false);
+    (long[42], long[43]) = (0xff, 0xf8);
+    for (bytes, reason) in [
+        (unaligned, DropReason::Unaligned),
+        (long, DropReason::TooLong),
+    ] {
+        let added = defragmenter.add(0, &bytes);
+        assert_eq!(added.outcome, Outcome::Dropped(reason));
+        assert_eq!((added.slot, added.loss), (None, None));
+    }
+    let added = defragmenter.add(0, &piece(1, 1, false));
+    assert_eq!(packet_in(&defragmenter, added.slot), whole(2));
 }

@@ -146,7 +146,18 @@ fn refusals() {
         assert_eq!(error.to_string(), text);
     }
     fragment[51] = 9;
-    assert_eq!(by_index(&fragment, 0), Err(RewriteError::LaterFragment));
+    let mut plain = packet(&[44, 60]);
+    plain[43] = 9;
+    assert_eq!(by_index(&fragment, 0), Ok((plain, true)));
+    let later = [
+        0x45, 0, 0, 20, 0, 1, 0, 1, 64, 17, 0, 0, 192, 0, 2, 1, 192, 0, 2, 2,
+    ];
+    assert_eq!(by_index(&later, 0), Err(RewriteError::LaterFragment));
+    let mut unstated = packet(&[0]);
+    unstated[5] = 0;
+    assert_eq!(by_index(&unstated, 0), Err(RewriteError::NoLength));
+    let text = RewriteError::NoLength.to_string();
+    assert_eq!(text, "the packet states no length");
     let bytes = packet(&[0]);
     assert_eq!(by_index(&bytes[..51], 0), Err(RewriteError::Missing));
     assert_eq!(by_index(&bytes[..47], 0), Err(RewriteError::Headers));

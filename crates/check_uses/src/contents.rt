@@ -1,9 +1,9 @@
 //! Callers of the contents of headers.
-ghost use Rattle.std.specs.Prelude.{◌≡◌, ◌+◌, ◌<◌, ◌≤◌, ◌⊎◌, drop, length, not, nat_lt, IfSome, IfNone};
+ghost use Rattle.std.specs.Prelude.{◌≡◌, ◌+◌, ◌-◌, ◌<◌, ◌≤◌, ◌⊎◌, drop, length, not, nat_lt, IfSome, IfNone};
 ghost use Rattle.std.specs.List.{list_any};
 ghost use Rattle.ip_ext_headers.specs.Ipv6RawExtHeaderSlice.{bytes};
 ghost use Rattle.ip_header_contents.specs.Options.{options_in, options_len};
-ghost use Rattle.ip_header_contents.specs.Routing.{IsLayout, segments_left, address, expanded};
+ghost use Rattle.ip_header_contents.specs.Routing.{IsLayout, segments_left, address, addresses_from, expanded};
 ghost use Rattle.ip_header_contents.specs.declared.routing_layout.AddressLayout.{AddressLayout};
 
 use ip_ext_headers::Ipv6RawExtHeaderSlice;
@@ -56,4 +56,31 @@ pub fn address_at_segments_left(
         Some(address) => Some(address.expanded(destination)),
         None => None,
     }
+}
+
+/// Returns whether an address of a routing header lacks its first bytes, if the header has addresses.
+pub fn has_compressed_address(header: &Ipv6RawExtHeaderSlice<'_>) -> Option<bool>
+    ensures { IfSome result (λ found. (x : AddressLayout) × IsLayout (bytes header.now) x × (found
+        ≡ list_any (λ a. nat_lt (length a) 16) (addresses_from x (bytes header.now) 0 x.count))) }
+{
+    let addresses = RoutingAddresses::of(header)?;
+    'addresses: for address in addresses {
+        if address.suffix().len() < 16 {
+            return Some(true);
+        }
+    }
+    Some(false)
+}
+
+/// Returns the last address of a routing header, if there is one. The header and the layout are the same after all addresses
+/// were returned.
+pub fn last_address(header: &Ipv6RawExtHeaderSlice<'_>, destination: &[u8; 16]) -> Option<[u8; 16]>
+    ensures some { IfSome result (λ a. (x : AddressLayout) × IsLayout (bytes header.now) x
+        × (a ≡ expanded destination.now (address x (bytes header.now) (x.count - 1)))) }
+    ensures none { IfNone result ((x : AddressLayout) → IsLayout (bytes header.now) x → ⊥) }
+{
+    let mut addresses = RoutingAddresses::of(header)?;
+    'addresses: while let Some(_) = addresses.next() {}
+    let last = addresses.get(addresses.layout().count - 1)?;
+    Some(last.expanded(destination))
 }

@@ -1,12 +1,15 @@
 //! Callers of `ip_dissect`.
-ghost use Rattle.std.specs.Prelude.{◌≡◌, ℕ, List, length, is_some, not, IfSome};
+ghost use Rattle.std.specs.Prelude.{◌≡◌, ℕ, List, length, false, is_some, not, IfSome};
 ghost use Rattle.ip_spec.specs.Chain.{is_empty};
-ghost use Rattle.ip_dissect.specs.Dissection.{HasParts, dissected, version_of};
+ghost use Rattle.etherparse_ip.specs.Packet.{Parts, IsIpv6Packet};
+ghost use Rattle.ip_dissect.specs.Dissection.{HasParts, dissected, version_of, base_of};
+ghost use Rattle.ip_dissect.specs.LaterDemand.{has_later};
 ghost use Rattle.ip_dissect.specs.Outline.{is_plain};
 ghost use Rattle.ip_dissect.specs.declared.end.End.TheVariants.{Payload};
 
 use etherparse_ip::IpNumber;
-use ip_dissect::{Dissection, End, Packet, PacketStart, PacketVisitor, Visited};
+use ip_agreement::parsed_packets_have_these_parts;
+use ip_dissect::{Dissection, End, Packet, PacketStart, PacketVisitor, Visited, dissect};
 
 /// Returns the protocol number of the payload, if it starts here: the headers before it are whole, and the packet is
 /// not a later fragment.
@@ -62,4 +65,28 @@ pub fn is_authenticated(packet: &Dissection<'_>) -> bool
         → result ≡ not (is_empty (dissected s).headers) }
 {
     packet.ipv4_authentication().is_some()
+}
+
+/// Returns whether the packet has extension headers.
+pub fn has_headers(packet: &Dissection<'_>) -> bool
+    ensures { (s : List ℕ) → HasParts (dissected s) packet.now
+        → result ≡ not (is_empty (dissected s).headers) }
+{
+    packet.header_count > 0
+}
+
+/// Dissects the packet at the start of `bytes`. Of an IPv6 packet that `IpSlice::from_slice` parses it has the same parts,
+/// unless the packet is a later fragment.
+pub fn dissect_parsed(bytes: &[u8]) -> Dissection<'_>
+    ensures base { (p : Parts) → IsIpv6Packet bytes.now p → has_later p.headers ≡ false
+        → base_of result ≡ p.base }
+    ensures headers { (p : Parts) → IsIpv6Packet bytes.now p → has_later p.headers ≡ false
+        → result.header_count ≡ length p.headers }
+    ensures payload { (p : Parts) → IsIpv6Packet bytes.now p → has_later p.headers ≡ false
+        → result.payload.now ≡ p.payload }
+    ensures number { (p : Parts) → IsIpv6Packet bytes.now p → has_later p.headers ≡ false
+        → result.next_header.0 ≡ p.number }
+{
+    parsed_packets_have_these_parts();
+    dissect(bytes)
 }

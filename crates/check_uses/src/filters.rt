@@ -1,8 +1,8 @@
 //! Callers of filters.
-ghost use Rattle.std.specs.Prelude.{◌≡◌, IfSome, IfNone};
+ghost use Rattle.std.specs.Prelude.{◌≡◌, ◌≤◌, IfSome, IfNone};
 ghost use Rattle.ip_dissect.specs.Dissection.{dissected};
 ghost use Rattle.ip_filter.specs.Words.{words};
-ghost use Rattle.ip_filter.specs.Grammar.{Disjunction, IsFilter, filter_words, formula_of};
+ghost use Rattle.ip_filter.specs.Grammar.{Disjunction, IsFilter, filter_words, formula_of, terms_in};
 ghost use Rattle.ip_filter.specs.Formula.{truth};
 ghost use Rattle.ip_filter.specs.Truth.{holds};
 
@@ -19,6 +19,37 @@ pub fn meets_text(text: &[u8], filter: &mut Filter, packet: &[u8]) -> Option<boo
 {
     match parse_filter(text, filter) {
         Ok(()) => Some(filter.matches(packet)),
+        Err(_) => None,
+    }
+}
+
+/// Returns whether the packet meets the filter that the text writes, whichever way the text is read as one: there is only
+/// one.
+pub fn meets_each_reading(text: &[u8], filter: &mut Filter, packet: &[u8]) -> Option<bool>
+    ensures { IfSome result (λ meets. (d : Disjunction) → IsFilter d → filter_words d ≡ words text.now
+        → meets ≡ truth (formula_of d) (λ t. holds t (dissected packet.now))) }
+{
+    match parse_filter(text, filter) {
+        Ok(()) => Some(filter.matches(packet)),
+        Err(_) => None,
+    }
+}
+
+/// Returns the kind of the last test of the filter that the text writes. The array of tests has one at that index.
+pub fn last_kind(text: &[u8], filter: &mut Filter) -> Option<u8> {
+    match parse_filter(text, filter) {
+        Ok(()) if filter.count > 0 => Some(filter.tests[filter.count - 1].kind),
+        _ => None,
+    }
+}
+
+/// Returns how many tests the filter has that the text writes: at most one for each term.
+pub fn count_of_tests(text: &[u8]) -> Option<usize>
+    ensures { IfSome result (λ count. (d : Disjunction) × IsFilter d
+        × (filter_words d ≡ words text.now) × (count ≤ terms_in d)) }
+{
+    match Filter::parse(text) {
+        Ok(filter) => Some(filter.count),
         Err(_) => None,
     }
 }

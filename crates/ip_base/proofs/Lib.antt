@@ -1,3 +1,4 @@
+pub mod ChecksumLemmas
 pub mod AddressLemmas
 pub mod BaseLemmas
 pub mod ReadingLemmas

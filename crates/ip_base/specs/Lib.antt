@@ -1,3 +1,4 @@
+pub mod Checksum
 pub mod Prefix
 pub mod Fragment
 pub mod Names

@@ -3,6 +3,8 @@
 //! readers that return exactly as many bytes as requested.
 #![tactic(auto)]
 
+mod checksum;
+mod checksum_laws;
 pub mod err;
 pub mod io;
 mod ip_frag_offset;
@@ -15,6 +17,8 @@ mod ipv6_header;
 mod ipv6_header_slice;
 mod len_source;
 
+pub use checksum::{internet_checksum, put_word};
+pub use checksum_laws::headers_are_summed;
 pub use ip_frag_offset::IpFragOffset;
 pub use ip_number_impl::IpNumber;
 pub use ip_payload_slice::IpPayloadSlice;

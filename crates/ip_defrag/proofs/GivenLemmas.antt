@@ -131,7 +131,7 @@ piece_accepted payload pieces s f split fits in_f pieces_only c =
           )
     ]
 
-pieces_received : (payload : List ℕ) (pieces : List Fragment) (limit : ℕ) (abandons : Bool) (given : List Fragment) → IsSplit payload pieces → length payload ≤ limit → are_among given pieces ≡ true → HasPieces limit given (received_all (received_none limit abandons) given)
+pub pieces_received : (payload : List ℕ) (pieces : List Fragment) (limit : ℕ) (abandons : Bool) (given : List Fragment) → IsSplit payload pieces → length payload ≤ limit → are_among given pieces ≡ true → HasPieces limit given (received_all (received_none limit abandons) given)
 pieces_received payload pieces limit abandons [] split fits all = record { limit_is = refl; abandoned = refl; consistent = tt; onto = λ g among. among }
 pieces_received payload pieces limit abandons (f ∷ fs) split fits all =
     let parts = and_parts (list_any (is_same f) pieces) (are_among fs pieces) all in

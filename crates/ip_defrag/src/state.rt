@@ -78,13 +78,13 @@ pub struct ReassemblyState {
 }
 
 impl ReassemblyState {
-    ghost use Rattle.std.specs.Prelude.{◌≡◌, ◌+◌, ◌-◌, ◌*◌, ◌≤◌, ◌<◌, ◌==◌, ◌&&◌, ◌||◌, if◌then◌else◌, not, nat_lt, ℕ, min, length, true, false, Ok, None, Some, IfOk, MatchResult, MatchBool, IsTrue, ◌↔◌};
+    ghost use Rattle.std.specs.Prelude.{◌≡◌, ◌+◌, ◌-◌, ◌*◌, ◌≤◌, ◌<◌, ◌==◌, ◌&&◌, ◌||◌, ◌⊎◌, if◌then◌else◌, not, nat_lt, ℕ, min, length, slice_index, true, false, Ok, None, Some, IfOk, OnErr, MatchResult, MatchBool, IsTrue, ◌↔◌};
     ghost use Rattle.std.specs.List.{list_any};
     ghost use Rattle.std.specs.Option.{option_copied};
     ghost use Rattle.ip_defrag.specs.Fragment.{fragment_at, is_same};
     ghost use Rattle.ip_defrag.specs.Refusal.{refusal, is_conflict};
     ghost use Rattle.ip_defrag.specs.Received.{given_up, payload_in, received_none, with_fragment, progress_of, outcome_of, received_after};
-    ghost use Rattle.ip_defrag.specs.Reassembly.{HasArrived, IsNew, IsSound, is_set};
+    ghost use Rattle.ip_defrag.specs.Reassembly.{HasArrived, IsNew, IsSound, is_set, reach_of};
     ghost use Rattle.ip_defrag.specs.Marks.{mark_of};
     ghost use Rattle.ip_defrag.specs.Run.{mark_by};
 
@@ -127,6 +127,11 @@ impl ReassemblyState {
             → result ≡ outcome_of s (fragment_at offset more bytes.now) }
         ensures received { (s : _) → HasArrived self.old buffer.old s
             → HasArrived self.new buffer.new (received_after s (fragment_at offset more bytes.now)) }
+
+        // Only the fragment's bytes are written, and none if it is refused.
+        ensures outside { (i : ℕ) → (i < 8 * offset) ⊎ (8 * offset + length bytes.now ≤ i)
+            → slice_index buffer.new i ≡ slice_index buffer.old i }
+        ensures refused { OnErr result (buffer.new ≡ buffer.old) }
     {
         if is_set(self.abandoned) {
             return Err(AddError::Abandoned);
@@ -153,6 +158,14 @@ impl ReassemblyState {
             return None;
         }
         buffer.get(..self.reach)
+    }
+
+    /// Returns the largest end of a fragment, in bytes from the start of the payload, or 0 if none has arrived.
+    #[inline(always)]
+    pub fn reach(&self) -> usize
+        ensures { (b s : _) → HasArrived self.now b s → result ≡ reach_of s.fragments }
+    {
+        self.reach
     }
 
     /// Abandons the packet, as after a conflict (RFC 5722). `add` refuses every further fragment, and `payload` returns
@@ -316,9 +329,12 @@ impl ReassemblyState {
     fn keep(&mut self, buffer: &mut [u8], first: usize, more: bool, bytes: &[u8])
         requires within { 8 * first + length bytes.now ≤ length buffer.old }
         requires short { 8 * first + length bytes.now ≤ 65535 }
-        ensures { (s : _) → HasArrived self.old buffer.old s → IsNew s (fragment_at first more bytes.now)
+        ensures kept { (s : _) → HasArrived self.old buffer.old s
+            → IsNew s (fragment_at first more bytes.now)
             → HasArrived self.new buffer.new
             (record s { fragments = with_fragment s.fragments (fragment_at first more bytes.now) }) }
+        ensures outside { (i : ℕ) → (i < 8 * first) ⊎ (8 * first + length bytes.now ≤ i)
+            → slice_index buffer.new i ≡ slice_index buffer.old i }
     {
         let end = 8 * first + bytes.len();
         // read before the marks beside them are written: a load would wait for all stores before it

@@ -77,8 +77,8 @@ module _ (s : List ℕ) (b : Option BaseHeader) (is : IsBaseOf s b) where
         (omega (arith, to, split_length, length-append x (y ++ z), length-append y z, length-append v w))
 
 -- fragments with equal parts
-pub same_parts : (f g : FragmentParts) → f.key ≡ g.key → f.headers ≡ g.headers → f.link ≡ g.link → f.number ≡ g.number → f.offset ≡ g.offset → f.more ≡ g.more → f.bytes ≡ g.bytes → f ≡ g
-same_parts f g a b c d e h i = rw (a, b, c, d, e, h, i) refl
+pub same_parts : (f g : FragmentParts) → f.key ≡ g.key → f.headers ≡ g.headers → f.link ≡ g.link → f.number ≡ g.number → f.ecn ≡ g.ecn → f.offset ≡ g.offset → f.more ≡ g.more → f.bytes ≡ g.bytes → f ≡ g
+same_parts f g a b c d e h i j = rw (a, b, c, d, e, h, i, j) refl
 
 -- the header that was found
 pub found_is : (k : ℕ) (o : Option ExtHeader) (x : FoundHeader) → Some x ≡ option_map (found_at k) o → (h : ExtHeader) × ((o ≡ Some h) × (x ≡ found_at k h))

@@ -1,8 +1,10 @@
 pub mod FinderLemmas
 pub mod FragmentLemmas
-pub mod HashLemmas
 pub mod HeaderLemmas
+pub mod KeyLemmas
 pub mod MemoryLemmas
+pub mod WholeLemmas
+pub mod PiecesLemmas
 pub mod OldestLemmas
 pub mod ReadLemmas
 pub mod SentLemmas

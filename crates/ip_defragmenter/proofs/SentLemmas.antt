@@ -6,16 +6,14 @@ use Rattle.std.proofs.lemmas.Grind.{same_number_lists, and_high_numeral}
 use Rattle.std.proofs.lemmas.Nat.{and_mask}
 use Rattle.std.proofs.lemmas.Nat.Bits.{and_high}
 use Rattle.std.proofs.lemmas.List.{get_or-take, length-set, length-take, get_or-set_other, get_or-set_same, get_or-drop}
-use Rattle.ip_defragmenter.specs.Checksum.{checksum_of}
+use Rattle.ip_base.specs.Checksum.{with_word, checksum_of}
+use Rattle.ip_base.proofs.ChecksumLemmas.{word_len, word_other}
 use Rattle.ip_base.specs.Ipv4Header.{version, ipv4_header_len, total_len}
 use Rattle.ip_base.specs.BaseHeaderFields.{ipv4_checksum}
 use Rattle.ip_base.specs.Ipv6Header.{payload_length}
 use Rattle.std.specs.Int.{from_be_bytes, w16}
-use Rattle.ip_defragmenter.specs.Whole.{with_word, unchecked, ipv4_whole, ipv6_whole, whole_headers}
+use Rattle.ip_defragmenter.specs.Whole.{unchecked, ipv4_whole, ipv6_whole, whole_headers}
 use Rattle.ip_defragmenter.specs.Sent.{IsSentIpv4, IsSentIpv6, ipv4_first, ipv6_first}
-
-pub word_len : (b : List ℕ) (i n : ℕ) → length (with_word b i n) ≡ length b
-word_len b i n = length-set (slice_set b i (n / 256)) (i + 1) (n % 256) ∙ length-set b i (n / 256)
 
 -- A byte of a list in which a word is changed, by its index.
 word_high : (b : List ℕ) (i n : ℕ) → i < length b → slice_index (with_word b i n) i ≡ n / 256
@@ -23,9 +21,6 @@ word_high b i n less = get_or-set_other (slice_set b i (n / 256)) (i + 1) i (n %
 
 word_low : (b : List ℕ) (i n : ℕ) → i + 1 < length b → slice_index (with_word b i n) (i + 1) ≡ n % 256
 word_low b i n less = get_or-set_same (slice_set b i (n / 256)) (i + 1) (n % 256) 0 (omega (arith, less, length-set b i (n / 256)))
-
-pub word_other : (b : List ℕ) (i n j : ℕ) → j ≢ i → j ≢ i + 1 → slice_index (with_word b i n) j ≡ slice_index b j
-word_other b i n j p q = get_or-set_other (slice_set b i (n / 256)) (i + 1) j (n % 256) 0 q ∙ get_or-set_other b i j (n / 256) 0 p
 
 -- A word of 16 bits by its two bytes.
 word_bytes : (b : List ℕ) (i j : ℕ) → j < 2 → slice_index (take 2 (drop i b)) j ≡ slice_index b (i + j)

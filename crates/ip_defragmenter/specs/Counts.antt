@@ -5,7 +5,8 @@ use Rattle.ip_defrag.specs.declared.err.AddError.TheVariants.{Unaligned, TooLong
 use Rattle.ip_defragmenter.specs.declared.err.FragmentError.{FragmentError}
 use Rattle.ip_defragmenter.specs.declared.err.FragmentError.TheVariants.{Headers, NoLength, Missing}
 use Rattle.ip_defragmenter.specs.declared.err.StoreError.{StoreError}
-use Rattle.ip_defragmenter.specs.declared.err.StoreError.TheVariants.{Payload, HeadersTooLong}
+use Rattle.ip_defragmenter.specs.declared.err.StoreError.TheVariants as store
+use Rattle.ip_defragmenter.specs.declared.err.StoreError.TheVariants.{Payload, HeadersTooLong, MixedEcn}
 use Rattle.ip_defragmenter.specs.declared.outcome.Added.{Added}
 use Rattle.ip_defragmenter.specs.declared.outcome.Outcome.{Outcome}
 use Rattle.ip_defragmenter.specs.declared.outcome.Outcome.TheVariants.{NotFragment, MoreWanted, Whole, Dropped}
@@ -34,7 +35,9 @@ add_code Abandoned = 10
 -- the code of why a memory refuses a fragment
 abbrev pub store_error_code : StoreError → ℕ
 store_error_code (Payload e) = add_code e
+store_error_code store.Headers = 3
 store_error_code HeadersTooLong = 11
+store_error_code MixedEcn = 13
 
 -- the code of why a fragment was dropped
 abbrev pub drop_code : DropReason → ℕ
@@ -69,7 +72,7 @@ with_one_more counts i = slice_set counts i (one_more (slice_index counts i))
 
 -- counts of no packets
 abbrev pub no_counts : DefragmenterCounts
-no_counts = record { outcomes = replicate 13 0; losses = replicate 3 0 }
+no_counts = record { outcomes = replicate 14 0; losses = replicate 3 0 }
 
 -- the counts after a packet was added
 abbrev pub counted : DefragmenterCounts → Added → DefragmenterCounts

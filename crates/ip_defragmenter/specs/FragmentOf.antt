@@ -1,10 +1,10 @@
 -- The fragment that a packet is (RFC 791, sections 2.3 and 3.2; RFC 8200, section 4.5). An atomic fragment is none: it is
 -- a packet by itself (RFC 6946).
-use Rattle.std.specs.Prelude.{ℕ, List, Bool, ◌++◌, ◌==◌, not, length, Option, Some, None, is_some, Result, Ok, Err, if◌then◌else◌}
+use Rattle.std.specs.Prelude.{ℕ, ◌%◌, List, Bool, ◌++◌, ◌==◌, not, length, Option, Some, None, is_some, Result, Ok, Err, if◌then◌else◌}
 use Rattle.std.specs.Option.{option_map, option_map_or}
 use Rattle.std.specs.List.{find}
 use Rattle.ip_base.specs.Ipv4Header.{ipv4_more_fragments, ipv4_fragment_offset, is_ipv4_fragmenting, protocol, ipv4_source_octets, ipv4_destination_octets}
-use Rattle.ip_base.specs.BaseHeaderFields.{ipv4_identification}
+use Rattle.ip_base.specs.BaseHeaderFields.{ipv4_ecn, ipv4_identification, ipv6_traffic_class}
 use Rattle.ip_base.specs.Ipv6Header.{ipv6_source_octets, ipv6_destination_octets}
 use Rattle.ip_spec.specs.Chain.{ExtHeader, bytes_of}
 use Rattle.ip_spec.specs.Fields.{fragment_fields}
@@ -19,13 +19,14 @@ use Rattle.ip_defragmenter.specs.declared.key.FragmentKey.TheVariants as key
 use Rattle.ip_defragmenter.specs.declared.fragment.IpFragment.{IpFragment}
 
 -- A fragment: the key of its packet; the headers before it, but for the fragment header; the offset in them of the field
--- with the number of what follows them; the number of what the payload starts with; its offset in units of 8 bytes;
--- whether more fragments follow; its bytes.
+-- with the number of what follows them; the number of what the payload starts with; its ECN code point; its offset in units
+-- of 8 bytes; whether more fragments follow; its bytes.
 pub record FragmentParts : Type 0 where
   pub key : FragmentKey
   pub headers : List ℕ
   pub link : ℕ
   pub number : ℕ
+  pub ecn : ℕ
   pub offset : ℕ
   pub more : Bool
   pub bytes : List ℕ
@@ -37,6 +38,7 @@ parts_of f = record {
   headers = f.headers.now;
   link = f.link;
   number = f.next_header.0;
+  ecn = f.ecn;
   offset = f.offset;
   more = f.more;
   bytes = f.bytes.now;
@@ -49,6 +51,7 @@ ipv4_fragment_parts p = if is_ipv4_fragmenting p.base then Some (record {
   headers = p.base;
   link = 9;
   number = protocol p.base;
+  ecn = ipv4_ecn p.base;
   offset = ipv4_fragment_offset p.base;
   more = ipv4_more_fragments p.base;
   bytes = bytes_of p.headers ++ p.payload;
@@ -61,6 +64,7 @@ ipv6_fragment_parts_by p h = record {
   headers = p.base ++ bytes_of (before_fragment p.headers);
   link = link_after (length p.base) (before_fragment p.headers);
   number = (fragment_fields h.bytes).next_header;
+  ecn = ipv6_traffic_class p.base % 4;
   offset = (fragment_fields h.bytes).fragment_offset;
   more = (fragment_fields h.bytes).more_fragments;
   bytes = bytes_of (after_fragment p.headers) ++ p.payload;

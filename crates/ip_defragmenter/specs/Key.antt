@@ -1,10 +1,15 @@
 -- The keys of packets that arrive in fragments (RFC 791, section 3.2; RFC 8200, section 4.5), and their hashes.
-use Rattle.std.specs.Prelude.{ℕ, ◌+◌, ◌*◌, ◌%◌, Bool, false, ◌&&◌, ◌==◌, List, [], ◌∷◌, slice_index}
-use Rattle.std.specs.List.{fold}
+use Rattle.std.specs.Prelude.{◌≡◌, ℕ, ◌<◌, ◌+◌, ◌*◌, ◌^◌, length, Bool, false, ◌&&◌, ◌==◌, List, [], ◌∷◌, slice_index}
 use Rattle.std.specs.Int.{from_be_bytes, w32}
 use Rattle.std.specs.Str.{bytes_eq}
+use Rattle.ip_defragmenter.specs.SipHash.{sip_hash}
 use Rattle.ip_defragmenter.specs.declared.key.FragmentKey.{FragmentKey}
 use Rattle.ip_defragmenter.specs.declared.key.FragmentKey.TheVariants.{Ipv4, Ipv6}
+
+-- Addresses of IPv4 have 4 bytes and those of IPv6 16, and an identification of IPv4 has 16 bits.
+abbrev pub IsKey : FragmentKey → Type 0
+IsKey (Ipv4 source destination protocol identification) = (length source ≡ 4) × (length destination ≡ 4) × (identification < 65536)
+IsKey (Ipv6 source destination identification) = (length source ≡ 16) × (length destination ≡ 16)
 
 -- Two keys are equal.
 abbrev pub same_key : FragmentKey → FragmentKey → Bool
@@ -17,17 +22,17 @@ same_key (Ipv6 a b d) (Ipv6 e f h) = (d == h) && bytes_eq a e && bytes_eq b f
 abbrev pub word_at : List ℕ → ℕ → ℕ
 word_at b i = from_be_bytes w32 (slice_index b i ∷ slice_index b (i + 1) ∷ slice_index b (i + 2) ∷ slice_index b (i + 3) ∷ [])
 
--- the words of a key
-abbrev pub words_of : FragmentKey → List ℕ
-words_of (Ipv4 source destination protocol identification) = word_at source 0 ∷ word_at destination 0 ∷ protocol.0 ∷ identification ∷ []
-words_of (Ipv6 source destination identification) =
-    word_at source 0 ∷ word_at source 4 ∷ word_at source 8 ∷ word_at source 12
-    ∷ word_at destination 0 ∷ word_at destination 4 ∷ word_at destination 8 ∷ word_at destination 12 ∷ identification ∷ []
+-- the word of 8 bytes at an index, in network byte order
+abbrev pub long_at : List ℕ → ℕ → ℕ
+long_at b i = 2 ^ 32 * word_at b i + word_at b (i + 4)
 
--- the polynomial with one more coefficient, at this factor, modulo the largest prime below 2^32
-abbrev pub next_hash : ℕ → ℕ → ℕ → ℕ
-next_hash factor hash word = (hash * factor + word) % 4294967291
+-- the words of a key in a context, by which it is hashed: keys of the two versions have different numbers of them
+abbrev pub words_of : ℕ → FragmentKey → List ℕ
+words_of context (Ipv4 source destination protocol identification) =
+    (2 ^ 32 * word_at source 0 + word_at destination 0) ∷ (2 ^ 32 * context + (65536 * protocol.0 + identification)) ∷ []
+words_of context (Ipv6 source destination identification) =
+    long_at source 0 ∷ long_at source 8 ∷ long_at destination 0 ∷ long_at destination 8 ∷ (2 ^ 32 * context + identification) ∷ []
 
--- the polynomial whose coefficients are the words of a key, at this factor
-abbrev pub hash_of : ℕ → FragmentKey → ℕ
-hash_of factor k = fold (next_hash factor) 0 (words_of k)
+-- the hash of a key in a context
+abbrev pub hash_of : List ℕ → ℕ → FragmentKey → ℕ
+hash_of seed context k = sip_hash seed (words_of context k)

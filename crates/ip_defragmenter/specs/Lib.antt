@@ -1,12 +1,14 @@
 pub mod Split
 pub mod Finder
 pub mod FragmentOf
+pub mod SipHash
 pub mod Key
 pub mod Slot
 pub mod Slots
-pub mod Checksum
+pub mod Ecn
 pub mod Whole
 pub mod Sent
+pub mod Points
 pub mod Memory
 pub mod Memories
 pub mod Added

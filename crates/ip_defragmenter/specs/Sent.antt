@@ -5,8 +5,7 @@ use Rattle.ip_base.specs.BaseHeaderFields.{ipv4_checksum}
 use Rattle.ip_base.specs.Ipv6Header.{payload_length}
 use Rattle.ip_spec.specs.Numbers.{FRAGMENT}
 use Rattle.ip_spec.specs.Encoding.{AreBytes}
-use Rattle.ip_defragmenter.specs.Checksum.{checksum_of}
-use Rattle.ip_defragmenter.specs.Whole.{with_word}
+use Rattle.ip_base.specs.Checksum.{with_word, checksum_of}
 
 -- the base header of the IPv4 packet s
 abbrev pub ipv4_base : List ℕ → List ℕ

@@ -25,7 +25,7 @@ key_in s =
 -- the packet that has the slot, if it isn't free
 abbrev pub pending_by : Slot → Option FragmentKey → Option Pending
 pending_by s None = None
-pending_by s (Some k) = Some (record { key = k; since = s.since })
+pending_by s (Some k) = Some (record { context = s.context; key = k; since = s.since })
 
 abbrev pub pending_in : Slot → Option Pending
 pending_in s = pending_by s (key_in s)
@@ -35,12 +35,9 @@ is_free s = not (is_some (pending_in s))
 
 -- a free slot
 abbrev pub free_slot : Slot
-free_slot = record { since = 0; source = padded []; destination = padded []; identification = 0; protocol = 0; version = 0 }
+free_slot = record { since = 0; source = padded []; destination = padded []; identification = 0; context = 0; protocol = 0; version = 0 }
 
--- the slot of a packet with this key, since this time
-abbrev pub slot_with : ℕ → FragmentKey → Slot
-slot_with since (Ipv4 a b c d) = record { since = since; source = padded a; destination = padded b; identification = d; protocol = c.0; version = 4 }
-slot_with since (Ipv6 a b d) = record { since = since; source = a; destination = b; identification = d; protocol = 0; version = 6 }
-
-abbrev pub slot_of : Pending → Slot
-slot_of p = slot_with p.since p.key
+-- the slot of a packet with this key in this context, since this time
+abbrev pub slot_with : ℕ → ℕ → FragmentKey → Slot
+slot_with since context (Ipv4 a b c d) = record { since = since; source = padded a; destination = padded b; identification = d; context = context; protocol = c.0; version = 4 }
+slot_with since context (Ipv6 a b d) = record { since = since; source = a; destination = b; identification = d; context = context; protocol = 0; version = 6 }

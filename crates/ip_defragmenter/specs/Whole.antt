@@ -1,13 +1,9 @@
 -- The headers of a whole packet, by those of its first fragment (RFC 791, section 3.2; RFC 8200, section 4.5).
-use Rattle.std.specs.Prelude.{ℕ, ◌+◌, ◌-◌, ◌/◌, ◌%◌, ◌++◌, ◌==◌, ◌&&◌, not, Bool, false, nat_le, nat_lt, List, length, slice_index, slice_set, bit_and, Option, Some, None, if◌then◌else◌}
+use Rattle.std.specs.Prelude.{ℕ, ◌+◌, ◌-◌, ◌++◌, ◌==◌, ◌&&◌, not, Bool, false, nat_le, nat_lt, List, length, slice_index, slice_set, bit_and, Option, Some, None, if◌then◌else◌}
 use Rattle.ip_base.specs.Ipv4Header.{version}
-use Rattle.ip_defragmenter.specs.Checksum.{checksum_of}
+use Rattle.ip_base.specs.Checksum.{with_word, checksum_of}
 use Rattle.ip_defragmenter.specs.declared.err.WholeError.{WholeError}
 use Rattle.ip_defragmenter.specs.declared.err.WholeError.TheVariants.{Headers, TooLong, NoRoom}
-
--- bytes b with a number of 16 bits at an index, in network byte order
-abbrev pub with_word : List ℕ → ℕ → ℕ → List ℕ
-with_word b i n = slice_set (slice_set b i (n / 256)) (i + 1) (n % 256)
 
 -- A base header of IPv4 with the total length that n bytes of payload give, without the more fragments flag, with the
 -- offset 0 and the checksum 0.

@@ -6,7 +6,7 @@ use crate::{Added, DropReason, FragmentError, Loss, LossReason, Outcome, StoreEr
 use ip_defrag::AddError;
 
 /// The number of outcomes.
-const OUTCOMES: usize = 13;
+const OUTCOMES: usize = 14;
 
 /// The number of losses, with that of none.
 const LOSSES: usize = 3;
@@ -15,7 +15,7 @@ const LOSSES: usize = 3;
 #[inline(always)]
 fn error_code(error: FragmentError) -> u8
     ensures code { result ≡ error_code error }
-    ensures within { result < 13 }
+    ensures within { result < 14 }
 {
     match error {
         FragmentError::Headers => 3,
@@ -28,7 +28,7 @@ fn error_code(error: FragmentError) -> u8
 #[inline(always)]
 fn refusal_code(error: StoreError) -> u8
     ensures code { result ≡ store_error_code error }
-    ensures within { result < 13 }
+    ensures within { result < 14 }
 {
     match error {
         StoreError::Payload(AddError::Unaligned) => 6,
@@ -36,7 +36,9 @@ fn refusal_code(error: StoreError) -> u8
         StoreError::Payload(AddError::Overlap) => 8,
         StoreError::Payload(AddError::TwoEnds) => 9,
         StoreError::Payload(AddError::Abandoned) => 10,
+        StoreError::Headers => 3,
         StoreError::HeadersTooLong => 11,
+        StoreError::MixedEcn => 13,
     }
 }
 
@@ -44,7 +46,7 @@ fn refusal_code(error: StoreError) -> u8
 #[inline(always)]
 fn drop_code(reason: DropReason) -> u8
     ensures code { result ≡ drop_code reason }
-    ensures within { result < 13 }
+    ensures within { result < 14 }
 {
     match reason {
         DropReason::Unusable(error) => error_code(error),
@@ -54,12 +56,12 @@ fn drop_code(reason: DropReason) -> u8
 }
 
 impl Outcome {
-    /// Returns the code of the outcome, below 13: 0 if the packet is no fragment, 1 if more fragments are wanted, 2 if the
+    /// Returns the code of the outcome, below 14: 0 if the packet is no fragment, 1 if more fragments are wanted, 2 if the
     /// packet is whole, and another one for each reason for which a fragment is dropped.
     #[inline(always)]
     pub fn code(self) -> u8
         ensures code { result ≡ outcome_code self }
-        ensures within { result < 13 }
+        ensures within { result < 14 }
     {
         match self {
             Outcome::NotFragment => 0,
@@ -110,7 +112,7 @@ fn increment(counts: &mut [u64], index: usize)
 #[derive(Clone, Copy, Debug, PartialEq, Eq)]
 pub struct DefragmenterCounts {
     /// The packets that were added, by the code of the outcome (`Outcome::code`).
-    pub outcomes: [u64; 13],
+    pub outcomes: [u64; 14],
     /// The packets that were added, by the code of the loss (`Added::loss_code`), and those that `give_up` gave up.
     pub losses: [u64; 3],
 }

@@ -1,15 +1,19 @@
 //! Packets from their fragments.
-ghost use Rattle.std.specs.Prelude.{◌≡◌, ◌<◌, length, Ok, Err, None, Some};
+ghost use Rattle.std.specs.Prelude.{◌≡◌, ◌<◌, ◌≤◌, length, Ok, Err, None, Some};
+ghost use Rattle.ip_defragmenter.specs.Memory.{own_refusal};
 ghost use Rattle.ip_dissect.specs.Dissection.{dissected};
 ghost use Rattle.ip_defragmenter.specs.FragmentOf.{FragmentParts, parts_of, packet_fragment};
-ghost use Rattle.ip_defragmenter.specs.Added.{outcome_in, is_whole, freed, IsAdded, added_nothing};
+ghost use Rattle.ip_defragmenter.specs.Added.{outcome_in, is_whole, freed, IsAdded, IsAddedBy, added_nothing};
+ghost use Rattle.ip_defragmenter.specs.Slots.{place_of};
 ghost use Rattle.ip_defragmenter.specs.declared.err.FragmentError.{FragmentError};
 
 use crate::fragment::Reading;
+use crate::memory::own_refusal;
 use crate::slots::place_by;
 use crate::store::store;
 use crate::{
-    Added, DefragmenterCounts, DropReason, IpFragment, Outcome, PacketMemory, Slot, StoreError,
+    Added, DefragmenterCounts, DropReason, IpFragment, Outcome, PacketMemory, Settings, Slot,
+    StoreError,
 };
 use ip_defrag::Progress;
 
@@ -36,19 +40,56 @@ fn free_if_whole(slots: &mut [Slot], index: usize, stored: &Result<Progress, Sto
     }
 }
 
-/// Adds a fragment that arrived at this time, as `defragment` does. Returns what became of it, and the packet that was given
-/// up for it.
+/// Adds a fragment that arrived at this time in this context, as `defragment` does. Returns what became of it, and the packet
+/// that was given up for it.
 pub fn add_fragment(
     slots: &mut [Slot],
     memories: &mut [PacketMemory],
-    factor: u32,
+    settings: &Settings,
+    context: u32,
     time: u64,
     fragment: &IpFragment<'_>,
 ) -> Added
     requires { length slots.old ≡ length memories.old }
-    ensures { IsAdded slots.old memories.old factor time (parts_of fragment.now) slots.new memories.new result }
+    ensures { IsAdded slots.old memories.old settings.now context time (parts_of fragment.now)
+        slots.new memories.new result }
 {
-    match place_by(slots, factor, &fragment.key, time) {
+    match own_refusal(fragment) {
+        Some(error) => nothing_added(Outcome::Dropped(DropReason::Refused(error))),
+        None => add_sound(slots, memories, settings, context, time, fragment),
+    }
+}
+
+/// Returns what became of a packet for which no slot was used.
+#[inline(always)]
+fn nothing_added(outcome: Outcome) -> Added
+    ensures { result ≡ added_nothing outcome }
+{
+    Added {
+        outcome,
+        slot: None,
+        lost: None,
+    }
+}
+
+/// Adds a fragment that isn't refused by itself.
+#[inline(always)]
+fn add_sound(
+    slots: &mut [Slot],
+    memories: &mut [PacketMemory],
+    settings: &Settings,
+    context: u32,
+    time: u64,
+    fragment: &IpFragment<'_>,
+) -> Added
+    requires as_many { length slots.old ≡ length memories.old }
+    requires sound { own_refusal (parts_of fragment.now) ≡ None }
+    requires short { length fragment.now.bytes.now ≤ 65535 }
+    requires head { fragment.now.offset ≡ 0 → length fragment.now.headers.now ≤ 4096 }
+    ensures { IsAddedBy slots.old memories.old context (parts_of fragment.now)
+        (place_of slots.old settings.now context (parts_of fragment.now).key time) slots.new memories.new result }
+{
+    match place_by(slots, settings, context, &fragment.key, time) {
         Some(found) => {
             let stored = store(memories, found.index, found.is_known, fragment);
             free_if_whole(slots, found.index, &stored);
@@ -58,11 +99,7 @@ pub fn add_fragment(
                 lost: found.lost,
             }
         }
-        None => Added {
-            outcome: Outcome::Dropped(DropReason::NoSlot),
-            slot: None,
-            lost: None,
-        },
+        None => nothing_added(Outcome::Dropped(DropReason::NoSlot)),
     }
 }
 
@@ -70,12 +107,13 @@ pub fn add_fragment(
 /// of it, and the packet that was given up for it. If its packet is whole, the memory with the returned index has it.
 ///
 /// A fragment goes to the slot of its packet and the memory with the slot's index (RFC 791, section 3.2; RFC 8200, section
-/// 4.5); `place` says which slot. All other slots and memories stay as they are, but for the packet that was given up. `factor`
-/// is a number that senders don't know.
+/// 4.5); `place` says which slot, and what a context is. A fragment that is refused by itself takes no slot. All other slots
+/// and memories stay as they are, but for the packet that was given up.
 pub fn defragment(
     slots: &mut [Slot],
     memories: &mut [PacketMemory],
-    factor: u32,
+    settings: &Settings,
+    context: u32,
     time: u64,
     bytes: &[u8],
 ) -> Added
@@ -85,22 +123,14 @@ pub fn defragment(
     ensures unusable { (e : FragmentError) → packet_fragment (dissected bytes.now) ≡ Err e
         → (result ≡ added_nothing (Outcome.Dropped (DropReason.Unusable e))) × (slots.new ≡ slots.old) × (memories.new ≡ memories.old) }
     ensures added { (f : FragmentParts) → packet_fragment (dissected bytes.now) ≡ Ok (Some f)
-        → IsAdded slots.old memories.old factor time f slots.new memories.new result }
+        → IsAdded slots.old memories.old settings.now context time f slots.new memories.new result }
 {
     let mut reading = Reading::new();
     reading.read(bytes);
     match &reading.fragment {
-        Ok(Some(fragment)) => add_fragment(slots, memories, factor, time, fragment),
-        Ok(None) => Added {
-            outcome: Outcome::NotFragment,
-            slot: None,
-            lost: None,
-        },
-        Err(error) => Added {
-            outcome: Outcome::Dropped(DropReason::Unusable(*error)),
-            slot: None,
-            lost: None,
-        },
+        Ok(Some(fragment)) => add_fragment(slots, memories, settings, context, time, fragment),
+        Ok(None) => nothing_added(Outcome::NotFragment),
+        Err(error) => nothing_added(Outcome::Dropped(DropReason::Unusable(*error))),
     }
 }
 
@@ -116,8 +146,8 @@ pub struct Defragmenter<'m> {
     pub memories: &'m mut [PacketMemory],
     /// What became of the packets that were added.
     pub counts: &'m mut DefragmenterCounts,
-    /// A number that senders don't know.
-    pub factor: u32,
+    /// How packets get slots, and when they are given up.
+    pub settings: Settings,
 }
 
 impl<'m> Defragmenter<'m> {
@@ -128,10 +158,10 @@ impl<'m> Defragmenter<'m> {
     ghost use Rattle.ip_defragmenter.specs.Counts.{counted};
     ghost use Rattle.ip_defragmenter.specs.declared.err.FragmentError.{FragmentError};
 
-    /// Adds the packet at the start of `bytes`, which arrived at this time, in nanoseconds since any moment, as `defragment`
-    /// does. Counts what became of it, and the packet that was given up for it.
+    /// Adds the packet at the start of `bytes`, which arrived at this time in this context, in nanoseconds since any moment, as
+    /// `defragment` does. Counts what became of it, and the packet that was given up for it.
     #[inline(always)]
-    pub fn add(&mut self, time: u64, bytes: &[u8]) -> Added
+    pub fn add(&mut self, context: u32, time: u64, bytes: &[u8]) -> Added
         requires { length self.old.slots.now ≡ length self.old.memories.now }
         ensures not_fragment { packet_fragment (dissected bytes.now) ≡ Ok None
             → (result ≡ added_nothing Outcome.NotFragment)
@@ -140,12 +170,19 @@ impl<'m> Defragmenter<'m> {
             → (result ≡ added_nothing (Outcome.Dropped (DropReason.Unusable e)))
             × (self.new.slots.now ≡ self.old.slots.now) × (self.new.memories.now ≡ self.old.memories.now) }
         ensures added { (f : FragmentParts) → packet_fragment (dissected bytes.now) ≡ Ok (Some f)
-            → IsAdded self.old.slots.now self.old.memories.now self.old.factor time f
+            → IsAdded self.old.slots.now self.old.memories.now self.old.settings context time f
             self.new.slots.now self.new.memories.now result }
         ensures counts { self.new.counts.now ≡ counted self.old.counts.now result }
-        ensures factor { self.new.factor ≡ self.old.factor }
+        ensures settings { self.new.settings ≡ self.old.settings }
     {
-        let added = defragment(self.slots, self.memories, self.factor, time, bytes);
+        let added = defragment(
+            self.slots,
+            self.memories,
+            &self.settings,
+            context,
+            time,
+            bytes,
+        );
         self.counts.count(&added);
         added
     }

@@ -38,7 +38,13 @@ pub enum StoreError {
     /// The payload refuses it.
     #[error(transparent)]
     Payload(AddError),
+    /// It is the first fragment, and its headers aren't those of a packet.
+    #[error("the headers of the first fragment are not those of a packet")]
+    Headers,
     /// It is the first fragment, and its headers are longer than the buffer for them.
     #[error("the headers of the first fragment are longer than the buffer")]
     HeadersTooLong,
+    /// Some fragments of the packet are ECN-capable, and others aren't (RFC 3168, section 5.3). The packet is abandoned.
+    #[error("some fragments of the packet are ECN-capable, and others are not")]
+    MixedEcn,
 }

@@ -30,6 +30,8 @@ pub struct IpFragment<'a> {
     /// The number of what the packet's payload starts with: the protocol of IPv4, the fragment header's next header of
     /// IPv6.
     pub next_header: IpNumber,
+    /// The ECN code point (RFC 3168, section 5).
+    pub ecn: u8,
     /// The fragment offset.
     pub offset: IpFragOffset,
     /// Whether more fragments follow.
@@ -184,6 +186,7 @@ fn ipv4_fragment<'a>(packet: &Packet<'a>, base: Ipv4HeaderSlice<'a>) -> IpFragme
         headers: base.slice(),
         link: 9,
         next_header: base.protocol(),
+        ecn: base.ecn(),
         offset: base.fragments_offset(),
         more: base.more_fragments(),
         bytes: part(packet.bytes, start, end_of(packet)),
@@ -213,6 +216,7 @@ fn ipv6_fragment<'a>(
         headers: front(packet.bytes, header.start),
         link: finder.link,
         next_header: header.next_header,
+        ecn: base.traffic_class() % 4,
         offset: header.offset,
         more: header.more,
         bytes: part(packet.bytes, header.start + header.len, end_of(packet)),

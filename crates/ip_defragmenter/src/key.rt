@@ -1,8 +1,9 @@
 //! What all fragments of a packet have in common.
 
-ghost use Rattle.std.specs.Prelude.{◌≡◌, ◌<◌, ◌+◌, ◌*◌, ◌%◌, length};
-ghost use Rattle.ip_defragmenter.specs.Key.{hash_of, next_hash, word_at};
+ghost use Rattle.std.specs.Prelude.{◌≡◌, ◌<◌, ◌+◌, ◌*◌, length};
+ghost use Rattle.ip_defragmenter.specs.Key.{hash_of, word_at, long_at};
 
+use crate::siphash::sip_hash;
 use ip_base::IpNumber;
 
 /// What all fragments of one packet have in common, and those of two packets don't (RFC 791, section 3.2; RFC 8200,
@@ -31,41 +32,6 @@ pub enum FragmentKey {
     },
 }
 
-/// The prime modulus of hashes, the largest below 2^32.
-const MODULUS: u64 = 4_294_967_291;
-
-/// Returns the hash of one more word.
-#[inline(always)]
-fn next_hash(hash: u64, factor: u32, word: u32) -> u64
-    requires { hash < 4294967291 }
-    ensures next { result ≡ next_hash factor hash word }
-    ensures below { result < 4294967291 }
-{
-    (hash * u64::from(factor) + u64::from(word)) % MODULUS
-}
-
-/// Returns a number with the remainder of this one, since 2^32 leaves 5.
-#[inline(always)]
-fn folded(number: u64) -> u64
-    ensures same { result % 4294967291 ≡ number % 4294967291 }
-    ensures below { result < 25769803776 }
-{
-    number / 4_294_967_296 * 5 + number % 4_294_967_296
-}
-
-/// Returns the hash of two more words. The second waits for the hash as short a time as the first, since `square` is that of
-/// the factor.
-#[inline(always)]
-fn hash_of_two(hash: u64, factor: u32, square: u64, first: u32, second: u32) -> u64
-    requires hash { hash < 4294967291 }
-    requires square { square ≡ (factor * factor) % 4294967291 }
-    ensures next { result ≡ next_hash factor (next_hash factor hash first) second }
-    ensures below { result < 4294967291 }
-{
-    let words = folded(u64::from(first) * u64::from(factor) + u64::from(second));
-    (hash * square + words) % MODULUS
-}
-
 /// Returns the word of 4 bytes at an index, in network byte order.
 #[inline(always)]
 fn word_at(bytes: &[u8], index: usize) -> u32
@@ -80,71 +46,64 @@ fn word_at(bytes: &[u8], index: usize) -> u32
     ])
 }
 
-/// Returns the hash of the words of an IPv6 address.
+/// Returns two words of 4 bytes as one of 8 bytes.
 #[inline(always)]
-fn address_hash(hash: u64, factor: u32, square: u64, address: &[u8; 16]) -> u64
-    requires hash { hash < 4294967291 }
-    requires square { square ≡ (factor * factor) % 4294967291 }
-    ensures next { result ≡ next_hash factor (next_hash factor (next_hash factor (next_hash factor hash
-        (word_at address.now 0)) (word_at address.now 4)) (word_at address.now 8)) (word_at address.now 12) }
-    ensures below { result < 4294967291 }
+fn joined(high: u32, low: u32) -> u64
+    ensures { result ≡ 4294967296 * high + low }
 {
-    let half = hash_of_two(
-        hash,
-        factor,
-        square,
-        word_at(address, 0),
-        word_at(address, 4),
-    );
-    hash_of_two(
-        half,
-        factor,
-        square,
-        word_at(address, 8),
-        word_at(address, 12),
-    )
+    4_294_967_296 * u64::from(high) + u64::from(low)
+}
+
+/// Returns the word of 8 bytes at an index, in network byte order.
+#[inline(always)]
+fn long_at(bytes: &[u8; 16], index: usize) -> u64
+    requires { index < 9 }
+    ensures { result ≡ long_at bytes.now index }
+{
+    joined(word_at(bytes, index), word_at(bytes, index + 4))
+}
+
+/// Returns the numbers in a key of IPv4 as one.
+#[inline(always)]
+fn ipv4_number(protocol: u8, identification: u16) -> u32
+    ensures { result ≡ 65536 * protocol + identification }
+{
+    65536 * u32::from(protocol) + u32::from(identification)
 }
 
 impl FragmentKey {
-    /// Returns the hash of the key by a factor that only the caller knows: the value of the polynomial whose coefficients
-    /// are the key's words. No two keys have equal hashes for more than ten factors.
+    /// Returns the hash of the key in a context, by a seed that only the caller knows.
     #[inline(always)]
-    pub(crate) fn hash(&self, factor: u32) -> u64
-        ensures { result ≡ hash_of factor self.now }
+    pub(crate) fn hash(&self, seed: &[u64; 2], context: u32) -> u64
+        ensures { result ≡ hash_of seed.now context self.now }
     {
-        let square = u64::from(factor) * u64::from(factor) % MODULUS;
         match self {
             FragmentKey::Ipv4 {
                 source,
                 destination,
                 protocol,
                 identification,
-            } => {
-                let addresses = hash_of_two(
-                    0,
-                    factor,
-                    square,
-                    word_at(source, 0),
-                    word_at(destination, 0),
-                );
-                let number = u32::from(protocol.0);
-                hash_of_two(
-                    addresses,
-                    factor,
-                    square,
-                    number,
-                    u32::from(*identification),
-                )
-            }
+            } => sip_hash(
+                seed,
+                &[
+                    joined(word_at(source, 0), word_at(destination, 0)),
+                    joined(context, ipv4_number(protocol.0, *identification)),
+                ],
+            ),
             FragmentKey::Ipv6 {
                 source,
                 destination,
                 identification,
-            } => {
-                let half = address_hash(0, factor, square, source);
-                let addresses = address_hash(half, factor, square, destination);
-                next_hash(addresses, factor, *identification)
-            }
+            } => sip_hash(
+                seed,
+                &[
+                    long_at(source, 0),
+                    long_at(source, 8),
+                    long_at(destination, 0),
+                    long_at(destination, 8),
+                    joined(context, *identification),
+                ],
+            ),
         }
     }
 }

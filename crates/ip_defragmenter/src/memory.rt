@@ -1,9 +1,15 @@
 //! The fragments of one packet.
+ghost use Rattle.std.specs.Prelude.{◌≡◌, ◌≤◌, nat_lt, length, None, false};
+ghost use Rattle.ip_defrag.specs.Fragment.{end_of, is_unaligned};
+ghost use Rattle.ip_defragmenter.specs.FragmentOf.{parts_of};
+ghost use Rattle.ip_defragmenter.specs.Memory.{piece_of, own_refusal};
+ghost use Rattle.ip_defragmenter.specs.Whole.{stated_by};
 
-use crate::whole::put_front;
+use crate::points::{Points, is_congested, mixes, no_points, with_point};
+use crate::whole::{are_headers, is_too_long, put_front};
 use crate::{IpFragment, StoreError, WholeError, write_packet};
 use ip_base::IpNumber;
-use ip_defrag::{Progress, ReassemblyState};
+use ip_defrag::{AddError, Progress, ReassemblyState};
 
 /// How long the headers of a first fragment can be, in bytes.
 const HEAD: usize = 4096;
@@ -32,6 +38,8 @@ pub struct PacketMemory {
     first_here: u8,
     /// The number of what the payload starts with.
     next_header: u8,
+    /// The ECN code points of the fragments.
+    points: Points,
     /// The headers of the first fragment, at the start, if they are that short.
     short_head: [u8; 64],
     /// The payload.
@@ -40,20 +48,77 @@ pub struct PacketMemory {
     head: [u8; 4096],
 }
 
+/// Returns the end of a fragment in the payload, in bytes.
+#[inline(always)]
+fn end_of(fragment: &IpFragment<'_>) -> usize
+    requires { length fragment.now.bytes.now ≤ 65535 }
+    ensures { result ≡ end_of (piece_of (parts_of fragment.now)) }
+{
+    8 * usize::from(fragment.offset.value()) + fragment.bytes.len()
+}
+
+/// Returns whether more fragments follow, and the length is 0 or not a multiple of 8.
+#[inline(always)]
+fn is_unaligned(fragment: &IpFragment<'_>) -> bool
+    ensures { result ≡ is_unaligned (piece_of (parts_of fragment.now)) }
+{
+    let len = fragment.bytes.len();
+    fragment.more && (len == 0 || len % 8 != 0)
+}
+
+/// Returns whether a fragment ends where the length field of its packet can't.
+#[inline(always)]
+fn ends_too_late(fragment: &IpFragment<'_>) -> bool
+    ensures late { result ≡ nat_lt 65535
+        (stated_by fragment.now.headers.now (end_of (piece_of (parts_of fragment.now)))) }
+    ensures short { result ≡ false → length fragment.now.bytes.now ≤ 65535 }
+{
+    fragment.bytes.len() > 65535 || is_too_long(fragment.headers, end_of(fragment))
+}
+
+/// Returns why a fragment is refused, whatever else has arrived.
+#[inline(always)]
+#[tactic(auto, unfolding(crate::specs::Memory::own_refusal))]
+pub(crate) fn own_refusal(fragment: &IpFragment<'_>) -> Option<StoreError>
+    ensures refusal { result ≡ own_refusal (parts_of fragment.now) }
+    ensures short { result ≡ None → length fragment.now.bytes.now ≤ 65535 }
+    ensures head { result ≡ None → fragment.now.offset ≡ 0 → length fragment.now.headers.now ≤ 4096 }
+{
+    if is_unaligned(fragment) {
+        return Some(StoreError::Payload(AddError::Unaligned));
+    }
+    if ends_too_late(fragment) {
+        return Some(StoreError::Payload(AddError::TooLong));
+    }
+    if fragment.offset.value() != 0 {
+        return None;
+    }
+    if !are_headers(fragment.headers, fragment.link) {
+        return Some(StoreError::Headers);
+    }
+    if fragment.headers.len() > HEAD {
+        return Some(StoreError::HeadersTooLong);
+    }
+    None
+}
+
 impl PacketMemory {
-    ghost use Rattle.std.specs.Prelude.{is_some, ◌≡◌, ◌+◌, ◌++◌, ◌≤◌, ℕ, List, [], ◌∷◌, length, true, false, None, Some, Ok, OnOk, OnErr, drop, if◌then◌else◌};
-    ghost use Rattle.ip_defrag.specs.Fragment.{Fragment};
-    ghost use Rattle.ip_defrag.specs.Split.{IsSplit, are_among};
-    ghost use Rattle.ip_defragmenter.specs.Whole.{whole_packet, whole_fault};
-    ghost use Rattle.ip_defragmenter.specs.Memory.{WasStored, HoldsReceived, FirstParts, kept_headers, first_in, first_of, first_after, is_too_long, piece_of, stored_outcome, stored_after};
-    ghost use Rattle.ip_defragmenter.specs.FragmentOf.{parts_of};
-    ghost use Rattle.ip_defrag.specs.Received.{payload_in};
+    ghost use Rattle.std.specs.Prelude.{is_some, ◌≡◌, ◌+◌, ◌*◌, ◌++◌, ◌≤◌, ◌==◌, ◌||◌, ℕ, List, [], ◌∷◌, length, max, true, false, None, Some, Ok, OnOk, OnErr, IfOk, IfSome, drop, if◌then◌else◌};
+    ghost use Rattle.std.specs.List.{list_any};
     ghost use Rattle.std.specs.Result.{result_err, is_ok};
+    ghost use Rattle.ip_defrag.specs.Fragment.{Fragment, end_of};
+    ghost use Rattle.ip_defrag.specs.Reassembly.{is_set, reach_of};
+    ghost use Rattle.ip_defrag.specs.Received.{payload_in};
+    ghost use Rattle.ip_defrag.specs.Split.{IsSplit, are_among};
+    ghost use Rattle.ip_defragmenter.specs.Ecn.{is_congested, marked};
+    ghost use Rattle.ip_defragmenter.specs.Points.{HoldsPoints};
+    ghost use Rattle.ip_defragmenter.specs.FragmentOf.{FragmentParts, parts_of};
+    ghost use Rattle.ip_defragmenter.specs.Memory.{HoldsStored, WasStored, FirstParts, IsWritable, AreJoinable, pieces_of, points_of, stored_all, kept_headers, first_in, first_of, first_after, exceeds, own_refusal, piece_of, refusal_after, stored_none, stored_outcome, stored_after, outcome_by, stored_by};
+    ghost use Rattle.ip_defragmenter.specs.Whole.{whole_packet, whole_fault};
 
     /// Returns a memory without fragments.
     pub fn new() -> PacketMemory
-        ensures given { WasStored result 65535 [] }
-        ensures first { first_in result ≡ None }
+        ensures { HoldsStored result (stored_none 65535) }
     {
         PacketMemory {
             state: ReassemblyState::new(true),
@@ -61,6 +126,7 @@ impl PacketMemory {
             link: 0,
             first_here: 0,
             next_header: 0,
+            points: no_points(),
             short_head: [0; SHORT_HEAD],
             payload: [0; PAYLOAD],
             head: [0; HEAD],
@@ -69,61 +135,89 @@ impl PacketMemory {
 
     /// Forgets whatever the memory was, so that there are no fragments.
     pub fn reset(&mut self)
-        ensures given { WasStored self.new 65535 [] }
-        ensures first { first_in self.new ≡ None }
+        ensures { HoldsStored self.new (stored_none 65535) }
     {
-        self.first_here = 0;
+        self.forget_headers();
         self.state.reset(true);
     }
 
     /// Forgets all fragments.
     pub fn clear(&mut self)
-        ensures given { (limit : ℕ) (given : List Fragment) → WasStored self.old limit given
-            → WasStored self.new limit [] }
+        ensures stored { (s : _) → HoldsStored self.old s
+            → HoldsStored self.new (stored_none s.payload.limit) }
         ensures first { first_in self.new ≡ None }
     {
-        self.first_here = 0;
+        self.forget_headers();
         self.state.clear();
     }
 
-    /// Adds a fragment of the packet. Returns whether the payload is whole. Keeps the headers of the first fragment when it
-    /// arrives.
-    ///
-    /// Returns an error and stores nothing if the payload refuses the fragment, as `Reassembly::add` does, or if the
-    /// fragment is the first and its headers are longer than their buffer. After a conflict, an overlap or two ends, the
-    /// packet is abandoned (RFC 5722).
-    pub fn add(&mut self, fragment: &IpFragment<'_>) -> Result<Progress, StoreError>
-        ensures outcome { (s : _) → HoldsReceived self.old s
-            → result ≡ stored_outcome s (parts_of fragment.now) }
-        ensures received { (s : _) → HoldsReceived self.old s
-            → HoldsReceived self.new (stored_after s (parts_of fragment.now)) }
-        ensures first { first_in self.new
-            ≡ first_after (first_in self.old) (is_ok result) (parts_of fragment.now) }
-
-        // The fragments of one payload, in any order and repeated, make it whole once each of them was added.
-        ensures pieces { (payload : List ℕ) (pieces given : List Fragment) (limit : ℕ)
-            → WasStored self.old limit given
-            → IsSplit payload pieces → length payload ≤ limit
-            → are_among (piece_of (parts_of fragment.now) ∷ given) pieces ≡ true
-            → is_too_long (parts_of fragment.now) ≡ false
-            → result ≡ Ok (if are_among pieces (piece_of (parts_of fragment.now) ∷ given)
-            then Progress.Whole else Progress.MoreWanted) }
+    /// Forgets the first fragment, and all ECN code points.
+    #[inline(always)]
+    fn forget_headers(&mut self)
+        ensures first { first_in self.new ≡ None }
+        ensures points { HoldsPoints self.new.points [] }
+        ensures state { self.new.state ≡ self.old.state }
+        ensures payload { self.new.payload ≡ self.old.payload }
     {
-        self.add_received(fragment)
+        self.first_here = 0;
+        self.points = no_points();
     }
 
-    /// Adds a fragment, by what has been received.
-    fn add_received(&mut self, fragment: &IpFragment<'_>) -> Result<Progress, StoreError>
-        ensures outcome { (s : _) → HoldsReceived self.old s
+    /// Adds a fragment of the packet. Returns whether the packet is whole; then `write` writes it. Keeps the headers of the
+    /// first fragment when it arrives.
+    ///
+    /// Returns an error and stores nothing if the payload refuses the fragment, as `Reassembly::add` does, if the packet would
+    /// be too long for its length field, or if the fragment is the first and its headers are longer than their buffer, or
+    /// none. After a conflict the packet is abandoned: an overlap or two ends (RFC 5722), or fragments of which some are
+    /// ECN-capable and others aren't (RFC 3168, section 5.3).
+    pub fn add(&mut self, fragment: &IpFragment<'_>) -> Result<Progress, StoreError>
+        ensures outcome { (s : _) → HoldsStored self.old s
             → result ≡ stored_outcome s (parts_of fragment.now) }
-        ensures received { (s : _) → HoldsReceived self.old s
-            → HoldsReceived self.new (stored_after s (parts_of fragment.now)) }
-        ensures first { first_in self.new
-            ≡ first_after (first_in self.old) (is_ok result) (parts_of fragment.now) }
+        ensures stored { (s : _) → HoldsStored self.old s
+            → HoldsStored self.new (stored_after s (parts_of fragment.now)) }
+        ensures first { first_in self.new ≡ (if is_ok result
+            then first_after (first_in self.old) (parts_of fragment.now) else first_in self.old) }
+
+        // A whole packet can be written.
+        ensures whole { (s : _) → HoldsStored self.old s → result ≡ Ok Progress.Whole
+            → (f : FirstParts) × ((payload : List ℕ) × IsWritable (stored_after s (parts_of fragment.now)) f payload) }
+
+        // The fragments of one payload, in any order and repeated, make it whole once each of them was added.
+        ensures pieces { (payload : List ℕ) (pieces : List Fragment) (limit : ℕ) (given : List FragmentParts)
+            → WasStored self.old limit given → IsSplit payload pieces → length payload ≤ limit
+            → are_among (pieces_of (parts_of fragment.now ∷ given)) pieces ≡ true
+            → AreJoinable (length payload) (parts_of fragment.now ∷ given)
+            → result ≡ Ok (if are_among pieces (pieces_of (parts_of fragment.now ∷ given))
+            then Progress.Whole else Progress.MoreWanted) }
     {
-        let is_first = fragment.offset.value() == 0;
-        if is_first && fragment.headers.len() > HEAD {
-            return Err(StoreError::HeadersTooLong);
+        match own_refusal(fragment) {
+            Some(error) => Err(error),
+            None => self.add_sound(fragment),
+        }
+    }
+
+    /// Adds a fragment that isn't refused by itself.
+    pub(crate) fn add_sound(&mut self, fragment: &IpFragment<'_>) -> Result<Progress, StoreError>
+        requires sound { own_refusal (parts_of fragment.now) ≡ None }
+        requires short { length fragment.now.bytes.now ≤ 65535 }
+        requires head { fragment.now.offset ≡ 0 → length fragment.now.headers.now ≤ 4096 }
+        ensures outcome { (s : _) → HoldsStored self.old s
+            → result ≡ outcome_by s (parts_of fragment.now) (refusal_after s (parts_of fragment.now)) }
+        ensures stored { (s : _) → HoldsStored self.old s
+            → HoldsStored self.new
+            (stored_by s (parts_of fragment.now) (refusal_after s (parts_of fragment.now))) }
+        ensures first { first_in self.new ≡ (if is_ok result
+            then first_after (first_in self.old) (parts_of fragment.now) else first_in self.old) }
+    {
+        if self.state.is_abandoned() {
+            return Err(StoreError::Payload(AddError::Abandoned));
+        }
+        if mixes(self.points, fragment.ecn) {
+            self.state.abandon();
+            return Err(StoreError::MixedEcn);
+        }
+        if self.exceeds(fragment) {
+            return Err(StoreError::Payload(AddError::TooLong));
         }
         match self.state.add(
             &mut self.payload,
@@ -132,13 +226,54 @@ impl PacketMemory {
             fragment.bytes,
         ) {
             Ok(progress) => {
-                if is_first && !self.has_first() {
-                    self.keep_first(fragment);
-                }
-                Ok(progress)
+                self.note(fragment);
+                Ok(self.progress(progress))
             }
             Err(error) => Err(StoreError::Payload(error)),
         }
+    }
+
+    /// Returns whether the packet would be too long for its length field with a fragment.
+    #[inline(always)]
+    fn exceeds(&self, fragment: &IpFragment<'_>) -> bool
+        requires { length fragment.now.bytes.now ≤ 65535 }
+        ensures { (s : _) → HoldsStored self.now s
+            → result ≡ exceeds (first_after s.first (parts_of fragment.now))
+            (max (reach_of s.payload.fragments) (end_of (piece_of (parts_of fragment.now)))) }
+    {
+        let end = self.state.reach().max(end_of(fragment));
+        if self.has_first() {
+            return is_too_long(self.headers(), end);
+        }
+        fragment.offset.value() == 0 && is_too_long(fragment.headers, end)
+    }
+
+    /// Returns whether the packet is whole, by whether its payload is.
+    #[inline(always)]
+    fn progress(&self, payload: Progress) -> Progress
+        ensures { result ≡ (if is_some (first_in self.now) then payload else Progress.MoreWanted) }
+    {
+        if self.has_first() {
+            payload
+        } else {
+            Progress::MoreWanted
+        }
+    }
+
+    /// Notes what a fragment has besides its bytes: its headers, if it is the first one, and its ECN code point.
+    #[inline(always)]
+    fn note(&mut self, fragment: &IpFragment<'_>)
+        requires { fragment.now.offset ≡ 0 → length fragment.now.headers.now ≤ 4096 }
+        ensures first { first_in self.new ≡ first_after (first_in self.old) (parts_of fragment.now) }
+        ensures points { (ps : List ℕ) → HoldsPoints self.old.points ps
+            → HoldsPoints self.new.points (fragment.now.ecn ∷ ps) }
+        ensures state { self.new.state ≡ self.old.state }
+        ensures payload { self.new.payload ≡ self.old.payload }
+    {
+        if fragment.offset.value() == 0 && !self.has_first() {
+            self.keep_first(fragment);
+        }
+        self.points = with_point(self.points, fragment.ecn);
     }
 
     /// Returns whether the first fragment has arrived.
@@ -158,6 +293,7 @@ impl PacketMemory {
         ensures within { self.new.head_len ≤ length self.new.head }
         ensures state { self.new.state ≡ self.old.state }
         ensures payload { self.new.payload ≡ self.old.payload }
+        ensures points { self.new.points ≡ self.old.points }
     {
         self.head_len = headers.len();
         if headers.len() <= SHORT_HEAD {
@@ -186,6 +322,7 @@ impl PacketMemory {
         ensures first { first_in self.new ≡ Some (first_of (parts_of fragment.now)) }
         ensures state { self.new.state ≡ self.old.state }
         ensures payload { self.new.payload ≡ self.old.payload }
+        ensures points { self.new.points ≡ self.old.points }
     {
         self.keep_headers(fragment.headers);
         self.first_here = 1;
@@ -196,45 +333,48 @@ impl PacketMemory {
     /// Writes the whole packet to the start of `out`, as `write_packet` does, and returns its length in bytes. Returns
     /// `None` and leaves `out` as it is if the packet isn't whole, or was abandoned.
     pub fn write(&self, out: &mut [u8]) -> Result<Option<usize>, WholeError>
-        ensures not_whole { (s : _) → HoldsReceived self.now s
-            → payload_in s ≡ None → (result ≡ Ok None) × (out.new ≡ out.old) }
+        ensures not_whole { (s : _) → HoldsStored self.now s
+            → payload_in s.payload ≡ None → (result ≡ Ok None) × (out.new ≡ out.old) }
         ensures not_first { first_in self.now ≡ None → (result ≡ Ok None) × (out.new ≡ out.old) }
-        ensures fault { (s f payload : _)
-            → HoldsReceived self.now s → payload_in s ≡ Some payload → first_in self.now ≡ Some f
+        ensures fault { (s f payload : _) → HoldsStored self.now s
+            → payload_in s.payload ≡ Some payload → s.first ≡ Some f
             → result_err result ≡ whole_fault f.headers f.link (length payload) (length out.old) }
-        ensures written { (s f payload : _)
-            → HoldsReceived self.now s → payload_in s ≡ Some payload → first_in self.now ≡ Some f
+        ensures written { (s f payload : _) → HoldsStored self.now s
+            → payload_in s.payload ≡ Some payload → s.first ≡ Some f
             → OnOk result ((result ≡ Ok (Some (length f.headers + length payload)))
-            × (out.new ≡ whole_packet f.headers f.link f.number payload
+            × (out.new ≡ whole_packet (marked (is_congested s.points) f.headers) f.link f.number payload
             ++ drop (length f.headers + length payload) out.old)) }
+        ensures within { IfOk result (λ len. IfSome len (λ n. n ≤ length out.old)) }
         ensures stays { OnErr result (out.new ≡ out.old) }
         ensures nothing { result ≡ Ok None → out.new ≡ out.old }
 
         // After the fragments of one payload, in any order and repeated, it is that payload after the first one's headers.
-        ensures pieces { (payload : List ℕ) (pieces given : List Fragment) (limit : ℕ) (f : FirstParts)
-            → WasStored self.now limit given
-            → IsSplit payload pieces → length payload ≤ limit → are_among given pieces ≡ true
-            → are_among pieces given ≡ true → first_in self.now ≡ Some f
+        ensures pieces { (payload : List ℕ) (pieces : List Fragment) (limit : ℕ) (given : List FragmentParts) (f : FirstParts)
+            → WasStored self.now limit given → IsSplit payload pieces → length payload ≤ limit
+            → are_among (pieces_of given) pieces ≡ true → AreJoinable (length payload) given
+            → are_among pieces (pieces_of given) ≡ true
+            → (stored_all (stored_none limit) given).first ≡ Some f
             → OnOk result ((result ≡ Ok (Some (length f.headers + length payload)))
-            × (out.new ≡ whole_packet f.headers f.link f.number payload
+            × (out.new ≡ whole_packet (marked (is_congested (points_of given)) f.headers) f.link f.number payload
             ++ drop (length f.headers + length payload) out.old)) }
     {
-        self.write_received(out)
+        self.write_stored(out)
     }
 
-    /// Writes the whole packet, by what has been received.
-    fn write_received(&self, out: &mut [u8]) -> Result<Option<usize>, WholeError>
-        ensures not_whole { (s : _) → HoldsReceived self.now s
-            → payload_in s ≡ None → (result ≡ Ok None) × (out.new ≡ out.old) }
+    /// Writes the whole packet, by what has been stored.
+    fn write_stored(&self, out: &mut [u8]) -> Result<Option<usize>, WholeError>
+        ensures not_whole { (s : _) → HoldsStored self.now s
+            → payload_in s.payload ≡ None → (result ≡ Ok None) × (out.new ≡ out.old) }
         ensures not_first { first_in self.now ≡ None → (result ≡ Ok None) × (out.new ≡ out.old) }
-        ensures fault { (s f payload : _)
-            → HoldsReceived self.now s → payload_in s ≡ Some payload → first_in self.now ≡ Some f
+        ensures fault { (s f payload : _) → HoldsStored self.now s
+            → payload_in s.payload ≡ Some payload → s.first ≡ Some f
             → result_err result ≡ whole_fault f.headers f.link (length payload) (length out.old) }
-        ensures written { (s f payload : _)
-            → HoldsReceived self.now s → payload_in s ≡ Some payload → first_in self.now ≡ Some f
+        ensures written { (s f payload : _) → HoldsStored self.now s
+            → payload_in s.payload ≡ Some payload → s.first ≡ Some f
             → OnOk result ((result ≡ Ok (Some (length f.headers + length payload)))
-            × (out.new ≡ whole_packet f.headers f.link f.number payload
+            × (out.new ≡ whole_packet (marked (is_congested s.points) f.headers) f.link f.number payload
             ++ drop (length f.headers + length payload) out.old)) }
+        ensures within { IfOk result (λ len. IfSome len (λ n. n ≤ length out.old)) }
         ensures stays { OnErr result (out.new ≡ out.old) }
         ensures nothing { result ≡ Ok None → out.new ≡ out.old }
     {
@@ -242,14 +382,31 @@ impl PacketMemory {
             return Ok(None);
         }
         match self.state.payload(&self.payload) {
-            Some(payload) => {
-                let headers = self.headers();
-                match write_packet(headers, self.link, IpNumber(self.next_header), payload, out) {
-                    Ok(len) => Ok(Some(len)),
-                    Err(error) => Err(error),
-                }
-            }
+            Some(payload) => self.write_with(payload, out),
             None => Ok(None),
+        }
+    }
+
+    /// Writes the whole packet, whose payload is this.
+    #[inline(always)]
+    fn write_with(&self, payload: &[u8], out: &mut [u8]) -> Result<Option<usize>, WholeError>
+        requires { self.now.head_len ≤ length self.now.head }
+        ensures fault { (f : FirstParts) → first_in self.now ≡ Some f
+            → result_err result ≡ whole_fault f.headers f.link (length payload.now) (length out.old) }
+        ensures written { (f : FirstParts) (points : List ℕ) → first_in self.now ≡ Some f
+            → HoldsPoints self.now.points points
+            → OnOk result ((result ≡ Ok (Some (length f.headers + length payload.now)))
+            × (out.new ≡ whole_packet (marked (is_congested points) f.headers) f.link f.number payload.now
+            ++ drop (length f.headers + length payload.now) out.old)) }
+        ensures within { IfOk result (λ len. IfSome len (λ n. n ≤ length out.old)) }
+        ensures stays { OnErr result (out.new ≡ out.old) }
+        ensures some { result ≡ Ok None → out.new ≡ out.old }
+    {
+        let number = IpNumber(self.next_header);
+        let congested = is_congested(self.points);
+        match write_packet(self.headers(), self.link, number, congested, payload, out) {
+            Ok(len) => Ok(Some(len)),
+            Err(error) => Err(error),
         }
     }
 }

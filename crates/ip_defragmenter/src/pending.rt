@@ -5,6 +5,8 @@ use crate::FragmentKey;
 /// A packet that isn't whole yet.
 #[derive(Clone, Copy, Debug, PartialEq, Eq)]
 pub struct Pending {
+    /// The context in which its fragments arrive.
+    pub context: u32,
     /// What its fragments have in common.
     pub key: FragmentKey,
     /// When its first fragment arrived, in nanoseconds since any moment.
@@ -14,6 +16,8 @@ pub struct Pending {
 /// A packet was given up.
 #[derive(Clone, Copy, Debug, PartialEq, Eq)]
 pub struct Loss {
+    /// The context in which its fragments arrived.
+    pub context: u32,
     /// What its fragments have in common.
     pub key: FragmentKey,
     /// Why it was given up.
@@ -23,7 +27,7 @@ pub struct Loss {
 /// Why a packet was given up.
 #[derive(Clone, Copy, Debug, PartialEq, Eq)]
 pub enum LossReason {
-    /// It wasn't whole 60 seconds after its first fragment (RFC 8200, section 4.5).
+    /// It wasn't whole in time after its first fragment (RFC 8200, section 4.5).
     TimedOut,
     /// All slots were in use, and it was the oldest.
     Displaced,

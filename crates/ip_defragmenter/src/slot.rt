@@ -20,6 +20,8 @@ pub struct Slot {
     destination: [u8; 16],
     /// The identification.
     identification: u32,
+    /// The context in which the packet's fragments arrive.
+    context: u32,
     /// The protocol number of an IPv4 packet.
     protocol: u8,
     /// The IP version, 4 or 6; if it is another number, the slot is free.
@@ -54,6 +56,7 @@ impl Slot {
             source: [0; 16],
             destination: [0; 16],
             identification: 0,
+            context: 0,
             protocol: 0,
             version: 0,
         }
@@ -79,6 +82,7 @@ impl Slot {
             _ => return None,
         };
         Some(Pending {
+            context: self.context,
             key,
             since: self.since,
         })
@@ -100,10 +104,10 @@ impl Slot {
         if self.is_free() { 0 } else { self.since }
     }
 
-    /// Returns whether the slot is that of the packet with this key. Compares the shortest fields first.
+    /// Returns whether the slot is that of the packet with this key in this context. Compares the shortest fields first.
     #[inline(always)]
-    pub(crate) fn has_key(&self, key: &FragmentKey) -> bool
-        ensures { result ≡ has_key key.now self.now }
+    pub(crate) fn has_key(&self, context: u32, key: &FragmentKey) -> bool
+        ensures { result ≡ has_key context key.now self.now }
     {
         match key {
             FragmentKey::Ipv4 {
@@ -113,6 +117,7 @@ impl Slot {
                 identification,
             } => {
                 self.version == 4
+                    && self.context == context
                     && self.identification % 65536 == u32::from(*identification)
                     && self.protocol == protocol.0
                     && front_of(&self.source) == *source
@@ -124,6 +129,7 @@ impl Slot {
                 identification,
             } => {
                 self.version == 6
+                    && self.context == context
                     && self.identification == *identification
                     && self.source == *source
                     && self.destination == *destination
@@ -131,12 +137,13 @@ impl Slot {
         }
     }
 
-    /// Makes the slot that of the packet with this key, whose first fragment arrived at this time.
+    /// Makes the slot that of the packet with this key in this context, whose first fragment arrived at this time.
     #[inline(always)]
-    pub(crate) fn hold(&mut self, key: &FragmentKey, since: u64)
-        ensures { self.new ≡ slot_with since key.now }
+    pub(crate) fn hold(&mut self, context: u32, key: &FragmentKey, since: u64)
+        ensures { self.new ≡ slot_with since context key.now }
     {
         self.since = since;
+        self.context = context;
         match key {
             FragmentKey::Ipv4 {
                 source,

@@ -1,8 +1,7 @@
 //! The memories of packets.
-ghost use Rattle.std.specs.Prelude.{◌≡◌, ◌<◌, ℕ, List, length, slice_get, Some, None, if◌then◌else◌};
+ghost use Rattle.std.specs.Prelude.{◌≡◌, ◌<◌, ◌≤◌, ℕ, length, slice_get, Some, None};
 ghost use Rattle.ip_defragmenter.specs.FragmentOf.{parts_of};
-ghost use Rattle.ip_defrag.specs.Fragment.{Fragment};
-ghost use Rattle.ip_defragmenter.specs.Memory.{WasStored, first_in};
+ghost use Rattle.ip_defragmenter.specs.Memory.{HoldsStored, own_refusal};
 ghost use Rattle.ip_defragmenter.specs.Memories.{IsStored, IsStoredIn, kept_in};
 ghost use Rattle.ip_defragmenter.specs.declared.memory.PacketMemory.{PacketMemory};
 
@@ -11,35 +10,40 @@ use ip_defrag::Progress;
 
 /// Forgets what a memory holds, unless it is of the packet whose fragment comes.
 fn prepare(memory: &mut PacketMemory, is_known: bool)
-    ensures given { (limit : ℕ) (held : List Fragment) → WasStored memory.old limit held
-        → WasStored memory.new limit (kept_in is_known held) }
-    ensures first { first_in memory.new ≡ (if is_known then first_in memory.old else None) }
+    ensures { (s : _) → HoldsStored memory.old s → HoldsStored memory.new (kept_in is_known s) }
 {
     if !is_known {
         memory.clear();
     }
 }
 
-/// Adds a fragment to the memory of its packet, which is cleared first if the packet is new there.
+/// Adds a fragment that isn't refused by itself to the memory of its packet, which is cleared first if the packet is new
+/// there.
 fn store_one(
     memory: &mut PacketMemory,
     is_known: bool,
     fragment: &IpFragment<'_>,
 ) -> Result<Progress, StoreError>
+    requires sound { own_refusal (parts_of fragment.now) ≡ None }
+    requires short { length fragment.now.bytes.now ≤ 65535 }
+    requires head { fragment.now.offset ≡ 0 → length fragment.now.headers.now ≤ 4096 }
     ensures { IsStored memory.old memory.new is_known (parts_of fragment.now) result }
 {
     prepare(memory, is_known);
-    memory.add(fragment)
+    memory.add_sound(fragment)
 }
 
-/// Adds a fragment to the memory of its packet's slot.
+/// Adds a fragment that isn't refused by itself to the memory of its packet's slot.
 pub(crate) fn store(
     memories: &mut [PacketMemory],
     index: usize,
     is_known: bool,
     fragment: &IpFragment<'_>,
 ) -> Result<Progress, StoreError>
-    requires { index < length memories.old }
+    requires within { index < length memories.old }
+    requires sound { own_refusal (parts_of fragment.now) ≡ None }
+    requires short { length fragment.now.bytes.now ≤ 65535 }
+    requires head { fragment.now.offset ≡ 0 → length fragment.now.headers.now ≤ 4096 }
     ensures len { length memories.new ≡ length memories.old }
     ensures others { (j : ℕ) → (j ≡ index → ⊥) → slice_get memories.new j ≡ slice_get memories.old j }
     ensures own { (m : PacketMemory) → slice_get memories.old index ≡ Some m

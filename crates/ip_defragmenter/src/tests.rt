@@ -2,8 +2,8 @@
 //! RFC 8200.
 use crate::{
     Added, Defragmenter, DefragmenterCounts, DropReason, FragmentError, FragmentKey, Loss,
-    LossReason, Outcome, PacketMemory, Pending, Slot, StoreError, WholeError, defragment, give_up,
-    place, write_packet,
+    LossReason, Outcome, PacketMemory, Pending, Settings, Slot, StoreError, WholeError, defragment,
+    give_up, place, write_packet,
 };
 use ip_base::{IpNumber, ip_number};
 use ip_defrag::AddError;
@@ -130,9 +130,10 @@ fn ipv6_other(packet: &[u8], last: u8) -> Changed {
     copy_of(packet).with(55, last)
 }
 
-/// A packet that is added: when, and what is wanted.
+/// A packet that is added: in which context and when, and what is wanted.
 #[derive(Clone, Copy, Debug)]
 struct Row {
+    context: u32,
     time: u64,
     packet: Changed,
     outcome: Outcome,
@@ -142,6 +143,7 @@ struct Row {
 /// Returns a row in which no packet is given up.
 fn keeping(time: u64, packet: Changed, outcome: Outcome) -> Row {
     Row {
+        context: 0,
         time,
         packet,
         outcome,
@@ -152,10 +154,12 @@ fn keeping(time: u64, packet: Changed, outcome: Outcome) -> Row {
 /// Returns a row in which the IPv6 packet with an identification is given up.
 fn losing(time: u64, packet: Changed, identification: u32, reason: LossReason) -> Row {
     Row {
+        context: 0,
         time,
         packet,
         outcome: Outcome::MoreWanted,
         lost: Some(Loss {
+            context: 0,
             key: ipv6_key(identification),
             reason,
         }),
@@ -171,7 +175,7 @@ fn assert_rows(rt: &impl Abort, rows: &[Row], wholes: &[&[u8]]) -> Result<(), Fa
         slots: &mut slots,
         memories: &mut memories,
         counts: &mut counts,
-        factor: 12_345,
+        settings: Settings::new([12_345, 67_890]),
     };
     assert_added(rt, &mut defragmenter, rows, wholes)?;
     assert_counts(rt, &counts, rows, wholes.len());
@@ -188,7 +192,7 @@ fn assert_added(
     let mut count = 0usize;
     for row in rows {
         assert!(rt; defragmenter.slots.len() == defragmenter.memories.len());
-        let added = defragmenter.add(row.time, row.packet.bytes());
+        let added = defragmenter.add(row.context, row.time, row.packet.bytes());
         assert_same(rt, added, row);
         if let Outcome::Whole(index) = added.outcome {
             let memory = defragmenter.memories.get(index).ok_or("the index")?;
@@ -207,10 +211,19 @@ fn assert_same(rt: &impl Abort, added: Added, row: &Row) {
     assert!(rt; added.lost == row.lost, "{added:?} at {row:?}");
     let has_slot = match added.outcome {
         Outcome::NotFragment | Outcome::Dropped(DropReason::Unusable(_)) => added.slot.is_none(),
+        Outcome::Dropped(DropReason::Refused(error)) => added.slot.is_none() == is_own(error),
         Outcome::Whole(index) => added.slot == Some(index),
         _ => added.slot.is_some(),
     };
     assert!(rt; has_slot, "{added:?}");
+}
+
+/// Returns whether a fragment is refused for this reason whatever else has arrived, so that it takes no slot.
+fn is_own(error: StoreError) -> bool {
+    matches!(
+        error,
+        StoreError::Payload(AddError::Unaligned) | StoreError::HeadersTooLong
+    )
 }
 
 /// Checks counts of all rows: of whole packets, of those that were given up, and of all.
@@ -467,9 +480,9 @@ fn first_outcome(packet: &[u8], counts: &mut DefragmenterCounts) -> Outcome {
         slots: &mut slots,
         memories: &mut memories,
         counts,
-        factor: 1,
+        settings: Settings::new([0, 0]),
     };
-    defragmenter.add(0, packet).outcome
+    defragmenter.add(0, 0, packet).outcome
 }
 
 #[test]
@@ -480,7 +493,7 @@ fn headers_that_are_too_long(rt: HostRuntime) -> Result<(), Fail> {
     // 40, 2,048 and 2,008 bytes are 4,096; eight more are too many.
     assert!(rt; first_outcome(&with_options(251)?, &mut counts) == too_long);
     assert!(rt; first_outcome(&with_options(250)?, &mut counts) == MoreWanted);
-    assert!(rt; counts.outcomes == [0, 1, 0, 0, 0, 0, 0, 0, 0, 0, 0, 1, 0]);
+    assert!(rt; counts.outcomes == [0, 1, 0, 0, 0, 0, 0, 0, 0, 0, 0, 1, 0, 0]);
     Ok(())
 }
 
@@ -488,12 +501,13 @@ fn headers_that_are_too_long(rt: HostRuntime) -> Result<(), Fail> {
 fn memory_of_any_numbers(rt: HostRuntime) -> Result<(), Fail> {
     let mut memories = [PacketMemory::new()];
     let mut slots = [Slot::free(); 1];
-    assert!(rt; defragment(&mut slots, &mut memories, 1, 0, &IPV4_0).slot == Some(0));
+    let settings = Settings::new([1, 2]);
+    assert!(rt; defragment(&mut slots, &mut memories, &settings, 0, 0, &IPV4_0).slot == Some(0));
     memories[0].reset();
-    assert!(rt;
-        defragment(&mut slots, &mut memories, 1, 1, &IPV4_1).outcome == Outcome::MoreWanted
-    );
-    assert!(rt; defragment(&mut slots, &mut memories, 1, 2, &IPV4_0).outcome == Outcome::Whole(0));
+    let second = defragment(&mut slots, &mut memories, &settings, 0, 1, &IPV4_1);
+    assert!(rt; second.outcome == Outcome::MoreWanted);
+    let third = defragment(&mut slots, &mut memories, &settings, 0, 2, &IPV4_0);
+    assert!(rt; third.outcome == Outcome::Whole(0));
     assert_whole(&rt, &memories[0], &WHOLE_IPV4)
 }
 
@@ -507,34 +521,202 @@ fn longest_packets(rt: HostRuntime) -> Result<(), Fail> {
     let base = WHOLE_IPV4.get(..24).ok_or("the header")?;
     let ipv4 = payload.get(..65511).ok_or("the payload")?;
     let udp = ip_number::UDP;
-    assert!(rt; write_packet(headers, 40, udp, ipv6, &mut out) == Ok(65575));
+    assert!(rt; write_packet(headers, 40, udp, false, ipv6, &mut out) == Ok(65575));
     assert!(rt; out.get(4..6) == Some(&[0xff, 0xff]) && out.get(40) == Some(&17));
-    assert!(rt; write_packet(headers, 40, udp, longer, &mut out) == Err(WholeError::TooLong));
-    assert!(rt; write_packet(base, 9, udp, ipv4, &mut out) == Ok(65535));
-    assert!(rt; write_packet(base, 9, udp, ipv6, &mut out) == Err(WholeError::TooLong));
-    assert!(rt; write_packet(base, 9, udp, ipv4, &mut [0; 100]) == Err(WholeError::NoRoom));
-    assert!(rt; write_packet(headers, 48, udp, ipv4, &mut out) == Err(WholeError::Headers));
-    assert!(rt; write_packet(&[], 0, IpNumber(0), &[], &mut out) == Err(WholeError::Headers));
+    assert!(rt;
+        write_packet(headers, 40, udp, false, longer, &mut out) == Err(WholeError::TooLong)
+    );
+    assert!(rt; write_packet(base, 9, udp, false, ipv4, &mut out) == Ok(65535));
+    assert!(rt; write_packet(base, 9, udp, false, ipv6, &mut out) == Err(WholeError::TooLong));
+    assert!(rt; write_packet(base, 9, udp, false, ipv4, &mut [0; 100]) == Err(WholeError::NoRoom));
+    assert!(rt; write_packet(headers, 48, udp, false, ipv4, &mut out) == Err(WholeError::Headers));
+    assert!(rt;
+        write_packet(&[], 0, IpNumber(0), false, &[], &mut out) == Err(WholeError::Headers)
+    );
     Ok(())
 }
 
 #[test]
 fn slots_are_given_up(rt: HostRuntime) -> Result<(), Fail> {
     let mut slots = [Slot::free(); 1];
-    let placed = place(&mut slots, 1, ipv6_key(1), 5).ok_or("the slot")?;
+    let settings = Settings::new([1, 2]);
+    let placed = place(&mut slots, &settings, 7, ipv6_key(1), 5).ok_or("the slot")?;
     assert!(rt; placed.index == 0 && !placed.is_known);
     let pending = Pending {
+        context: 7,
         key: ipv6_key(1),
         since: 5,
     };
     let slot = &mut slots[0];
-    assert!(rt; give_up(slot, 5 + 60 * SECOND).is_none() && slot.pending() == Some(pending));
+    let minute = 60 * SECOND;
+    assert!(rt; give_up(slot, minute, 5 + minute).is_none() && slot.pending() == Some(pending));
     let wanted = Some(Loss {
+        context: 7,
         key: ipv6_key(1),
         reason: LossReason::TimedOut,
     });
-    assert!(rt; give_up(slot, 6 + 60 * SECOND) == wanted && slot.pending().is_none());
-    assert!(rt; give_up(slot, u64::MAX).is_none());
-    assert!(rt; place(&mut [], 1, ipv6_key(1), 0).is_none());
+    assert!(rt; give_up(slot, minute, 6 + minute) == wanted && slot.pending().is_none());
+    assert!(rt; give_up(slot, minute, u64::MAX).is_none());
+    assert!(rt; place(&mut [], &settings, 0, ipv6_key(1), 0).is_none());
     Ok(())
+}
+
+/// Returns a packet of another context.
+fn within(context: u32, mut row: Row) -> Row {
+    row.context = context;
+    row
+}
+
+#[test]
+fn contexts_are_kept_apart(rt: HostRuntime) -> Result<(), Fail> {
+    use Outcome::{MoreWanted, Whole};
+    let rows = [
+        within(5, keeping(0, copy_of(&IPV6_0), MoreWanted)),
+        within(6, keeping(1, copy_of(&IPV6_1), MoreWanted)),
+        within(5, keeping(2, copy_of(&IPV6_2), MoreWanted)),
+        within(6, keeping(3, copy_of(&IPV6_2), MoreWanted)),
+        within(5, keeping(4, copy_of(&IPV6_1), Whole(0))),
+        within(6, keeping(5, copy_of(&IPV6_0), Whole(1))),
+    ];
+    assert_rows(&rt, &rows, &[&WHOLE_IPV6, &WHOLE_IPV6])
+}
+
+#[test]
+fn times_in_the_future(rt: HostRuntime) -> Result<(), Fail> {
+    use Outcome::{MoreWanted, Whole};
+    let far = 1_000_000 * SECOND;
+    // A time a little later than the next ones loses nothing. One that is far in the future is given up like an old one.
+    let rows = [
+        keeping(9 * SECOND, copy_of(&IPV6_0), MoreWanted),
+        keeping(SECOND, copy_of(&IPV6_1), MoreWanted),
+        keeping(2 * SECOND, copy_of(&IPV6_2), Whole(0)),
+        keeping(far, ipv6_other(&IPV6_0, 1), MoreWanted),
+        keeping(3 * SECOND, ipv6_other(&IPV6_0, 2), MoreWanted),
+        losing(
+            4 * SECOND,
+            ipv6_other(&IPV6_0, 3),
+            0xa1b2_c301,
+            LossReason::TimedOut,
+        ),
+        keeping(5 * SECOND, ipv6_other(&IPV6_1, 2), MoreWanted),
+        keeping(6 * SECOND, ipv6_other(&IPV6_2, 2), Whole(1)),
+    ];
+    let whole = copy_of(&WHOLE_IPV6);
+    assert_rows(&rt, &rows, &[&WHOLE_IPV6, whole.bytes()])
+}
+
+#[test]
+fn refused_fragments_take_no_slot(rt: HostRuntime) -> Result<(), Fail> {
+    use DropReason::Refused;
+    use Outcome::{Dropped, MoreWanted, Whole};
+    let unaligned = Dropped(Refused(StoreError::Payload(AddError::Unaligned)));
+    // Byte 5 is the low byte of the payload length: 36 bytes leave 28 for the fragment, no multiple of 8.
+    let rows = [
+        keeping(0, copy_of(&IPV6_0), MoreWanted),
+        keeping(1, ipv6_other(&IPV6_0, 1), MoreWanted),
+        keeping(2, ipv6_other(&IPV6_1, 2).with(5, 36), unaligned),
+        keeping(3, copy_of(&IPV6_1), MoreWanted),
+        keeping(4, copy_of(&IPV6_2), Whole(0)),
+        keeping(5, ipv6_other(&IPV6_1, 1), MoreWanted),
+        keeping(6, ipv6_other(&IPV6_2, 1), Whole(1)),
+    ];
+    assert_rows(&rt, &rows, &[&WHOLE_IPV6, &WHOLE_IPV6])
+}
+
+/// Returns an IPv6 fragment with an ECN code point: the low bits of the traffic class, which has the high half of byte 1.
+fn ipv6_marked(packet: &[u8], point: u8) -> Changed {
+    copy_of(packet).with(1, 0x01 | point.wrapping_shl(4))
+}
+
+#[test]
+fn congestion_is_not_lost(rt: HostRuntime) -> Result<(), Fail> {
+    use DropReason::Refused;
+    use Outcome::{Dropped, MoreWanted, Whole};
+    let mixed = Dropped(Refused(StoreError::MixedEcn));
+    let abandoned = Dropped(Refused(StoreError::Payload(AddError::Abandoned)));
+    // RFC 3168, section 5.3. The code points are ECT(0), CE and ECT(0); ECT(1) and ECT(0); Not-ECT and CE.
+    let rows = [
+        keeping(0, ipv6_marked(&IPV6_0, 2), MoreWanted),
+        keeping(1, ipv6_marked(&IPV6_1, 3), MoreWanted),
+        keeping(2, ipv6_marked(&IPV6_2, 2), Whole(0)),
+        keeping(3, ipv6_marked(&IPV6_2, 2), MoreWanted),
+        keeping(4, ipv6_marked(&IPV6_0, 1), MoreWanted),
+        keeping(5, ipv6_marked(&IPV6_1, 1), Whole(0)),
+        keeping(6, ipv6_marked(&IPV6_0, 0), MoreWanted),
+        keeping(7, ipv6_marked(&IPV6_1, 3), mixed),
+        keeping(8, ipv6_marked(&IPV6_1, 0), abandoned),
+    ];
+    let first = copy_of(&WHOLE_IPV6).with(1, 0x31);
+    let second = copy_of(&WHOLE_IPV6).with(1, 0x11);
+    assert_rows(&rt, &rows, &[first.bytes(), second.bytes()])
+}
+
+#[test]
+fn congestion_in_ipv4(rt: HostRuntime) -> Result<(), Fail> {
+    use Outcome::{MoreWanted, Whole};
+    // Byte 1 is the type of service, and bytes 10 and 11 the checksum: three less than without it, since the rest of the
+    // header is the same (RFC 1624, section 3).
+    let rows = [
+        keeping(0, copy_of(&IPV4_0).with(1, 1), MoreWanted),
+        keeping(1, copy_of(&IPV4_1).with(1, 3), Whole(0)),
+    ];
+    let whole = copy_of(&WHOLE_IPV4).with(1, 3).with(11, 0x35);
+    assert_rows(&rt, &rows, &[whole.bytes()])
+}
+
+/// Returns a fragment of an IPv4 packet whose header has 20 bytes, with this offset in units of 8 bytes, the more fragments
+/// flag or not, and a payload of zeros, in a packet of `total` bytes.
+fn ipv4_part(offset: u16, more: bool, total: u16) -> Result<[u8; 65535], Fail> {
+    let mut packet = [0u8; 65535];
+    let [length, low_length] = total.to_be_bytes();
+    let [high, low] = offset.to_be_bytes();
+    let bytes = [
+        (0, 0x45),
+        (2, length),
+        (3, low_length),
+        (6, high | if more { 0x20 } else { 0 }),
+        (7, low),
+        (9, 17),
+    ];
+    for (index, byte) in bytes {
+        *packet.get_mut(index).ok_or("the index")? = byte;
+    }
+    Ok(packet)
+}
+
+/// Returns what becomes of two fragments.
+fn both_outcomes(first: &[u8], second: &[u8]) -> (Outcome, Outcome) {
+    let mut slots = [Slot::free(); 1];
+    let mut memories = [PacketMemory::new()];
+    let settings = Settings::new([3, 4]);
+    let one = defragment(&mut slots, &mut memories, &settings, 0, 0, first);
+    let two = defragment(&mut slots, &mut memories, &settings, 0, 1, second);
+    (one.outcome, two.outcome)
+}
+
+#[test]
+fn whole_packets_fit_their_length_field(rt: HostRuntime) -> Result<(), Fail> {
+    use Outcome::{Dropped, MoreWanted, Whole};
+    let too_long = Dropped(DropReason::Refused(StoreError::Payload(AddError::TooLong)));
+    // 65,512 bytes of payload, and the last ones: 20 + 65,515 bytes are 65,535, and one more is too many (RFC 791, 3.1).
+    let first = ipv4_part(0, true, 65532)?;
+    let last = ipv4_part(8189, false, 23)?;
+    let longer = ipv4_part(8189, false, 24)?;
+    let last = last.get(..23).ok_or("the last fragment")?;
+    let longer = longer.get(..24).ok_or("a longer one")?;
+    assert!(rt; both_outcomes(&first, last) == (MoreWanted, Whole(0)));
+    assert!(rt; both_outcomes(&first, longer) == (MoreWanted, too_long));
+    assert!(rt; both_outcomes(longer, last) == (too_long, MoreWanted));
+    Ok(())
+}
+
+#[test]
+fn hash_is_siphash(rt: HostRuntime) {
+    use crate::siphash::sip_hash;
+    // By Rust's `DefaultHasher`, which is SipHash-1-3 with the key 0, 0, and by its `SipHasher13`.
+    let key = [0x0706_0504_0302_0100, 0x0f0e_0d0c_0b0a_0908];
+    assert!(rt; sip_hash(&[0, 0], &[]) == 0xd1fb_a762_150c_532c);
+    assert!(rt; sip_hash(&[0, 0], &[1]) == 0x1e9f_7341_61d6_2dd9);
+    assert!(rt; sip_hash(&[0, 0], &[1, 2, 3, 4, 5]) == 0x0ac1_3373_36f4_3ed3);
+    assert!(rt; sip_hash(&key, &[0x0706_0504_0302_0100]) == 0x3690_9511_8d29_9a8e);
 }

@@ -2,7 +2,7 @@
 use Rattle.std.proofs.Common.{zero, suc, drop-cons, get_or, add-one}
 use Rattle.ip_spec.proofs.Common.{◌≡◌, ℕ, ◌+◌, ◌-◌, ◌<◌, ◌≤◌, ◌%◌, List, [], ◌∷◌, ◌++◌, length, take, drop, map, refl, sym, ap, ◌∙◌, subst, arith, common_steps, eqb_tells, inl, inr, cases_eq, Bool, true, false, not, ◌==◌, ◌&&◌, ◌||◌, if◌then◌else◌, Option, None, Some, length-append, length-take-le, length-drop, length-map, take-append_seam, drop-append_seam, take_at, append_assoc, append-nil, take_all, drop_all, slice_set, slice_index_or, take-append-add, length-take, take-take, min, IsSome, false≢true}
 use Rattle.std.specs.Option.{option_to_list, unwrap_or}
-use Rattle.std.proofs.lemmas.List.{drop_at, same_from_push, drop-take}
+use Rattle.std.proofs.lemmas.List.{drop_at, same_from_push, drop-take, take_min}
 use Rattle.std.proofs.Math.Seq.{get_or-append_seam}
 use Rattle.ip_filter.specs.Formula.{Formula, single, negation, both, either, truth, negated, after_step, read_after}
 use Rattle.ip_filter.specs.Tests.{frame_meets, meets}
@@ -367,8 +367,22 @@ compiled_alone frame f starts xs (rest, i, e, some, size, d, (no_rest, no_tests)
       passed true = refl
       passed false = refl
 
+-- The first k tests are those that are used, if k is their number.
+pub used_again : (n k : ℕ) (xs ys : List Test) → ys ≡ take n xs → k ≡ length ys → take k xs ≡ take n xs
+used_again n k xs ys is len = ap (λ j. take j xs) (len ∙ ap length is ∙ length-take n xs) ∙ take_min n xs
+
+-- The tests are those of one formula.
+only_one : (steps : List Step) (i : ℕ) (starts : List ℕ) (xs : List Test) (f : Formula) (frame : Option (List ℕ)) → length steps ≤ i → read_after [] steps ≡ f ∷ [] → terms_of f ≤ 64
+    → Compiling steps i starts xs → AreCompiled frame (f ∷ []) starts xs
+only_one steps i starts xs f frame out is few w =
+    let all : w.formulas ≡ f ∷ [] = sym (ap (read_after w.formulas) (drop_all i steps out)) ∙ w.left ∙ is in
+    subst (λ fs. AreCompiled frame fs starts xs) all (w.made frame (subst (λ fs. terms_of_all fs ≤ 64) (sym all) (omega (arith, few))))
+
 pub finished : (steps : List Step) (i : ℕ) (starts : List ℕ) (xs : List Test) (f : Formula) (frame : Option (List ℕ)) → length steps ≤ i → read_after [] steps ≡ f ∷ [] → terms_of f ≤ 64
     → Compiling steps i starts xs → passes xs (frame_meets frame) ≡ truth f (frame_holds frame)
-finished steps i starts xs f frame out is few w =
-    let all : w.formulas ≡ f ∷ [] = sym (ap (read_after w.formulas) (drop_all i steps out)) ∙ w.left ∙ is in
-    compiled_alone frame f starts xs (subst (λ fs. AreCompiled frame fs starts xs) all (w.made frame (subst (λ fs. terms_of_all fs ≤ 64) (sym all) (omega (arith, few)))))
+finished steps i starts xs f frame out is few w = compiled_alone frame f starts xs (only_one steps i starts xs f frame out is few w)
+
+-- There is one test at most for each term.
+pub few_tests : (steps : List Step) (i : ℕ) (starts : List ℕ) (xs : List Test) (f : Formula) → length steps ≤ i → read_after [] steps ≡ f ∷ [] → terms_of f ≤ 64
+    → Compiling steps i starts xs → length xs ≤ terms_of f
+few_tests steps i starts xs f out is few w = omega (arith, compiled_tests None (f ∷ []) starts xs (only_one steps i starts xs f None out is few w))

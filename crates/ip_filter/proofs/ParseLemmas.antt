@@ -142,8 +142,9 @@ no_first [] e = refl
 no_first (w ∷ ws) e = cc
 
 pub parsed : (text rest : List ℕ) (b : Builder) (x : Steps) (filter : Filter) (g : Going text rest b) → length text < 2 ^ 63 → words rest ≡ [] → ((s : State) → Holds s b → CountsFit s → IsFinished s x)
-    → ((f : Formula) → read_after [] (steps_of x) ≡ f ∷ [] → terms_of f ≤ 64 → (frame : Option (List ℕ)) → passes (tests_of filter) (frame_meets frame) ≡ truth f (frame_holds frame)) → IsParsedFilter text filter
-parsed text rest b x filter g short none finish compiled =
+    → ((f : Formula) → read_after [] (steps_of x) ≡ f ∷ [] → terms_of f ≤ 64 → (frame : Option (List ℕ)) → passes (tests_of filter) (frame_meets frame) ≡ truth f (frame_holds frame))
+    → ((f : Formula) → read_after [] (steps_of x) ≡ f ∷ [] → terms_of f ≤ 64 → filter.count ≤ terms_of f) → IsParsedFilter text filter
+parsed text rest b x filter g short none finish compiled tests =
     let f = finish g.state g.holds (fits text rest b g short) in
     let d = or_joined f.or_left f.last in
     let is : IsFilter d = good_whole f.or_left f.last (subst Good f.whole g.good) (subst HasRoom f.whole g.room) in
@@ -156,6 +157,7 @@ parsed text rest b x filter g short none finish compiled =
           let led = only_end g.state [] e (g.leads e [] other (same ∙ sym all ∙ sym (append-nil (state_words g.state))) (ap (take 1) (sym none))) refl in
           led.3 ∙ same_end led.0 f.or_left led.1 f.last (sym led.2 ∙ f.whole);
       formula = compiled (formula_of d) (ap (read_after []) f.steps ∙ whole_formula d) (omega (arith, is.terms, terms_read d));
+      tests = omega (arith, terms_read d, tests (formula_of d) (ap (read_after []) f.steps ∙ whole_formula d) (omega (arith, is.terms, terms_read d)));
     }
 
 pub missing_end : (text rest : List ℕ) (b : Builder) (e : Expected) (g : Going text rest b) → words rest ≡ []

@@ -7,16 +7,18 @@ use Rattle.ip_filter.specs.Words.{Word, words}
 use Rattle.ip_filter.specs.Formula.{truth}
 use Rattle.ip_filter.specs.Tests.{frame_meets}
 use Rattle.ip_filter.specs.Program.{tests_of, passes, frame_holds}
-use Rattle.ip_filter.specs.Grammar.{Disjunction, filter_words, formula_of, IsFilter}
+use Rattle.ip_filter.specs.Grammar.{Disjunction, filter_words, formula_of, terms_in, IsFilter}
 use Rattle.ip_filter.specs.Reading.{IsPlace, WantsArgument, IsOperator}
 
--- The words of the text are a filter, in one way, and x lets those frames pass of which its formula holds.
+-- The words of the text are a filter, in one way, and x lets those frames pass of which its formula holds. It has one test at
+-- most for each term.
 pub record IsParsedFilter (text : List ℕ) (x : Filter) : Type 0 where
   pub written : Disjunction
   pub filter : IsFilter written
   pub words_of : filter_words written ≡ words text
   pub only : (d : Disjunction) → IsFilter d → filter_words d ≡ words text → d ≡ written
   pub formula : (frame : Option (List ℕ)) → passes (tests_of x) (frame_meets frame) ≡ truth (formula_of written) (frame_holds frame)
+  pub tests : x.count ≤ terms_in written
 
 -- the words are a filter
 abbrev pub AreFilter : List Word → Type 0

@@ -20,14 +20,21 @@ const MAX_TESTS: usize = 64;
 impl Filter {
     /// Returns the filter of a formula's steps with at most 64 terms.
     pub(crate) fn of(steps: &Steps) -> Filter
-        ensures { (f : Formula) → read_after [] (steps_of steps.now) ≡ f ∷ [] → terms_of f ≤ 64
+        ensures formula { (f : Formula) → read_after [] (steps_of steps.now) ≡ f ∷ [] → terms_of f ≤ 64
             → (frame : Option (List ℕ)) → passes (tests_of result) (frame_meets frame) ≡ truth f (frame_holds frame) }
+        ensures tests { (f : Formula) → read_after [] (steps_of steps.now) ≡ f ∷ [] → terms_of f ≤ 64
+            → result.count ≤ terms_of f }
+        ensures most { result.count ≤ 64 }
     {
         let mut compiler = Compiler::new();
         'steps: for step in steps.used() {
             compiler.read(step);
         }
-        compiler.filter
+        let count = compiler.filter.used_tests().len();
+        Filter {
+            count,
+            ..compiler.filter
+        }
     }
 }
 

@@ -1,5 +1,5 @@
 //! Parses the text of a filter.
-ghost use Rattle.std.specs.Prelude.{◌≡◌, IfOk, IfErr};
+ghost use Rattle.std.specs.Prelude.{◌≡◌, ◌≤◌, IfOk, IfErr};
 ghost use Rattle.ip_filter.specs.Parsed.{IsParsedFilter, IsFirstError};
 
 use crate::builder::Builder;
@@ -15,6 +15,7 @@ impl Filter {
     /// was expected there.
     pub fn parse(text: &[u8]) -> Result<Filter, ParseError>
         ensures ok { IfOk result (IsParsedFilter text.now) }
+        ensures most { IfOk result (λ x. x.count ≤ 64) }
         ensures err { IfErr result (λ e. IsFirstError text.now e.offset e.expected) }
     {
         let mut builder = Builder::new();

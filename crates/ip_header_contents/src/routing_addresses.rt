@@ -109,10 +109,10 @@ impl<'a> RoutingAddresses<'a> {
 impl<'a> Iterator for RoutingAddresses<'a> {
     type Item = RoutingAddress<'a>;
 
-    ghost use Rattle.std.specs.Iterator.{YieldsFirstBy, item_count};
-    ghost use Rattle.ip_header_contents.specs.RoutingAddresses.{last_bytes, addresses_left};
+    ghost use Rattle.std.specs.Iterator.{item_count};
+    ghost use Rattle.ip_header_contents.specs.RoutingAddresses.{addresses_left, GivesAddress};
 
-    ghost next_gives = { YieldsFirstBy last_bytes addresses_left };
+    ghost next_gives = { GivesAddress };
 
     ghost remaining = { item_count addresses_left };
 

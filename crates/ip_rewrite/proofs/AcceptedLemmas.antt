@@ -1,19 +1,21 @@
 -- The header that was inserted into a packet can be left out again.
-use Rattle.ip_spec.proofs.Common.{zero, suc, ◌≡◌, ℕ, ◌+◌, ◌≤◌, ◌<◌, List, [], ◌∷◌, length, take, inl, inr, refl, ◌∙◌, ap, arith, common_steps, Bool, true, false, false≢true, cases_Bool, eq-eqb, ne_eqb, if◌then◌else◌, or-false, or_assoc, ◌&&◌, ◌||◌, ◌==◌, not, nat_lt, list_any, slice_set, slice_index, get_or-set_other, Option, None, Some, is_some, is_empty, ExtHeader, bytes_of}
+use Rattle.ip_spec.proofs.Common.{zero, suc, ◌≡◌, ℕ, ◌+◌, ◌≤◌, ◌<◌, List, [], ◌∷◌, length, take, inl, inr, refl, sym, ◌∙◌, ap, arith, common_steps, Bool, true, false, false≢true, cases_Bool, eq-eqb, ne_eqb, if◌then◌else◌, or-false, or_assoc, ◌&&◌, ◌||◌, ◌==◌, not, nat_lt, list_any, slice_set, slice_index, get_or-set_other, Option, None, Some, is_some, is_empty, ExtHeader, bytes_of}
 use Rattle.ip_dissect.specs.Fragment.{fragments, ipv6_fragment}
 use Rattle.ip_dissect.specs.declared.fragment.Fragment.{Fragment}
 use Rattle.ip_dissect.specs.Dissection.{DissectedParts, dissected}
+use Rattle.ip_dissect.specs.Outline.{is_later_end}
 use Rattle.ip_rewrite.specs.Headers.{number_of_first, leading_to, linked_headers}
 use Rattle.ip_rewrite.specs.Base.{length_field}
-use Rattle.ip_rewrite.specs.Rewritten.{is_unstated, rewritten_len, rewritten_field, rewritten_parts, room_fault}
+use Rattle.ip_rewrite.specs.Rewritten.{is_unstated, changes_unstated, rewritten_len, rewritten_field, rewritten_parts, room_fault}
 use Rattle.ip_rewrite.specs.Selection.{any_selected, selects_fragmented}
-use Rattle.ip_rewrite.specs.Without.{is_authentication, packet_fault, is_ipv4_fragment, may_be_invalid, selection_fault, without_fault}
+use Rattle.ip_rewrite.specs.Without.{is_authentication, has_authentication, selects_covered, packet_fault, is_ipv4_fragment, may_be_invalid, selection_fault, without_fault}
 use Rattle.ip_rewrite.specs.Insertion.{inserted, is_header, is_options, is_misplaced, header_fault, insertion_fault}
 use Rattle.ip_rewrite.specs.declared.err.RewriteError.{RewriteError}
-use Rattle.ip_rewrite.specs.declared.err.RewriteError.TheVariants.{TooLong, NoRoom}
+use Rattle.ip_rewrite.specs.declared.err.RewriteError.TheVariants.{NoLength, TooLong, NoRoom}
 use Rattle.ip_rewrite.specs.declared.which.Which.TheVariants.{Index}
 use Rattle.ip_rewrite.specs.declared.which.Authentication.{Authentication}
 use Rattle.ip_rewrite.proofs.DissectLemmas.{none_first, IsWholeChain}
+use Rattle.ip_rewrite.proofs.FrontLemmas.{joined_len}
 use Rattle.ip_rewrite.proofs.InsertionLemmas.{inserted_len, index_within}
 use Rattle.ip_rewrite.proofs.RestoringLemmas.{Alike, new, left, alike, size, base_size, field, known}
 
@@ -80,7 +82,7 @@ record IsAllowed (a : Authentication) (i : ℕ) (h : ExtHeader) (p : DissectedPa
   alone : fragments h ≡ false
   before : list_any fragments (take i p.headers) ≡ false
   whole : is_ipv4_fragment p ≡ false
-  authentication : (list_any is_authentication p.headers && not (may_be_invalid a)) ≡ false
+  authentication : (has_authentication p p.headers && not (may_be_invalid a)) ≡ false
   misplaced : is_misplaced i h p ≡ false
 
 tests_off : (x f m w b t : Bool) (k l n q r : RewriteError) → (let o : Option RewriteError = if x then Some k else if f then Some l else if m then Some n else if w || b then Some q else if t then Some r else None in o) ≡ None
@@ -95,7 +97,7 @@ tests_off false false false false false false k l n q r e = (refl, refl, refl, r
 
 allowed : (a : Authentication) (i : ℕ) (h : ExtHeader) (p : DissectedParts) → header_fault a i h p ≡ None → IsAllowed a i h p
 allowed a i h p e =
-    let off = tests_off (not (is_header h.number h.bytes) || (p.version == 4) && not (is_authentication h)) (fragments h) (is_misplaced i h p) (is_ipv4_fragment p) (list_any fragments (take i p.headers)) (list_any is_authentication p.headers && not (may_be_invalid a)) _ _ _ _ _ e in
+    let off = tests_off (not (is_header h.number h.bytes) || (p.version == 4) && not (is_authentication h)) (fragments h) (is_misplaced i h p) (is_ipv4_fragment p) (list_any fragments (take i p.headers)) (has_authentication p p.headers && not (may_be_invalid a)) _ _ _ _ _ e in
     record { alone = off.0; misplaced = off.1; whole = off.2; before = off.3; authentication = off.4 }
 
 no_fault : (x y z u v : Bool) (a b c d e : Option RewriteError) → x ≡ true → y ≡ false → z ≡ false → u ≡ false → v ≡ false
@@ -127,9 +129,19 @@ field_less v false b n k less = elim (cases_Bool (v == 4)) [
   | inr s ↦ rw s less
 ]
 
-room_less : (f g k l room : ℕ) → f ≤ g → k ≤ l → (let o : Option RewriteError = if nat_lt 65535 g then Some TooLong else if nat_lt room l then Some NoRoom else None in o) ≡ None
-    → (if nat_lt 65535 f then Some TooLong else if nat_lt room k then Some NoRoom else None) ≡ None
-room_less f g k l room less shorter e = grind (arith, common_steps)
+room_less : (u w : Bool) (f g k l room : ℕ) → f ≤ g → k ≤ l → (w ≡ false → u ≡ false) → (let o : Option RewriteError = if w then Some NoLength else if nat_lt 65535 g then Some TooLong else if nat_lt room l then Some NoRoom else None in o) ≡ None
+    → (if u then Some NoLength else if nat_lt 65535 f then Some TooLong else if nat_lt room k then Some NoRoom else None) ≡ None
+room_less u true f g k l room less shorter same e = absurd (cc)
+room_less u false f g k l room less shorter same e = rw (same refl) (grind (arith, common_steps))
+
+-- a length that doesn't change is restored
+unchanged_back : (u w : Bool) (a b d e : ℕ) → u ≡ w → a ≡ e → d ≡ b → (w && not (d == a)) ≡ false → (u && not (e == b)) ≡ false
+unchanged_back true true a b d e same p q off = rw (sym p, sym q) (back a d off)
+  where
+    back : (a d : ℕ) → not (d == a) ≡ false → not (a == d) ≡ false
+    back a d off = grind (arith, common_steps)
+unchanged_back true false a b d e same p q off = absurd (false≢true (sym same))
+unchanged_back false w a b d e same p q off = refl
 
 module _ (a : Authentication) (i : ℕ) (h : ExtHeader) (room : ℕ) (p : DissectedParts) (chain : IsWholeChain p) (within : i ≤ length p.headers) (states : is_unstated (new i h p chain within) ≡ is_unstated p) where
   abbrev changed : DissectedParts
@@ -150,8 +162,15 @@ module _ (a : Authentication) (i : ℕ) (h : ExtHeader) (room : ℕ) (p : Dissec
         ap (λ b. b || selects_fragmented (Index i) 0 false changed.headers) (still_whole (p.version == 4) p.fragment (ipv6_fragment changed.headers) x.whole)
         ∙ (fragmented_linked i 0 p.number false (inserted i h p.headers) ∙ (fragmented_at i 0 i false h p.headers (omega arith) within ∙ x.before))
 
-    authentication : (list_any is_authentication rest && not (may_be_invalid a)) ≡ false
-    authentication = ap (λ b. b && not (may_be_invalid a)) (alike_authentication rest p.headers (alike i h p chain within)) ∙ x.authentication
+    authentication : (has_authentication changed rest && selects_covered (Index i) 0 false changed.headers && not (may_be_invalid a)) ≡ false
+    authentication =
+        without_middle (has_authentication changed rest) (selects_covered (Index i) 0 false changed.headers) (not (may_be_invalid a))
+        (ap (λ b. (b || is_later_end p.end && (p.number == 51)) && not (may_be_invalid a)) (alike_authentication rest p.headers (alike i h p chain within)) ∙ x.authentication)
+      where
+        without_middle : (b d e : Bool) → (b && e) ≡ false → (b && d && e) ≡ false
+        without_middle true true e off = off
+        without_middle true false e off = refl
+        without_middle false d e off = refl
 
     other : ((p.version == 4) && (p.number == 51)) ≡ false
     other = elim (cases_Bool ((p.version == 4) && (p.number == 51))) [
@@ -172,9 +191,11 @@ module _ (a : Authentication) (i : ℕ) (h : ExtHeader) (room : ℕ) (p : Dissec
 
   room_left : room_fault p (inserted i h p.headers) p.payload room ≡ None → room_fault changed rest p.payload room ≡ None
   room_left e =
-      room_less (rewritten_field changed rest p.payload) (rewritten_field p (inserted i h p.headers) p.payload) (rewritten_len changed rest p.payload) (rewritten_len p (inserted i h p.headers) p.payload) room
+      room_less (changes_unstated changed rest p.payload) (changes_unstated p (inserted i h p.headers) p.payload) (rewritten_field changed rest p.payload) (rewritten_field p (inserted i h p.headers) p.payload) (rewritten_len changed rest p.payload) (rewritten_len p (inserted i h p.headers) p.payload) room
       (omega (arith, field i h p chain within states, field_less p.version (is_unstated p) p.base (length (bytes_of p.headers) + length p.payload) (length (bytes_of (inserted i h p.headers)) + length p.payload) (omega (arith, inserted_len i p.headers h))))
-      (omega (arith, size i h p chain within, base_size i h p chain within, inserted_len i p.headers h)) e
+      (omega (arith, size i h p chain within, base_size i h p chain within, inserted_len i p.headers h))
+      (unchanged_back (is_unstated changed) (is_unstated p) (length (bytes_of p.headers) + length p.payload) (length (bytes_of changed.headers) + length p.payload) (length (bytes_of (inserted i h p.headers)) + length p.payload) (length (bytes_of rest) + length p.payload)
+      states (omega (arith, size i h p chain within)) (omega (arith, joined_len (inserted i h p.headers) p.number))) e
 
   pub accepted : insertion_fault a i h p room ≡ None → without_fault (Index i) a changed room ≡ None
   accepted e =

@@ -1,9 +1,10 @@
 -- The headers that are kept, linked again, are a chain.
-use Rattle.ip_spec.proofs.Common.{◌≡◌, ◌≢◌, ℕ, ◌+◌, ◌*◌, List, [], ◌∷◌, drop, subst, refl, sym, ◌∙◌, ap, arith, common_steps, Bool, true, false, ◌||◌, if◌then◌else◌, slice_set, slice_index, length-set, get_or-set_other, get_or-set_same, AllByRecursion, IsHeader, raw, auth, fragment, next_header, ExtHeader, AreLinked, IsChain, leads_to}
+use Rattle.ip_spec.proofs.Common.{◌≡◌, ◌≢◌, ℕ, ◌+◌, ◌*◌, List, [], ◌∷◌, drop, subst, refl, sym, ◌∙◌, ap, arith, common_steps, Bool, true, false, false≢true, ◌||◌, ◌&&◌, if◌then◌else◌, slice_set, slice_index, length-set, get_or-set_other, get_or-set_same, AllByRecursion, IsHeader, raw, auth, fragment, next_header, ExtHeader, AreLinked, IsChain, leads_to}
 use Rattle.ip_spec.proofs.HeaderLemmas.{header-least}
-use Rattle.ip_dissect.specs.LaterDemand.{is_later, has_later}
+use Rattle.ip_dissect.specs.LaterDemand.{is_later, has_later, NothingAfterLater}
+use Rattle.ip_dissect.specs.Fragment.{fragments}
 use Rattle.ip_rewrite.specs.Headers.{number_of_first, leading_to, linked_headers}
-use Rattle.ip_rewrite.specs.Selection.{selects, kept_from}
+use Rattle.ip_rewrite.specs.Selection.{selects, kept_from, any_selected}
 use Rattle.ip_rewrite.specs.declared.which.Which.{Which}
 
 abbrev pub AreHeaders : List ExtHeader → Type 0
@@ -57,6 +58,14 @@ pub joined_later : (m : ℕ) (c : List ExtHeader) → has_later (linked_headers 
 joined_later m [] = refl
 joined_later m (h ∷ c) = ap (λ b. b || has_later (linked_headers m c)) (later_leading h (number_of_first c m)) ∙ ap (λ b. is_later h || b) (joined_later m c)
 
+pub joined_demand : (m : ℕ) (c : List ExtHeader) → NothingAfterLater c → NothingAfterLater (linked_headers m c)
+joined_demand m [] q = tt
+joined_demand m (h ∷ c) q = (λ t. ap (linked_headers m) (q.0 (sym (later_leading h (number_of_first c m)) ∙ t)), joined_demand m c q.1)
+
+-- The fragment header of a later fragment fragments the payload.
+pub not_later : (h : ExtHeader) → fragments h ≡ false → is_later h ≡ false
+not_later h e = grind (arith, common_steps)
+
 -- kept headers
 pub all_kept : (P : ExtHeader → Type 0) (w : Which) (i : ℕ) (c : List ExtHeader) → AllByRecursion P c → AllByRecursion P (kept_from w i c)
 all_kept P w i [] a = tt
@@ -78,6 +87,26 @@ zero_kept w i (h ∷ c) a = pick (selects w i h) (all_kept (λ g. g.number ≢ 0
     pick true r = fewer (λ g. g.number ≢ 0) (kept_from w (i + 1) c) r
     pick false r = r
 
-pub later_kept : (w : Which) (i : ℕ) (c : List ExtHeader) → has_later c ≡ false → has_later (kept_from w i c) ≡ false
+pub later_kept : (w : Which) (i : ℕ) (c : List ExtHeader) → any_selected fragments w i c ≡ false → has_later (kept_from w i c) ≡ has_later c
 later_kept w i [] f = refl
-later_kept w i (h ∷ c) f = grind (arith, common_steps, later_kept w (i + 1) c)
+later_kept w i (h ∷ c) f =
+    let off = neither (selects w i h) (fragments h) (any_selected fragments w (i + 1) c) f in
+    pick (selects w i h) (λ s. not_later h (off.0 s)) (later_kept w (i + 1) c off.1)
+  where
+    neither : (s x y : Bool) → (s && x || y) ≡ false → (s ≡ true → x ≡ false) × (y ≡ false)
+    neither true true y e = absurd (false≢true (sym e))
+    neither true false y e = (λ s. refl, e)
+    neither false x y e = (λ s. absurd (false≢true s), e)
+
+    pick : (b : Bool) → (b ≡ true → is_later h ≡ false) → has_later (kept_from w (i + 1) c) ≡ has_later c
+        → has_later (if b then kept_from w (i + 1) c else h ∷ kept_from w (i + 1) c) ≡ (is_later h || has_later c)
+    pick true f r = rw (f refl) r
+    pick false f r = ap (λ b. is_later h || b) r
+
+pub demand_kept : (w : Which) (i : ℕ) (c : List ExtHeader) → NothingAfterLater c → NothingAfterLater (kept_from w i c)
+demand_kept w i [] q = tt
+demand_kept w i (h ∷ c) q = pick (selects w i h) (demand_kept w (i + 1) c q.1)
+  where
+    pick : (b : Bool) → NothingAfterLater (kept_from w (i + 1) c) → NothingAfterLater (if b then kept_from w (i + 1) c else h ∷ kept_from w (i + 1) c)
+    pick true r = r
+    pick false r = (λ t. ap (kept_from w (i + 1)) (q.0 t), r)

@@ -4,15 +4,15 @@ use Rattle.std.proofs.lemmas.List.{set-append_left}
 use Rattle.ip_spec.proofs.ClearedLemmas.{cleared_is_chain}
 use Rattle.ip_spec.proofs.HeaderLemmas.{header-least}
 use Rattle.ip_spec.proofs.StepLemmas.{bytes_of-more}
-use Rattle.ip_dissect.specs.LaterDemand.{is_later, has_later}
+use Rattle.ip_dissect.specs.LaterDemand.{is_later, has_later, NothingAfterLater}
 use Rattle.ip_dissect.specs.Fragment.{fragments}
 use Rattle.ip_dissect.specs.Dissection.{DissectedParts, dissected}
 use Rattle.ip_dissect.specs.Outline.{IsBaseOf}
 use Rattle.ip_dissect.specs.declared.dissection.BaseHeader.{BaseHeader}
 use Rattle.ip_rewrite.specs.Base.{number_offset}
 use Rattle.ip_rewrite.specs.Rewritten.{rewritten, rewritten_parts}
-use Rattle.ip_rewrite.specs.Without.{packet_fault}
-use Rattle.ip_rewrite.specs.Clearing.{has_reserved, reserved_fragmented, reserved_fault, clearing_fault}
+use Rattle.ip_rewrite.specs.Without.{is_authentication, packet_fault}
+use Rattle.ip_rewrite.specs.Clearing.{has_reserved, reserved_fragmented, reserved_covered, reserved_fault, clearing_fault}
 use Rattle.ip_rewrite.specs.Writing.{link_of}
 use Rattle.ip_rewrite.specs.declared.which.Authentication.{Authentication}
 use Rattle.ip_rewrite.proofs.ChainLemmas.{AreHeaders}
@@ -27,6 +27,15 @@ reserved_more after (g ∷ c) h =
     ap (λ x. mine || x) (reserved_more (after || fragments g) c h)
     ∙ (sym (or_assoc mine later (((after || fragments g) || list_any fragments c) && has_reserved h))
     ∙ ap (λ b. (mine || later) || b && has_reserved h) (or_assoc after (fragments g) (list_any fragments c)))
+
+pub covered_more : (after : Bool) (c : List ExtHeader) (h : ExtHeader) → reserved_covered after (c ++ h ∷ []) ≡ (reserved_covered after c || ((after || list_any is_authentication c) || is_authentication h) && has_reserved h)
+covered_more after [] h = or-false ((after || is_authentication h) && has_reserved h) ∙ ap (λ b. (b || is_authentication h) && has_reserved h) (sym (or-false after))
+covered_more after (g ∷ c) h =
+    let mine : Bool = (after || is_authentication g) && has_reserved g in
+    let later : Bool = reserved_covered (after || is_authentication g) c in
+    ap (λ x. mine || x) (covered_more (after || is_authentication g) c h)
+    ∙ (sym (or_assoc mine later ((((after || is_authentication g) || list_any is_authentication c) || is_authentication h) && has_reserved h))
+    ∙ ap (λ b. (mine || later) || (b || is_authentication h) && has_reserved h) (or_assoc after (is_authentication g) (list_any is_authentication c)))
 
 pub cleared_more : (c : List ExtHeader) (h : ExtHeader) → bytes_of (cleared_chain (c ++ h ∷ [])) ≡ bytes_of (cleared_chain c) ++ cleared_header h.number h.bytes
 cleared_more [] h = append-nil (cleared_header h.number h.bytes)
@@ -95,6 +104,10 @@ later_cleared : (c : List ExtHeader) → AreHeaders c → has_later (cleared_cha
 later_cleared [] a = refl
 later_cleared (h ∷ c) a = ap (λ b. b || has_later (cleared_chain c)) (later_same h a.0) ∙ ap (λ b. is_later h || b) (later_cleared c a.1)
 
+demand_cleared : (c : List ExtHeader) → AreHeaders c → NothingAfterLater c → NothingAfterLater (cleared_chain c)
+demand_cleared [] a q = tt
+demand_cleared (h ∷ c) a q = (λ t. ap cleared_chain (q.0 (sym (later_same h a.0) ∙ t)), demand_cleared c a.1 q.1)
+
 cleared_count : (c : List ExtHeader) → length (cleared_chain c) ≡ length c
 cleared_count [] = refl
 cleared_count (h ∷ c) = omega (arith, cleared_count c)
@@ -115,6 +128,7 @@ clearing_dissects a room s o is e =
       headers = d.headers;
       zero = d.zero_only_first;
       later = later_cleared p.headers chain.chain.headers ∙ chain.later;
+      demand = demand_cleared p.headers chain.chain.headers chain.demand;
       ipv6 = chain.ipv6;
       ipv4 = λ v. record { one = omega (arith, (chain.ipv4 v).one, cleared_count p.headers); number = cleared_numbers 51 p.headers (chain.ipv4 v).number };
       last = λ v n. omega (arith, chain.last v n, cleared_count p.headers);

@@ -12,21 +12,22 @@ use Rattle.ip_base.specs.Ipv4Header.{total_len, protocol, ipv4_fragment_offset}
 use Rattle.ip_base.specs.Ipv6Header.{ipv6_next_header}
 use Rattle.ip_ext_headers.specs.HeaderFault.{auth_fault, auth_in_packet}
 use Rattle.ip_ext_headers.specs.declared.err.ip_auth.header_slice_error.HeaderSliceError.{HeaderSliceError as AuthError}
-use Rattle.ip_ext_slices.specs.ChainFault.{slice_fault, auth_at}
+use Rattle.ip_ext_slices.specs.ChainFault.{Fault as ChainFault, slice_fault, auth_at}
 use Rattle.ip_ext_slices.specs.Ipv4Fault.{ipv4_faults}
 use Rattle.ip_ext_slices.proofs.FaultLemmas.{fault_at_end}
 use Rattle.ip_ext_slices.specs.Ipv4Longest.{longest_ipv4_chain}
 use Rattle.ip_ext_slices.proofs.Ipv4Lemmas.{ipv4_longest}
 use Rattle.ip_dissect.specs.LaterDemand.{has_later, NothingAfterLater, nothing_after_later}
 use Rattle.ip_dissect.specs.Extent.{after_base, ipv4_stated, ipv6_stated, ipv4_chain, ipv6_chain}
-use Rattle.ip_dissect.specs.End.{has_error, auth_end, is_too_short, ipv6_end}
+use Rattle.ip_dissect.specs.End.{has_error, auth_end, exts_end, is_too_short, ipv6_end}
+use Rattle.ip_dissect.specs.Fragment.{fragments}
 use Rattle.ip_dissect.specs.Dissection.{DissectedParts, ipv4_dissected, ipv6_dissected, dissected}
 use Rattle.ip_dissect.specs.Outline.{IsBaseOf, is_later_end}
 use Rattle.ip_dissect.specs.declared.dissection.BaseHeader.{BaseHeader}
 use Rattle.ip_dissect.specs.declared.dissection.BaseHeader.TheVariants.{Ipv4, Ipv6}
 use Rattle.ip_dissect.specs.declared.end.End.{End}
 use Rattle.ip_dissect.specs.declared.end.End.TheVariants.{Payload, LaterFragment, Truncated, Fault}
-use Rattle.ip_dissect.proofs.LaterLemmas.{chain_to_later-longest, may_follow}
+use Rattle.ip_dissect.proofs.LaterLemmas.{chain_to_later-longest, may_follow, met}
 use Rattle.ip_dissect.proofs.OutlineLemmas.{end_with}
 use Rattle.ip_dissect.proofs.DissectedLemmas.{BeginIpv4, begins4, BeginIpv6, begins6, BeginNone, begins_none, base_error}
 use Rattle.ip_rewrite.specs.Headers.{number_of_first, linked_headers}
@@ -37,12 +38,11 @@ use Rattle.ip_rewrite.specs.Without.{packet_fault, selection_fault, without, par
 use Rattle.ip_rewrite.specs.declared.err.RewriteError.{RewriteError}
 use Rattle.ip_rewrite.specs.declared.which.Which.{Which}
 use Rattle.ip_rewrite.specs.declared.which.Authentication.{Authentication}
-use Rattle.ip_defragmenter.specs.Checksum.{checksum_of}
-use Rattle.ip_defragmenter.specs.Whole.{with_word}
-use Rattle.ip_rewrite.proofs.FieldLemmas.{word_len}
+use Rattle.ip_base.specs.Checksum.{checksum_of, with_word}
+use Rattle.ip_base.proofs.ChecksumLemmas.{word_len}
 use Rattle.ip_rewrite.proofs.FrontLemmas.{joined_len}
-use Rattle.ip_rewrite.proofs.ChainLemmas.{AreHeaders, NoZero, all_kept, zero_kept, later_kept}
-use Rattle.ip_rewrite.proofs.Ipv6Lemmas.{same_parts, sent6_dissected}
+use Rattle.ip_rewrite.proofs.ChainLemmas.{AreHeaders, NoZero, all_kept, zero_kept, later_kept, demand_kept}
+use Rattle.ip_rewrite.proofs.Ipv6Lemmas.{same_parts, end_after, sent6_dissected}
 use Rattle.ip_rewrite.proofs.Ipv4Lemmas.{sent4_dissected}
 
 -- what is known of a packet that can be changed
@@ -53,7 +53,7 @@ none_first (Some x) b e = absurd (cc)
 pub record IsWhole (p : DissectedParts) : Type 0 where
   pub no_error : has_error p.end ≡ false
   pub all_here : p.missing ≡ 0
-  pub not_later : is_later_end p.end ≡ false
+  pub not_later : ((p.version == 4) && is_later_end p.end) ≡ false
 
 pub whole_packet : (p : DissectedParts) → packet_fault p ≡ None → IsWhole p
 whole_packet p e = record { no_error = grind (arith, common_steps); all_here = grind (arith, common_steps); not_later = grind (arith, common_steps) }
@@ -66,18 +66,24 @@ payload_end (Fault e h) a b = absurd (false≢true (sym a))
 
 record IsSelected (w : Which) (p : DissectedParts) : Type 0 where
   some : any_selected (λ h. true) w 0 p.headers ≡ true
+  alone : any_selected fragments w 0 p.headers ≡ false
   no_header : ((p.version == 4) && (p.number == 51)) ≡ false
 
 selected : (w : Which) (a : Authentication) (p : DissectedParts) → selection_fault w a p ≡ None → IsSelected w p
-selected w a p e = record { some = grind (arith, common_steps); no_header = grind (arith, common_steps) }
+selected w a p e = record { some = grind (arith, common_steps); alone = grind (arith, common_steps); no_header = grind (arith, common_steps) }
 
 pub field_fits : (p : DissectedParts) (c : List ExtHeader) (q : List ℕ) (room : ℕ) → room_fault p c q room ≡ None → rewritten_field p c q < 65536
 field_fits p c q room e = grind (arith, common_steps)
 
 -- IPv6
-later_of : (later : Bool) (x : End) → is_later_end (if later then LaterFragment else x) ≡ false → later ≡ false
-later_of true x e = absurd (false≢true (sym e))
-later_of false x e = refl
+later_of : (later : Bool) (t : Option ℕ) (o : Option ChainFault) → later ≡ is_later_end (if later then LaterFragment else option_map_or (exts_end t) o Payload)
+later_of later t o = search rules
+
+later_end : (e : End) → has_error e ≡ false → e ≡ end_after (is_later_end e)
+later_end Payload a = refl
+later_end LaterFragment a = refl
+later_end (Truncated e h) a = absurd (false≢true (sym a))
+later_end (Fault e h) a = absurd (false≢true (sym a))
 
 module _ (b s : List ℕ) where
   abbrev x6 : List ℕ
@@ -157,19 +163,33 @@ some_header b t offset n x [] longest auth zero none =
 pub record IsWholeChain (p : DissectedParts) : Type 0 where
   pub chain : IsChain (slice_index p.base (number_offset p.version)) p.headers
   pub number : p.number ≡ leads_to (slice_index p.base (number_offset p.version)) p.headers
-  pub later : has_later p.headers ≡ false
-  pub ipv6 : p.version ≡ 6 → IsExtensionNumber p.number → ⊥
+  pub later : has_later p.headers ≡ is_later_end p.end
+  pub demand : NothingAfterLater p.headers
+  pub ipv6 : p.version ≡ 6 → is_later_end p.end ≡ false → IsExtensionNumber p.number → ⊥
   pub ipv4 : p.version ≡ 4 → AtMostOneOf 51 p.headers
   pub last : p.version ≡ 4 → p.number ≡ 51 → 1 ≤ length p.headers
 
--- The headers c can follow the base header of version v, and lead to the number m.
-pub record CanFollow (v : ℕ) (c : List ExtHeader) (m : ℕ) : Type 0 where
+-- The headers c can follow the base header of version v, and lead to the number m. They are those of a later fragment or not.
+pub record CanFollow (v : ℕ) (l : Bool) (c : List ExtHeader) (m : ℕ) : Type 0 where
   pub headers : AreHeaders c
   pub zero : NoZero (drop 1 c)
-  pub later : has_later c ≡ false
-  pub ipv6 : v ≡ 6 → IsExtensionNumber m → ⊥
+  pub later : has_later c ≡ l
+  pub demand : NothingAfterLater c
+  pub ipv6 : v ≡ 6 → l ≡ false → IsExtensionNumber m → ⊥
   pub ipv4 : v ≡ 4 → AtMostOneOf 51 c
   pub last : v ≡ 4 → m ≡ 51 → 1 ≤ length c
+
+-- as they are
+pub as_is : (p : DissectedParts) → IsWholeChain p → CanFollow p.version (is_later_end p.end) p.headers p.number
+as_is p chain = record {
+  headers = chain.chain.headers;
+  zero = chain.chain.zero_only_first;
+  later = chain.later;
+  demand = chain.demand;
+  ipv6 = chain.ipv6;
+  ipv4 = chain.ipv4;
+  last = chain.last;
+}
 
 module _ (b s : List ℕ) where
   abbrev p4 : DissectedParts
@@ -187,12 +207,14 @@ module _ (b s : List ℕ) where
 pub whole_chain6 : (s b : List ℕ) → BeginIpv6 s b → packet_fault (dissected s) ≡ None → IsWholeChain (dissected s)
 whole_chain6 s b v = subst (λ (p : DissectedParts). packet_fault p ≡ None → IsWholeChain p) (sym v.is) (λ e.
     let whole : IsWhole (ipv6_dissected b s) = whole_packet (ipv6_dissected b s) e in
-    let later : has_later (ipv6_chain b s) ≡ false = later_of (has_later (ipv6_chain b s)) _ whole.not_later in
+    let later : has_later (ipv6_chain b s) ≡ is_later_end (ipv6_end b s) = later_of (has_later (ipv6_chain b s)) (ipv6_stated b) _ in
+    let has = (chain_to_later-longest (ipv6_next_header b) (after_base b (ipv6_stated b) s)).has in
     record {
-      chain = (chain_to_later-longest (ipv6_next_header b) (after_base b (ipv6_stated b) s)).has.0.chain;
+      chain = has.0.chain;
       number = refl;
       later = later;
-      ipv6 = λ _. no_extension b s later whole.no_error;
+      demand = has.1;
+      ipv6 = λ _ none. no_extension b s (later ∙ none) whole.no_error;
       ipv4 = λ n. absurd (cc);
       last = λ n. absurd (cc);
     })
@@ -204,7 +226,8 @@ whole_chain4 s b v = subst (λ (p : DissectedParts). packet_fault p ≡ None →
     record {
       chain = has.0.chain;
       number = refl;
-      later = no_later (ipv4_chain b s) has.1.number;
+      later = no_later (ipv4_chain b s) has.1.number ∙ sym whole.not_later;
+      demand = met (ipv4_chain b s) (no_later (ipv4_chain b s) has.1.number);
       ipv6 = λ n. absurd (cc);
       ipv4 = λ _. has.1;
       last = λ _ auth. some_header b (ipv4_stated b) (ipv4_fragment_offset b) (protocol b) (after_base b (ipv4_stated b) s) (ipv4_chain b s) (longest4 b s whole) auth (offset4 b s whole) whole.no_error;
@@ -223,7 +246,7 @@ whole_chain s (Some (Ipv4 h)) is = whole_chain4 s (ipv4_header.bytes h) (begins4
 -- The packet with other headers, or with another payload, dissects as the old one with this change.
 module _ (c : List ExtHeader) (m : ℕ) (q : List ℕ) (room : ℕ) where
   abbrev Dissects : DissectedParts → Type 0
-  Dissects p = packet_fault p ≡ None → CanFollow p.version c m → room_fault p c q room ≡ None → dissected (rewritten p c m q) ≡ rewritten_parts p c m q
+  Dissects p = packet_fault p ≡ None → CanFollow p.version (is_later_end p.end) c m → room_fault p c q room ≡ None → dissected (rewritten p c m q) ≡ rewritten_parts p c m q
 
   pub changed : (s : List ℕ) (o : Option BaseHeader) → IsBaseOf s o → Dissects (dissected s)
   changed s None is = λ e f r. absurd (no_base s is e)
@@ -234,8 +257,8 @@ module _ (c : List ExtHeader) (m : ℕ) (q : List ℕ) (room : ℕ) where
       let p : DissectedParts = ipv6_dissected b s in
       let whole : IsWhole p = whole_packet p e in
       let t : ℕ = rewritten_field p c q in
-      let end : p.end ≡ Payload = payload_end p.end whole.no_error whole.not_later in
-      sent6_dissected b v.header c m t q f.headers f.zero f.later (f.ipv6 refl) (field_fits p c q room r) (field6 (is_unstated p) b (length (bytes_of c) + length q))
+      let end : p.end ≡ end_after (is_later_end p.end) = later_end p.end whole.no_error in
+      sent6_dissected b v.header c m t q (is_later_end p.end) f.headers f.zero f.later f.demand (f.ipv6 refl) (field_fits p c q room r) (field6 (is_unstated p) b (length (bytes_of c) + length q))
       ∙ same_parts _ (rewritten_parts p c m q) refl refl refl refl refl refl refl (sym whole.all_here) refl (sym end))
   changed s (Some (Ipv4 h)) is =
       let b : List ℕ = ipv4_header.bytes h in
@@ -259,7 +282,8 @@ dissects w a room s o is e =
     changed (kept w p.headers) p.number p.payload room s o is first.0 (record {
       headers = all_kept _ w 0 p.headers chain.chain.headers;
       zero = zero_kept w 0 p.headers chain.chain.zero_only_first;
-      later = later_kept w 0 p.headers chain.later;
+      later = later_kept w 0 p.headers here.alone ∙ chain.later;
+      demand = demand_kept w 0 p.headers chain.demand;
       ipv6 = chain.ipv6;
       ipv4 = λ v. subst (λ (c : List ExtHeader). AtMostOneOf 51 c) (sym (one_kept w p.headers (chain.ipv4 v).one here.some)) (record { one = omega arith; number = tt });
       last = λ v n. absurd (false≢true (sym here.no_header ∙ both (p.version == 4) (p.number == 51) (eq-eqb p.version 4 v) (eq-eqb p.number 51 n)));

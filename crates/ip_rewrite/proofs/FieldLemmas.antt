@@ -1,15 +1,8 @@
 -- The fields of a base header that is changed.
-use Rattle.ip_spec.proofs.Common.{◌≡◌, ◌≢◌, ℕ, ◌+◌, ◌/◌, ◌%◌, ◌≤◌, ◌<◌, List, length, take, drop, sym, ◌∙◌, ap, arith, slice_set, slice_index, length-set, get_or-set_other, get_or-set_same, from_be_bytes}
+use Rattle.ip_spec.proofs.Common.{◌≡◌, ℕ, ◌+◌, ◌/◌, ◌%◌, ◌≤◌, ◌<◌, List, length, take, drop, sym, ◌∙◌, ap, arith, slice_set, slice_index, length-set, get_or-set_other, get_or-set_same, from_be_bytes}
 use Rattle.std.specs.Int.{w16}
 use Rattle.std.proofs.lemmas.List.{get_or-take, get_or-drop}
-use Rattle.ip_defragmenter.specs.Whole.{with_word}
-
-pub word_len : (b : List ℕ) (i n : ℕ) → length (with_word b i n) ≡ length b
-word_len b i n = length-set (slice_set b i (n / 256)) (i + 1) (n % 256) ∙ length-set b i (n / 256)
-
--- a byte outside of the word
-pub word_other : (b : List ℕ) (i n j : ℕ) → j ≢ i → j ≢ i + 1 → slice_index (with_word b i n) j ≡ slice_index b j
-word_other b i n j p q = get_or-set_other (slice_set b i (n / 256)) (i + 1) j (n % 256) 0 q ∙ get_or-set_other b i j (n / 256) 0 p
+use Rattle.ip_base.specs.Checksum.{with_word}
 
 -- the word
 pub word_bytes : (b : List ℕ) (i j : ℕ) → j < 2 → slice_index (take 2 (drop i b)) j ≡ slice_index b (i + j)

@@ -1,12 +1,12 @@
 -- The first header of a packet is left out, and no other.
-use Rattle.ip_spec.proofs.Common.{◌≡◌, ℕ, ◌+◌, ◌-◌, ◌≤◌, ◌<◌, List, [], ◌∷◌, ◌++◌, length, take, drop, slice_set, inl, inr, subst, refl, sym, ◌∙◌, ap, arith, common_steps, suc, false≢true, true, cases_Bool, cond-true, cond-false, false, Bool, ◌||◌, ◌&&◌, or-false, and-false, ne_eqb, nat_lt, list_any, append_assoc, drop-drop, length-append, length-set, IsHeader, ExtHeader, IsChain, AreLinked, IsEnd, take-append_seam, bytes_of, leads_to}
+use Rattle.ip_spec.proofs.Common.{◌≡◌, ℕ, ◌+◌, ◌-◌, ◌≤◌, ◌<◌, List, [], ◌∷◌, ◌++◌, length, take, drop, slice_set, inl, inr, subst, refl, sym, ◌∙◌, ap, arith, common_steps, suc, false≢true, true, cases_Bool, cond-true, cond-false, false, Bool, ◌||◌, ◌&&◌, ◌==◌, not, or-false, and-false, ne_eqb, nat_lt, list_any, append_assoc, drop-drop, length-append, length-set, IsHeader, ExtHeader, IsChain, AreLinked, IsEnd, take-append_seam, bytes_of, leads_to}
 use Rattle.std.proofs.Math.Seq.{take-add}
 use Rattle.std.proofs.lemmas.List.{take-append-drop, length-take-le, drop-take, set-append_left}
 use Rattle.ip_spec.proofs.HeaderLemmas.{header-least, one_header}
 use Rattle.ip_rewrite.specs.Headers.{linked_headers}
 use Rattle.ip_rewrite.specs.Selection.{selects, kept_from, kept, any_selected, selects_fragmented}
 use Rattle.ip_dissect.specs.Fragment.{fragments}
-use Rattle.ip_rewrite.specs.Without.{is_authentication, has_segments}
+use Rattle.ip_rewrite.specs.Without.{is_authentication, has_segments, is_covered, selects_covered}
 use Rattle.ip_rewrite.specs.Writing.{front_with, SelectsFirst, surveyed, no_survey}
 use Rattle.ip_rewrite.specs.declared.which.Which.{Which}
 use Rattle.ip_rewrite.specs.declared.which.Which.TheVariants.{Index}
@@ -102,6 +102,12 @@ fragmented_later i after (h ∷ c) less =
     ap (λ b. after && b || selects_fragmented (Index 0) (i + 1) (after || fragments h) c) (unselected i h less)
     ∙ (ap (λ b. b || selects_fragmented (Index 0) (i + 1) (after || fragments h) c) (and-false after) ∙ fragmented_later (i + 1) (after || fragments h) c (omega (arith, less)))
 
+covered_later : (i : ℕ) (after : Bool) (c : List ExtHeader) → 0 < i → selects_covered (Index 0) i after c ≡ false
+covered_later i after [] less = refl
+covered_later i after (h ∷ c) less =
+    ap (λ b. b && is_covered after h || selects_covered (Index 0) (i + 1) (after || is_authentication h) c) (unselected i h less)
+    ∙ covered_later (i + 1) (after || is_authentication h) c (omega (arith, less))
+
 kept_later : (i : ℕ) (c : List ExtHeader) → 0 < i → kept_from (Index 0) i c ≡ c
 kept_later i [] less = refl
 kept_later i (h ∷ c) less =
@@ -109,16 +115,18 @@ kept_later i (h ∷ c) less =
     ∙ ap (λ d. h ∷ d) (kept_later (i + 1) c (omega (arith, less)))
 
 -- A survey of the first header h, which the headers c follow.
-pub first_surveyed : (h : ExtHeader) (c : List ExtHeader) (v : Survey) → v.which ≡ Index 0 → v.selects ≡ true → v.selects_fragmenting ≡ fragments h → v.selects_fragmented ≡ false → v.selects_segments ≡ has_segments h
-    → v.is_fragmented ≡ list_any fragments (h ∷ c) → v.keeps_authentication ≡ list_any is_authentication c → v.kept_len ≡ length (bytes_of c) → v ≡ surveyed (no_survey (Index 0)) (h ∷ c)
-first_surveyed h c v a b d e f g j k =
+pub first_surveyed : (h : ExtHeader) (c : List ExtHeader) (v : Survey) → v.which ≡ Index 0 → v.selects ≡ true → v.selects_fragmenting ≡ fragments h → v.selects_fragmented ≡ false → v.selects_covered ≡ not (h.number == 44) → v.selects_segments ≡ has_segments h
+    → v.is_fragmented ≡ list_any fragments (h ∷ c) → v.has_authentication ≡ list_any is_authentication (h ∷ c) → v.keeps_authentication ≡ list_any is_authentication c → v.kept_len ≡ length (bytes_of c) → v ≡ surveyed (no_survey (Index 0)) (h ∷ c)
+first_surveyed h c v a b d e x f g y j k =
     let rest : kept (Index 0) (h ∷ c) ≡ c = kept_later (0 + 1) c (omega arith) in
     same_survey v (surveyed (no_survey (Index 0)) (h ∷ c)) a
     b
     (d ∙ (sym (or-false (fragments h)) ∙ ap (λ x. fragments h || x) (sym (any_later fragments (0 + 1) c (omega arith)))))
     (e ∙ sym (fragmented_later (0 + 1) (fragments h) c (omega arith)))
+    (x ∙ (sym (or-false (not (h.number == 44))) ∙ ap (λ z. not (h.number == 44) || z) (sym (covered_later (0 + 1) (is_authentication h) c (omega arith)))))
     (f ∙ (sym (or-false (has_segments h)) ∙ ap (λ x. has_segments h || x) (sym (any_later has_segments (0 + 1) c (omega arith)))))
     g
+    y
     (j ∙ ap (list_any is_authentication) (sym rest))
     (omega (arith, k, ap (λ x. length (bytes_of x)) rest))
 

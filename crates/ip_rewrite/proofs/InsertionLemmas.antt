@@ -1,6 +1,6 @@
 -- A packet with one more header.
 use Rattle.ip_spec.proofs.Common.{zero, suc, ◌≡◌, ◌≢◌, ℕ, ◌+◌, ◌≤◌, ◌<◌, List, [], ◌∷◌, ◌++◌, length, take, drop, inl, inr, subst, refl, sym, ◌∙◌, ap, arith, common_steps, Bool, true, false, false≢true, cases_Bool, eqb-true, eq-eqb, cond-true, cond-false, if◌then◌else◌, or-false, ◌&&◌, ◌||◌, ◌==◌, not, nat_lt, list_any, length-append, append_assoc, take-append_seam, drop-append_seam, take-append-le, drop-append-le, take-append-drop, take_all, drop_all, AllByRecursion, Option, None, IsHeader, fragment, auth, ExtHeader, AtMostOneOf, is_empty, bytes_of}
-use Rattle.ip_dissect.specs.LaterDemand.{is_later, has_later}
+use Rattle.ip_dissect.specs.LaterDemand.{is_later, has_later, NothingAfterLater}
 use Rattle.ip_dissect.specs.Fragment.{fragments}
 use Rattle.ip_dissect.specs.Dissection.{DissectedParts, dissected}
 use Rattle.ip_dissect.specs.Outline.{IsBaseOf}
@@ -10,7 +10,7 @@ use Rattle.ip_rewrite.specs.Without.{packet_fault}
 use Rattle.ip_rewrite.specs.Insertion.{inserted, is_options, is_header, is_misplaced, header_fault, insertion_fault}
 use Rattle.ip_rewrite.specs.Writing.{inserted_so_far}
 use Rattle.ip_rewrite.specs.declared.which.Authentication.{Authentication}
-use Rattle.ip_rewrite.proofs.ChainLemmas.{NoZero}
+use Rattle.ip_rewrite.proofs.ChainLemmas.{NoZero, not_later}
 use Rattle.ip_rewrite.proofs.SurveyLemmas.{any_last}
 use Rattle.ip_rewrite.proofs.DissectLemmas.{none_first, IsWholeChain, whole_chain, changed}
 
@@ -102,12 +102,28 @@ all_inserted P i c h a p = joined (take i c) (drop i c) (subst (AllByRecursion P
     joined [] e a = (p, a)
     joined (g ∷ d) e a = (a.0, joined d e a.1)
 
-later_inserted : (i : ℕ) (c : List ExtHeader) (h : ExtHeader) → has_later c ≡ false → is_later h ≡ false → has_later (inserted i h c) ≡ false
-later_inserted i c h f g = joined (take i c) (drop i c) (ap has_later (take-append-drop i c) ∙ f)
+later_inserted : (i : ℕ) (c : List ExtHeader) (h : ExtHeader) → is_later h ≡ false → has_later (inserted i h c) ≡ has_later c
+later_inserted i c h g = joined (take i c) (drop i c) ∙ ap has_later (take-append-drop i c)
   where
-    joined : (d e : List ExtHeader) → has_later (d ++ e) ≡ false → has_later (d ++ h ∷ e) ≡ false
-    joined [] e a = rw (g, a) refl
-    joined (k ∷ d) e a = grind (arith, common_steps, joined d e)
+    joined : (d e : List ExtHeader) → has_later (d ++ h ∷ e) ≡ has_later (d ++ e)
+    joined [] e = rw g refl
+    joined (k ∷ d) e = ap (λ b. is_later k || b) (joined d e)
+
+demand_inserted : (i : ℕ) (c : List ExtHeader) (h : ExtHeader) → is_later h ≡ false → list_any fragments (take i c) ≡ false → NothingAfterLater c → NothingAfterLater (inserted i h c)
+demand_inserted i c h g before q = joined (take i c) (drop i c) before (subst NothingAfterLater (sym (take-append-drop i c)) q)
+  where
+    first : (a b : Bool) → (a || b) ≡ false → a ≡ false
+    first true b e = absurd (false≢true (sym e))
+    first false b e = refl
+
+    second : (a b : Bool) → (a || b) ≡ false → b ≡ false
+    second true b e = absurd (false≢true (sym e))
+    second false b e = e
+
+    joined : (d e : List ExtHeader) → list_any fragments d ≡ false → NothingAfterLater (d ++ e) → NothingAfterLater (d ++ h ∷ e)
+    joined [] e none q = (λ t. absurd (false≢true (sym g ∙ t)), q)
+    joined (k ∷ d) e none q =
+        (λ t. absurd (false≢true (sym (not_later k (first (fragments k) (list_any fragments d) none)) ∙ t)), joined d e (second (fragments k) (list_any fragments d) none) q.1)
 
 options_there : (n : ℕ) (b : Bool) → n ≡ 0 → (n == 0 || b) ≡ true
 options_there n b e = rw e refl
@@ -137,13 +153,14 @@ one_inserted i c h none named = record {
 
 -- what is known of a header that can be inserted
 record IsInserted (i : ℕ) (h : ExtHeader) (p : DissectedParts) : Type 0 where
+  before : list_any fragments (take i p.headers) ≡ false
   whole : is_header h.number h.bytes ≡ true
   fragments : fragments h ≡ false
   misplaced : is_misplaced i h p ≡ false
   other : ((p.version == 4) && not (h.number == 51)) ≡ false
 
 insertable : (a : Authentication) (i : ℕ) (h : ExtHeader) (p : DissectedParts) → header_fault a i h p ≡ None → IsInserted i h p
-insertable a i h p e = record { whole = grind (arith, common_steps); fragments = grind (arith, common_steps); misplaced = grind (arith, common_steps); other = grind (arith, common_steps) }
+insertable a i h p e = record { whole = grind (arith, common_steps); fragments = grind (arith, common_steps); misplaced = grind (arith, common_steps); other = grind (arith, common_steps); before = grind (arith, common_steps) }
 
 auth_only : (v n : ℕ) → ((v == 4) && not (n == 51)) ≡ false → v ≡ 4 → n ≡ 51
 auth_only v n e four = grind (arith, common_steps)
@@ -156,9 +173,6 @@ at_first a b i x y e first = grind (arith, common_steps)
 
 after_first : (a b : Bool) (i : ℕ) (x y : Bool) → (a || b || (if i == 0 then x else y)) ≡ false → (i ≡ 0 → ⊥) → y ≡ false
 after_first a b i x y e later = grind (arith, common_steps)
-
-not_later : (h : ExtHeader) → fragments h ≡ false → is_later h ≡ false
-not_later h e = grind (arith, common_steps)
 
 other_number : (n : ℕ) → (n == 0) ≡ false → n ≢ 0
 other_number n e is = false≢true (sym e ∙ eq-eqb n 0 is)
@@ -175,7 +189,8 @@ insertion_dissects a i h room s o is e =
     changed (inserted i h c) p.number p.payload room s o is first.0 (record {
       headers = all_inserted (λ g. IsHeader g.number g.bytes) i c h chain.chain.headers (header_is h.number h.bytes new.whole);
       zero = no_zero i c h chain.chain.zero_only_first (λ z. at_first (nat_lt (length c) i) ((p.version == 4) && not (is_empty c)) i (list_any is_options (take 1 c)) (is_options h) new.misplaced z) (λ z. other_number h.number (after_first (nat_lt (length c) i) ((p.version == 4) && not (is_empty c)) i (list_any is_options (take 1 c)) (is_options h) new.misplaced z));
-      later = later_inserted i c h chain.later (not_later h new.fragments);
+      later = later_inserted i c h (not_later h new.fragments) ∙ chain.later;
+      demand = demand_inserted i c h (not_later h new.fragments) new.before chain.demand;
       ipv6 = chain.ipv6;
       ipv4 = λ v. one_inserted i c h (none_there c (alone (nat_lt (length c) i) p.version (is_empty c) (if i == 0 then list_any is_options (take 1 c) else is_options h) new.misplaced v)) (auth_only p.version h.number new.other v);
       last = λ v n. omega (arith, inserted_count i c h);

@@ -15,8 +15,7 @@ use Rattle.ip_ext_headers.specs.HeaderFault.{auth_in_packet}
 use Rattle.ip_ext_slices.specs.Ipv4Fault.{ipv4_faults}
 use Rattle.ip_ext_slices.specs.Ipv4Longest.{longest_ipv4_chain}
 use Rattle.ip_ext_slices.proofs.Ipv4Lemmas.{ipv4_longest}
-use Rattle.ip_defragmenter.specs.Whole.{with_word}
-use Rattle.ip_defragmenter.specs.Checksum.{checksum_of}
+use Rattle.ip_base.specs.Checksum.{with_word, checksum_of}
 use Rattle.ip_dissect.specs.Fragment.{ipv4_fragment, fragment_with}
 use Rattle.ip_dissect.specs.declared.fragment.Fragment.{Fragment}
 use Rattle.ip_dissect.specs.Extent.{packet_bytes, after_base, ipv4_stated, ipv4_chain}
@@ -28,7 +27,8 @@ use Rattle.ip_rewrite.specs.Headers.{number_of_first, linked_headers}
 use Rattle.ip_rewrite.specs.Base.{base_stating, without_checksum}
 use Rattle.ip_rewrite.proofs.FrontLemmas.{joined_len}
 use Rattle.ip_rewrite.proofs.ChainLemmas.{AreHeaders, NoZero, joined_chain, joined_leads}
-use Rattle.ip_rewrite.proofs.FieldLemmas.{word_len, word_other, word_is, range_same}
+use Rattle.ip_base.proofs.ChecksumLemmas.{word_len, word_other}
+use Rattle.ip_rewrite.proofs.FieldLemmas.{word_is, range_same}
 use Rattle.ip_rewrite.proofs.Ipv6Lemmas.{same_parts, all_stated, none_missing}
 
 -- a total length of 0, or of all bytes, isn't too short

@@ -12,7 +12,9 @@ pub mod PayloadLemmas
 pub mod ClearingLemmas
 pub mod InsertionLemmas
 pub mod RestoringLemmas
+pub mod ChecksumLawLemmas
 pub mod RestatedLemmas
 pub mod AcceptedLemmas
 pub mod OrderLemmas
 pub mod OrderLawLemmas
+pub mod OrderingLemmas

@@ -1,22 +1,14 @@
 -- A packet with its headers in the recommended order.
-use Rattle.ip_spec.proofs.Common.{zero, suc, ◌≡◌, ℕ, ◌+◌, ◌≤◌, ◌<◌, ◌⊎◌, List, [], ◌∷◌, ◌++◌, length, drop, inl, inr, subst, refl, sym, ◌∙◌, ap, arith, common_steps, Bool, true, false, false≢true, cases_Bool, eqb-true, eq-eqb, cond-true, cond-false, if◌then◌else◌, or-false, and-true, ◌&&◌, ◌||◌, ◌==◌, nat_lt, nat_le, list_any, length-append, append_assoc, All-from_recursion, recursion_from_All, AllByRecursion, Option, Some, None, option_or, IsHeader, ExtHeader, bytes_of, HOP_BY_HOP, ROUTING, FRAGMENT, AUTHENTICATION}
+use Rattle.ip_spec.proofs.Common.{zero, suc, ◌≡◌, ℕ, ◌+◌, ◌≤◌, ◌<◌, ◌⊎◌, List, [], ◌∷◌, ◌++◌, length, drop, inl, inr, subst, refl, sym, ◌∙◌, ap, arith, common_steps, Bool, true, false, false≢true, cases_Bool, eqb-true, eq-eqb, cond-true, cond-false, if◌then◌else◌, or-false, and-true, ◌&&◌, ◌||◌, ◌==◌, nat_lt, nat_le, list_any, length-append, append_assoc, All-from_recursion, recursion_from_All, AllByRecursion, Option, Some, None, option_or, ExtHeader, bytes_of, HOP_BY_HOP, ROUTING, FRAGMENT, AUTHENTICATION}
 use Rattle.ip_spec.specs.Numbers.{DESTINATION_OPTIONS}
 use Rattle.std.specs.Prelude.{IsPermutation, unwrap_or}
 use Rattle.std.proofs.Math.Bool.{or-true}
 use Rattle.std.proofs.lemmas.List.Concat.{length-flat_map}
 use Rattle.std.proofs.lemmas.List.Sorted.{IsPermutation-refl, IsPermutation-sym, IsPermutation-trans, IsPermutation-cons, IsPermutation-middle, IsPermutation-append_left, length_permutation, All-permutation, sum_by-IsPermutation}
-use Rattle.ip_dissect.specs.LaterDemand.{is_later, has_later}
-use Rattle.ip_dissect.specs.Dissection.{DissectedParts, dissected}
-use Rattle.ip_dissect.specs.Outline.{IsBaseOf}
-use Rattle.ip_dissect.specs.declared.dissection.BaseHeader.{BaseHeader}
-use Rattle.ip_rewrite.specs.Rewritten.{rewritten, rewritten_parts}
-use Rattle.ip_rewrite.specs.Without.{packet_fault}
-use Rattle.ip_rewrite.specs.Order.{is_routing, rank_of, rank, of_rank, in_order, rises_from, is_in_order, recommended_index, order_fault, ordering_fault}
+use Rattle.ip_rewrite.specs.Order.{is_routing, rank_of, rank, of_rank, in_order, rises_from, is_in_order, recommended_index}
 use Rattle.ip_rewrite.specs.Writing.{routing_index, rank_at, of_rank_from, below_rank, last_rank, rises_at, first_above}
-use Rattle.ip_rewrite.specs.declared.which.Authentication.{Authentication}
 use Rattle.ip_rewrite.proofs.ChainLemmas.{NoZero}
 use Rattle.ip_rewrite.proofs.SurveyLemmas.{any_last}
-use Rattle.ip_rewrite.proofs.DissectLemmas.{none_first, IsWholeChain, whole_chain, changed}
 
 -- one more header
 any_more : (b : Bool) (c : List ExtHeader) (h : ExtHeader) → is_routing h ≡ b → list_any is_routing (c ++ h ∷ []) ≡ (list_any is_routing c || b)
@@ -181,10 +173,10 @@ ordered_permutation (h ∷ c) = IsPermutation-trans (h ∷ c) (h ∷ in_order c)
 pub ordered_len : (c : List ExtHeader) → length (bytes_of (in_order c)) ≡ length (bytes_of c)
 ordered_len c = length-flat_map (λ h. h.bytes) (in_order c) ∙ (sum_by-IsPermutation (λ h. length h.bytes) c (in_order c) (ordered_permutation c) ∙ sym (length-flat_map (λ h. h.bytes) c))
 
-all_ordered : (P : ExtHeader → Type 0) (c : List ExtHeader) → AllByRecursion P c → AllByRecursion P (in_order c)
+pub all_ordered : (P : ExtHeader → Type 0) (c : List ExtHeader) → AllByRecursion P c → AllByRecursion P (in_order c)
 all_ordered P c a = recursion_from_All P (in_order c) (All-permutation P c (in_order c) (ordered_permutation c) (All-from_recursion P c a))
 
-ordered_count : (c : List ExtHeader) → length (in_order c) ≡ length c
+pub ordered_count : (c : List ExtHeader) → length (in_order c) ≡ length c
 ordered_count c = length_permutation c (in_order c) (ordered_permutation c)
 
 -- Hop-by-hop options are only first.
@@ -229,42 +221,12 @@ rest c = of_rank 1 c ++ of_rank 2 c ++ of_rank 3 c ++ of_rank 4 c
 split : (c : List ExtHeader) → in_order c ≡ of_rank 0 c ++ rest c
 split c = simp append_assoc
 
-zero_first : (c : List ExtHeader) → NoZero (drop 1 c) → NoZero (drop 1 (in_order c))
+pub zero_first : (c : List ExtHeader) → NoZero (drop 1 c) → NoZero (drop 1 (in_order c))
 zero_first [] a = tt
 zero_first (h ∷ c) a = subst (λ x. NoZero (drop 1 x)) (sym (split (h ∷ c))) (elim (cases_Bool (rank h c == 0)) [
   | inl s ↦ subst (λ x. NoZero (drop 1 (x ++ rest (h ∷ c)))) (sym (cond-true (rank h c == 0) (h ∷ of_rank 0 c) (of_rank 0 c) s ∙ ap (λ x. h ∷ x) (no_first c a))) (no_zero_rest (h ∷ c))
   | inr s ↦ subst (λ x. NoZero (drop 1 (x ++ rest (h ∷ c)))) (sym (cond-false (rank h c == 0) (h ∷ of_rank 0 c) (of_rank 0 c) s ∙ no_first c a)) (fewer (rest (h ∷ c)) (no_zero_rest (h ∷ c)))
 ])
-
--- no header is that of a later fragment
-none_later : (c : List ExtHeader) → has_later c ≡ false → AllByRecursion (λ h. is_later h ≡ false) c
-none_later [] e = tt
-none_later (h ∷ c) e = (first (is_later h) (has_later c) e, none_later c (second (is_later h) (has_later c) e))
-  where
-    first : (a b : Bool) → (a || b) ≡ false → a ≡ false
-    first true b e = absurd (false≢true (sym e))
-    first false b e = refl
-
-later_none : (c : List ExtHeader) → AllByRecursion (λ h. is_later h ≡ false) c → has_later c ≡ false
-later_none [] a = refl
-later_none (h ∷ c) a = rw (a.0, later_none c a.1) refl
-
-pub ordering_dissects : (a : Authentication) (room : ℕ) (s : List ℕ) (o : Option BaseHeader) → IsBaseOf s o → ordering_fault a (dissected s) room ≡ None
-    → dissected (rewritten (dissected s) (in_order (dissected s).headers) (dissected s).number (dissected s).payload) ≡ rewritten_parts (dissected s) (in_order (dissected s).headers) (dissected s).number (dissected s).payload
-ordering_dissects a room s o is e =
-    let p : DissectedParts = dissected s in
-    let c : List ExtHeader = p.headers in
-    let first = none_first (packet_fault p) _ e in
-    let rest = none_first (order_fault a p) _ first.1 in
-    let chain : IsWholeChain p = whole_chain s o is first.0 in
-    changed (in_order c) p.number p.payload room s o is first.0 (record {
-      headers = all_ordered (λ g. IsHeader g.number g.bytes) c chain.chain.headers;
-      zero = zero_first c chain.chain.zero_only_first;
-      later = later_none (in_order c) (all_ordered (λ g. is_later g ≡ false) c (none_later c chain.later));
-      ipv6 = chain.ipv6;
-      ipv4 = λ v. record { one = omega (arith, (chain.ipv4 v).one, ordered_count c); number = all_ordered (λ g. g.number ≡ 51) c (chain.ipv4 v).number };
-      last = λ v n. omega (arith, chain.last v n, ordered_count c);
-    }) rest.1
 
 -- The headers of the ranks below k are no longer than all.
 bytes_joined : (c d : List ExtHeader) → length (bytes_of (c ++ d)) ≡ length (bytes_of c) + length (bytes_of d)

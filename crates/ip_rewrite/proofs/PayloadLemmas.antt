@@ -62,7 +62,8 @@ payload_dissects a m q room s o is e =
       headers = chain.chain.headers;
       zero = chain.chain.zero_only_first;
       later = chain.later;
-      ipv6 = λ v. not_extension p.version p.headers m v other;
+      demand = chain.demand;
+      ipv6 = λ v none. not_extension p.version p.headers m v other;
       ipv4 = chain.ipv4;
       last = λ v n. some_before p.version p.headers m v n other;
     }) second.1

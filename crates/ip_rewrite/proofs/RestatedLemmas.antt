@@ -6,8 +6,7 @@ use Rattle.std.proofs.lemmas.List.{set-get_or}
 use Rattle.ip_base.specs.Ipv4Header.{ipv4_header_len, total_len, protocol}
 use Rattle.ip_base.specs.Ipv6Header.{payload_length, ipv6_next_header}
 use Rattle.ip_base.specs.BaseHeaderFields.{ipv4_checksum}
-use Rattle.ip_defragmenter.specs.Whole.{with_word}
-use Rattle.ip_defragmenter.specs.Checksum.{checksum_of}
+use Rattle.ip_base.specs.Checksum.{with_word, checksum_of}
 use Rattle.ip_dissect.specs.Extent.{packet_bytes, missing_of, ipv4_stated, ipv6_stated, ipv4_chain, ipv6_chain}
 use Rattle.ip_dissect.specs.End.{has_error, is_too_short}
 use Rattle.ip_dissect.specs.Dissection.{DissectedParts, ipv4_dissected, ipv6_dissected, dissected}

@@ -4,8 +4,7 @@ use Rattle.std.proofs.lemmas.List.{set-set, set_comm, set-get_or}
 use Rattle.ip_spec.proofs.HeaderLemmas.{header-least}
 use Rattle.ip_base.specs.Ipv4Header.{version, ipv4_header_len, total_len}
 use Rattle.ip_base.specs.Ipv6Header.{payload_length}
-use Rattle.ip_defragmenter.specs.Whole.{with_word}
-use Rattle.ip_defragmenter.specs.Checksum.{checksum_of}
+use Rattle.ip_base.specs.Checksum.{with_word, checksum_of}
 use Rattle.ip_dissect.specs.End.{base_end}
 use Rattle.ip_dissect.specs.Dissection.{DissectedParts, ipv4_dissected, ipv6_dissected, dissected}
 use Rattle.ip_dissect.specs.declared.end.End.{End}

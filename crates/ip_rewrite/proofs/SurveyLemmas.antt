@@ -3,7 +3,7 @@ use Rattle.ip_spec.proofs.Common.{◌≡◌, ℕ, ◌+◌, ◌≤◌, ◌<◌, �
 use Rattle.std.proofs.lemmas.List.Folds.{list_any-append}
 use Rattle.ip_dissect.specs.Fragment.{fragments}
 use Rattle.ip_rewrite.specs.Selection.{selects, kept_from, kept, any_selected, selects_fragmented}
-use Rattle.ip_rewrite.specs.Without.{is_authentication, has_segments}
+use Rattle.ip_rewrite.specs.Without.{is_authentication, has_segments, is_covered, selects_covered}
 use Rattle.ip_rewrite.specs.Writing.{facts_of, surveyed, surveyed_one}
 use Rattle.ip_rewrite.specs.declared.which.Which.{Which}
 use Rattle.ip_rewrite.specs.declared.survey.Survey.{Survey}
@@ -44,6 +44,18 @@ fragmented_more w i j after (g ∷ c) h at =
     ∙ (sym (or_assoc mine later (((after || fragments g) || list_any fragments c) && selects w j h))
     ∙ ap (λ b. (mine || later) || b && selects w j h) (or_assoc after (fragments g) (list_any fragments c)))
 
+covered_more : (w : Which) (i j : ℕ) (after : Bool) (c : List ExtHeader) (h : ExtHeader) → j ≡ i + length c → selects_covered w i after (c ++ h ∷ []) ≡ (selects_covered w i after c || selects w j h && is_covered (after || list_any is_authentication c) h)
+covered_more w i j after [] h at =
+    let e : j ≡ i = omega arith in
+    or-false (selects w i h && is_covered after h) ∙ (ap (λ k. selects w k h && is_covered after h) (sym e) ∙ ap (λ b. selects w j h && is_covered b h) (sym (or-false after)))
+covered_more w i j after (g ∷ c) h at =
+    let e : j ≡ i + 1 + length c = omega arith in
+    let mine : Bool = selects w i g && is_covered after g in
+    let later : Bool = selects_covered w (i + 1) (after || is_authentication g) c in
+    ap (λ x. mine || x) (covered_more w (i + 1) j (after || is_authentication g) c h e)
+    ∙ (sym (or_assoc mine later (selects w j h && is_covered ((after || is_authentication g) || list_any is_authentication c) h))
+    ∙ ap (λ b. (mine || later) || selects w j h && is_covered b h) (or_assoc after (is_authentication g) (list_any is_authentication c)))
+
 pub any_last : (t : ExtHeader → Bool) (c : List ExtHeader) (h : ExtHeader) → list_any t (c ++ h ∷ []) ≡ (list_any t c || t h)
 any_last t c h = list_any-append t c (h ∷ []) ∙ ap (λ x. list_any t c || x) (or-false (t h))
 
@@ -69,9 +81,9 @@ joined_or a b x y e = or_assoc a b x ∙ ap (λ z. a || z) (sym e)
 pub more_or : (old now result fresh x any all : Bool) → now ≡ (old || any) → fresh ≡ x → result ≡ (now || fresh) → all ≡ (any || x) → result ≡ (old || all)
 more_or old now result fresh x any all before is sum whole = sum ∙ (ap (λ z. z || fresh) before ∙ (ap (λ z. (old || any) || z) is ∙ joined_or old any x all whole))
 
-pub same_survey : (v u : Survey) → v.which ≡ u.which → v.selects ≡ u.selects → v.selects_fragmenting ≡ u.selects_fragmenting → v.selects_fragmented ≡ u.selects_fragmented → v.selects_segments ≡ u.selects_segments
-    → v.is_fragmented ≡ u.is_fragmented → v.keeps_authentication ≡ u.keeps_authentication → v.kept_len ≡ u.kept_len → v ≡ u
-same_survey v u a b d e f g h i = rw (a, b, d, e, f, g, h, i) refl
+pub same_survey : (v u : Survey) → v.which ≡ u.which → v.selects ≡ u.selects → v.selects_fragmenting ≡ u.selects_fragmenting → v.selects_fragmented ≡ u.selects_fragmented → v.selects_covered ≡ u.selects_covered → v.selects_segments ≡ u.selects_segments
+    → v.is_fragmented ≡ u.is_fragmented → v.has_authentication ≡ u.has_authentication → v.keeps_authentication ≡ u.keeps_authentication → v.kept_len ≡ u.kept_len → v ≡ u
+same_survey v u a b d e f g h i j k = rw (a, b, d, e, f, g, h, i, j, k) refl
 
 pub survey_more : (v : Survey) (c : List ExtHeader) (h : ExtHeader) → surveyed_one (surveyed v c) (facts_of v.which (length c) h) ≡ surveyed v (c ++ h ∷ [])
 survey_more v c h =
@@ -82,8 +94,10 @@ survey_more v c h =
     (joined_or v.selects (any_selected (λ k. true) w 0 c) (selects w j h) (any_selected (λ k. true) w 0 (c ++ h ∷ [])) (any_more (λ k. true) w 0 j c h at ∙ ap (λ b. any_selected (λ k. true) w 0 c || b) (and-true (selects w j h))))
     (joined_or v.selects_fragmenting (any_selected fragments w 0 c) (selects w j h && fragments h) (any_selected fragments w 0 (c ++ h ∷ [])) (any_more fragments w 0 j c h at))
     (joined_or v.selects_fragmented (selects_fragmented w 0 v.is_fragmented c) ((v.is_fragmented || list_any fragments c) && selects w j h) (selects_fragmented w 0 v.is_fragmented (c ++ h ∷ [])) (fragmented_more w 0 j v.is_fragmented c h at))
+    (joined_or v.selects_covered (selects_covered w 0 v.has_authentication c) (selects w j h && is_covered (v.has_authentication || list_any is_authentication c) h) (selects_covered w 0 v.has_authentication (c ++ h ∷ [])) (covered_more w 0 j v.has_authentication c h at))
     (joined_or v.selects_segments (any_selected has_segments w 0 c) (selects w j h && has_segments h) (any_selected has_segments w 0 (c ++ h ∷ [])) (any_more has_segments w 0 j c h at))
     (joined_or v.is_fragmented (list_any fragments c) (fragments h) (list_any fragments (c ++ h ∷ [])) (any_last fragments c h))
+    (joined_or v.has_authentication (list_any is_authentication c) (is_authentication h) (list_any is_authentication (c ++ h ∷ [])) (any_last is_authentication c h))
     (joined_or v.keeps_authentication (list_any is_authentication (kept w c)) (not (selects w j h) && is_authentication h) (list_any is_authentication (kept w (c ++ h ∷ []))) (kept_any is_authentication w j c h at))
     (kept_size w j v.kept_len c h at)
 

@@ -1,7 +1,6 @@
 -- A base header with another length and another number of what follows it (RFC 791, section 3.1; RFC 8200, section 3).
 use Rattle.std.specs.Prelude.{ℕ, ◌+◌, Bool, List, length, slice_set, ◌==◌, if◌then◌else◌}
-use Rattle.ip_defragmenter.specs.Checksum.{checksum_of}
-use Rattle.ip_defragmenter.specs.Whole.{with_word}
+use Rattle.ip_base.specs.Checksum.{checksum_of, with_word}
 
 -- the offset in the base header of version v of the number of what follows it: IPv4's protocol, IPv6's next header
 abbrev pub number_offset : ℕ → ℕ

@@ -26,12 +26,18 @@ abbrev pub reserved_fragmented : Bool → List ExtHeader → Bool
 reserved_fragmented after [] = false
 reserved_fragmented after (h ∷ c) = after && has_reserved h || reserved_fragmented (after || fragments h) c
 
+-- such a header is an authentication header or follows one, which covers it; `after` says that one precedes all of them. A
+-- fragment header before it isn't covered (RFC 4302, sections 3.3.4 and 3.4.1).
+abbrev pub reserved_covered : Bool → List ExtHeader → Bool
+reserved_covered after [] = false
+reserved_covered after (h ∷ c) = (after || is_authentication h) && has_reserved h || reserved_covered (after || is_authentication h) c
+
 -- why the reserved bits can't be cleared: one of them is in the part that is fragmented; or one is 1 and an authentication
--- header covers it (RFC 4302, section 3.3.3)
+-- header covers it
 abbrev pub reserved_fault : Authentication → DissectedParts → Option RewriteError
 reserved_fault a p =
     if is_ipv4_fragment p && list_any has_reserved p.headers || reserved_fragmented false p.headers then Some err.Fragmented
-    else if list_any is_authentication p.headers && list_any has_reserved p.headers && not (may_be_invalid a) then Some err.Authenticated
+    else if reserved_covered false p.headers && not (may_be_invalid a) then Some err.Authenticated
     else None
 
 -- why the packet can't be written with cleared reserved bits into so many bytes

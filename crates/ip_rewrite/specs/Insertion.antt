@@ -7,7 +7,7 @@ use Rattle.ip_spec.specs.Chain.{ExtHeader, is_empty}
 use Rattle.ip_dissect.specs.Fragment.{fragments}
 use Rattle.ip_dissect.specs.Dissection.{DissectedParts}
 use Rattle.ip_rewrite.specs.Rewritten.{is_extension, room_fault}
-use Rattle.ip_rewrite.specs.Without.{is_authentication, packet_fault, is_ipv4_fragment, may_be_invalid}
+use Rattle.ip_rewrite.specs.Without.{is_authentication, has_authentication, packet_fault, is_ipv4_fragment, may_be_invalid}
 use Rattle.ip_rewrite.specs.declared.which.Authentication.{Authentication}
 use Rattle.ip_rewrite.specs.declared.err.RewriteError.{RewriteError}
 use Rattle.ip_rewrite.specs.declared.err.RewriteError.TheVariants as err
@@ -44,7 +44,7 @@ header_fault a i h p =
     else if fragments h then Some err.FragmentHeader
     else if is_misplaced i h p then Some err.Misplaced
     else if is_ipv4_fragment p || list_any fragments (take i p.headers) then Some err.Fragmented
-    else if list_any is_authentication p.headers && not (may_be_invalid a) then Some err.Authenticated
+    else if has_authentication p p.headers && not (may_be_invalid a) then Some err.Authenticated
     else None
 
 -- why the packet can't be written with the header into so many bytes

@@ -8,7 +8,7 @@ use Rattle.ip_dissect.specs.Dissection.{DissectedParts}
 use Rattle.ip_rewrite.specs.Headers.{number_of_first, linked_headers}
 use Rattle.ip_rewrite.specs.Base.{length_field, base_stating, base_before}
 use Rattle.ip_rewrite.specs.declared.err.RewriteError.{RewriteError}
-use Rattle.ip_rewrite.specs.declared.err.RewriteError.TheVariants.{TooLong, NoRoom}
+use Rattle.ip_rewrite.specs.declared.err.RewriteError.TheVariants.{NoLength, TooLong, NoRoom}
 
 -- The packet states no length: its length field is 0 although bytes follow the base header, as in a jumbogram (RFC 2675)
 -- or a packet captured before segmentation offload. The field stays 0.
@@ -47,10 +47,18 @@ rewritten_field p c q = length_field p.version (is_unstated p) p.base (length (b
 abbrev pub restated : DissectedParts → List ℕ
 restated p = base_stating p.version p.base (rewritten_field p p.headers p.payload) ++ bytes_of p.headers ++ p.payload
 
--- why it can't be written into so many bytes: its length field has 16 bits, or it is longer
+-- The packet states no length, and its length changes. That of a jumbogram is stated in an option (RFC 2675, section 2), and
+-- of another packet it isn't known whether all bytes belong to it.
+abbrev pub changes_unstated : DissectedParts → List ExtHeader → List ℕ → Bool
+changes_unstated p c q =
+    is_unstated p && not (length (bytes_of c) + length q == length (bytes_of p.headers) + length p.payload)
+
+-- why it can't be written into so many bytes: its length isn't stated and changes, its length field has 16 bits, or it is
+-- longer
 abbrev pub room_fault : DissectedParts → List ExtHeader → List ℕ → ℕ → Option RewriteError
 room_fault p c q room =
-    if nat_lt 65535 (rewritten_field p c q) then Some TooLong
+    if changes_unstated p c q then Some NoLength
+    else if nat_lt 65535 (rewritten_field p c q) then Some TooLong
     else if nat_lt room (rewritten_len p c q) then Some NoRoom
     else None
 

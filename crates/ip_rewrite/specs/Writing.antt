@@ -1,12 +1,13 @@
 -- What is known while a packet is written.
 use Rattle.std.specs.Prelude.{◌≡◌, ◌<◌, nat_lt, nat_le, ℕ, zero, suc, ◌+◌, Bool, ◌==◌, true, false, ◌||◌, ◌&&◌, not, ◌++◌, List, [], ◌∷◌, length, drop, slice_set, slice_index, Option, Some, None, if◌then◌else◌}
 use Rattle.std.specs.List.{list_any, AllByRecursion}
+use Rattle.ip_spec.specs.Numbers.{FRAGMENT}
 use Rattle.ip_spec.specs.Header.{IsHeader}
 use Rattle.ip_spec.specs.Chain.{ExtHeader, bytes_of, leads_to}
 use Rattle.ip_dissect.specs.Fragment.{fragments}
 use Rattle.ip_rewrite.specs.Headers.{number_of_first, linked_headers}
 use Rattle.ip_rewrite.specs.Selection.{selects, kept, any_selected, selects_fragmented}
-use Rattle.ip_rewrite.specs.Without.{is_authentication, has_segments}
+use Rattle.ip_rewrite.specs.Without.{is_authentication, has_segments, selects_covered}
 use Rattle.ip_rewrite.specs.Insertion.{inserted}
 use Rattle.ip_rewrite.specs.Order.{is_routing, rank_of}
 use Rattle.ip_rewrite.specs.declared.which.Which.{Which}
@@ -18,6 +19,7 @@ abbrev pub facts_of : Which → ℕ → ExtHeader → HeaderFacts
 facts_of w i h = record {
   is_selected = selects w i h;
   fragments = fragments h;
+  is_fragment_header = h.number == FRAGMENT;
   authenticates = is_authentication h;
   has_segments = has_segments h;
   len = length h.bytes;
@@ -30,8 +32,10 @@ no_survey w = record {
   selects = false;
   selects_fragmenting = false;
   selects_fragmented = false;
+  selects_covered = false;
   selects_segments = false;
   is_fragmented = false;
+  has_authentication = false;
   keeps_authentication = false;
   kept_len = 0;
 }
@@ -42,8 +46,10 @@ surveyed_one v s = record v {
   selects = v.selects || s.is_selected;
   selects_fragmenting = v.selects_fragmenting || s.is_selected && s.fragments;
   selects_fragmented = v.selects_fragmented || v.is_fragmented && s.is_selected;
+  selects_covered = v.selects_covered || s.is_selected && (v.has_authentication || not s.is_fragment_header);
   selects_segments = v.selects_segments || s.is_selected && s.has_segments;
   is_fragmented = v.is_fragmented || s.fragments;
+  has_authentication = v.has_authentication || s.authenticates;
   keeps_authentication = v.keeps_authentication || not s.is_selected && s.authenticates;
   kept_len = if s.is_selected then v.kept_len else v.kept_len + s.len;
 }
@@ -54,8 +60,10 @@ surveyed v c = record v {
   selects = v.selects || any_selected (λ h. true) v.which 0 c;
   selects_fragmenting = v.selects_fragmenting || any_selected fragments v.which 0 c;
   selects_fragmented = v.selects_fragmented || selects_fragmented v.which 0 v.is_fragmented c;
+  selects_covered = v.selects_covered || selects_covered v.which 0 v.has_authentication c;
   selects_segments = v.selects_segments || any_selected has_segments v.which 0 c;
   is_fragmented = v.is_fragmented || list_any fragments c;
+  has_authentication = v.has_authentication || list_any is_authentication c;
   keeps_authentication = v.keeps_authentication || list_any is_authentication (kept v.which c);
   kept_len = v.kept_len + length (bytes_of (kept v.which c));
 }

@@ -2,7 +2,7 @@
 ghost use Rattle.std.specs.Prelude.{◌≡◌, ◌≤◌, ◌==◌, if◌then◌else◌, length};
 ghost use Rattle.ip_rewrite.specs.Base.{base_stating, ipv4_stating};
 
-use crate::checksum::{checksum, put_word};
+use ip_base::{internet_checksum, put_word};
 
 /// Sets the total length and the checksum of an IPv4 base header (RFC 791, section 3.1).
 fn state_ipv4(base: &mut [u8], total_len: u16)
@@ -11,7 +11,7 @@ fn state_ipv4(base: &mut [u8], total_len: u16)
 {
     put_word(base, 2, total_len);
     put_word(base, 10, 0);
-    let sum = checksum(base);
+    let sum = internet_checksum(base);
     put_word(base, 10, sum);
 }
 

@@ -11,7 +11,7 @@ ghost use Rattle.ip_dissect.specs.Fragment.{fragments};
 ghost use Rattle.ip_dissect.specs.Outline.{outline_of};
 ghost use Rattle.ip_rewrite.specs.Rewritten.{rewritten, rewritten_len, rewritten_field, rewritten_parts};
 ghost use Rattle.ip_rewrite.specs.Without.{is_authentication, packet_fault};
-ghost use Rattle.ip_rewrite.specs.Clearing.{has_reserved, reserved_fragmented, reserved_fault, clearing_fault};
+ghost use Rattle.ip_rewrite.specs.Clearing.{has_reserved, reserved_fragmented, reserved_covered, reserved_fault, clearing_fault};
 ghost use Rattle.ip_rewrite.specs.Writing.{link_of};
 
 use crate::removal::test_packet;
@@ -32,6 +32,8 @@ struct Reserved {
     is_set: bool,
     /// Some bit is 1 in a header that is fragmented.
     is_set_fragmented: bool,
+    /// Some bit is 1 in a header that an authentication header covers.
+    is_set_covered: bool,
     /// The offset of the last header.
     last: usize,
 }
@@ -42,6 +44,7 @@ impl HeaderVisitor for Reserved {
         × (new.is_fragmented ≡ (old.is_fragmented || list_any fragments c))
         × (new.is_set ≡ (old.is_set || list_any has_reserved c))
         × (new.is_set_fragmented ≡ (old.is_set_fragmented || reserved_fragmented old.is_fragmented c))
+        × (new.is_set_covered ≡ (old.is_set_covered || reserved_covered old.has_authentication c))
         × ((b : List ℕ) → k ≡ length b → new.last ≡ link_of old.last b c) };
 
     ghost none = { λ v k. Prim.search rules };
@@ -52,6 +55,7 @@ impl HeaderVisitor for Reserved {
         self.has_authentication |= number == ip_number::AUTH;
         self.is_set |= is_set;
         self.is_set_fragmented |= self.is_fragmented & is_set;
+        self.is_set_covered |= self.has_authentication & is_set;
         self.is_fragmented |= fragments(number, header);
         self.last = offset;
     }
@@ -125,16 +129,16 @@ fn test_reserved(
     authentication: Authentication,
 ) -> Result<(), RewriteError>
     ensures { (p : DissectedParts) → outline.now ≡ outline_of p
-        → reserved.now.has_authentication ≡ list_any is_authentication p.headers
         → reserved.now.is_set ≡ list_any has_reserved p.headers
         → reserved.now.is_set_fragmented ≡ reserved_fragmented false p.headers
+        → reserved.now.is_set_covered ≡ reserved_covered false p.headers
         → result_err result ≡ reserved_fault authentication p }
 {
     let is_fragment = outline.version == 4 && outline.fragment.is_some();
     if is_fragment & reserved.is_set | reserved.is_set_fragmented {
         return Err(RewriteError::Fragmented);
     }
-    if reserved.has_authentication & reserved.is_set && authentication == Authentication::Valid {
+    if reserved.is_set_covered && authentication == Authentication::Valid {
         return Err(RewriteError::Authenticated);
     }
     Ok(())
@@ -148,11 +152,11 @@ fn test(
     authentication: Authentication,
     room: usize,
 ) -> Result<u16, RewriteError>
-    requires authentication { reserved.now.has_authentication
-        ≡ list_any is_authentication (dissected packet.now.bytes.now).headers }
     requires set { reserved.now.is_set ≡ list_any has_reserved (dissected packet.now.bytes.now).headers }
     requires fragmented { reserved.now.is_set_fragmented
         ≡ reserved_fragmented false (dissected packet.now.bytes.now).headers }
+    requires covered { reserved.now.is_set_covered
+        ≡ reserved_covered false (dissected packet.now.bytes.now).headers }
     requires small { length packet.now.bytes.now < 2 ^ 64 }
     ensures fault { result_err result ≡ clearing_fault authentication (dissected packet.now.bytes.now) room }
     ensures field { IfOk result (λ n. n ≡ rewritten_field (dissected packet.now.bytes.now)
@@ -241,6 +245,7 @@ pub fn cleared(
         is_fragmented: false,
         is_set: false,
         is_set_fragmented: false,
+        is_set_covered: false,
         last: 0,
     };
     let packet = Packet::walk(packet, &mut reserved);

@@ -11,7 +11,7 @@ pub enum RewriteError {
     /// Fewer bytes are here than the base header states.
     #[error("bytes of the packet are missing")]
     Missing,
-    /// The packet is a fragment with an offset other than 0: it has no chain of its own (RFC 8200, section 4.5).
+    /// The packet is an IPv4 fragment with an offset other than 0: no header precedes what is fragmented (RFC 791, section 3.2).
     #[error("the packet is a later fragment")]
     LaterFragment,
     /// The bytes aren't one extension header of the number, or it can't be in a packet of the version.
@@ -35,6 +35,9 @@ pub enum RewriteError {
     /// The payload would be read as an extension header.
     #[error("the payload would be read as an extension header")]
     HeaderFollows,
+    /// The length would change, and the length field doesn't state it: it is 0 as in a jumbogram (RFC 2675).
+    #[error("the packet states no length")]
+    NoLength,
     /// The length field can't state the length of the packet (RFC 791, section 3.1; RFC 8200, section 3).
     #[error("the packet is too long for its length field")]
     TooLong,

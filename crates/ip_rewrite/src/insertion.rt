@@ -15,7 +15,7 @@ ghost use Rattle.ip_rewrite.specs.Writing.{AreWritten, inserted_so_far};
 
 use crate::keeper::{append, put_at};
 use crate::payload::is_extension_number;
-use crate::removal::test_packet;
+use crate::removal::{authentication_follows, test_packet};
 use crate::survey::{fragments, has_segments};
 use crate::write::{base_of, finish, number_offset, test_room};
 use crate::{Authentication, RewriteError, Rewritten};
@@ -181,7 +181,8 @@ fn test_header(
     if is_ipv4 & outline.fragment.is_some() | around.is_fragmented {
         return Err(RewriteError::Fragmented);
     }
-    if around.has_authentication && authentication == Authentication::Valid {
+    let has_authentication = around.has_authentication | authentication_follows(outline);
+    if has_authentication && authentication == Authentication::Valid {
         return Err(RewriteError::Authenticated);
     }
     Ok(())

@@ -2,8 +2,7 @@
 ghost use Rattle.std.specs.Prelude.{◌≡◌, ◌++◌, None, true, is_some};
 ghost use Rattle.ip_spec.specs.Encoding.{AreBytes};
 ghost use Rattle.ip_base.specs.BaseHeaderFields.{ipv4_checksum};
-ghost use Rattle.ip_defragmenter.specs.Checksum.{checksum_of};
-ghost use Rattle.ip_defragmenter.specs.Whole.{with_word};
+ghost use Rattle.ip_base.specs.Checksum.{checksum_of, with_word};
 ghost use Rattle.ip_dissect.specs.Dissection.{dissected};
 ghost use Rattle.ip_rewrite.specs.Rewritten.{rewritten_parts, restated};
 ghost use Rattle.ip_rewrite.specs.Without.{packet_fault, without, without_fault};

@@ -2,7 +2,7 @@
 #![tactic(auto)]
 
 mod base;
-mod checksum;
+mod checksum_laws;
 mod clearing;
 mod err;
 mod first_header;
@@ -17,10 +17,13 @@ mod place;
 mod removal;
 mod survey;
 #[cfg(test)]
+mod test_packets;
+#[cfg(test)]
 mod tests;
 mod which;
 mod write;
 
+pub use checksum_laws::written_checksums_are_right;
 pub use clearing::cleared;
 pub use err::RewriteError;
 pub use insertion::with_header;

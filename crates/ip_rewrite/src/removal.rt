@@ -1,8 +1,9 @@
 //! Packets without some of their extension headers.
-ghost use Rattle.std.specs.Prelude.{◌≡◌, ◌≤◌, ◌<◌, ◌+◌, ◌^◌, ◌++◌, ◌==◌, ℕ, List, length, drop, take, false, if◌then◌else◌, IfOk, IfSome, OnOk, OnErr};
+ghost use Rattle.std.specs.Prelude.{◌≡◌, ◌≤◌, ◌<◌, ◌+◌, ◌^◌, ◌++◌, ◌==◌, ◌&&◌, ℕ, List, length, drop, take, false, if◌then◌else◌, IfOk, IfSome, OnOk, OnErr};
 ghost use Rattle.std.specs.Result.{result_err};
 ghost use Rattle.ip_dissect.specs.Dissection.{DissectedParts, dissected};
-ghost use Rattle.ip_dissect.specs.Outline.{outline_of};
+ghost use Rattle.ip_spec.specs.Numbers.{AUTHENTICATION};
+ghost use Rattle.ip_dissect.specs.Outline.{is_later_end, outline_of};
 ghost use Rattle.ip_rewrite.specs.Rewritten.{rewritten_field};
 ghost use Rattle.ip_rewrite.specs.Selection.{kept};
 ghost use Rattle.ip_rewrite.specs.Without.{packet_fault, selection_fault, without, len_without, parts_without, without_fault, keeps_checksums};
@@ -38,10 +39,19 @@ pub(crate) fn test_packet(outline: &Outline) -> Result<(), RewriteError>
     if outline.missing != 0 {
         return Err(RewriteError::Missing);
     }
-    if outline.is_later_fragment {
+    if outline.version == 4 && outline.is_later_fragment {
         return Err(RewriteError::LaterFragment);
     }
     Ok(())
+}
+
+/// Returns whether an authentication header follows the headers in the part that is fragmented.
+#[inline(always)]
+pub(crate) fn authentication_follows(outline: &Outline) -> bool
+    ensures { (p : DissectedParts) → outline.now ≡ outline_of p
+        → result ≡ (is_later_end p.end && (p.number == AUTHENTICATION)) }
+{
+    outline.is_later_fragment && outline.next_header == ip_number::AUTH
 }
 
 /// Returns why the headers that are selected can't be left out.
@@ -65,7 +75,9 @@ fn test_selection(
     if is_ipv4 & outline.fragment.is_some() | survey.selects_fragmented {
         return Err(RewriteError::Fragmented);
     }
-    if survey.keeps_authentication && authentication == Authentication::Valid {
+    let has_authentication = survey.keeps_authentication | authentication_follows(outline);
+    let is_covered = has_authentication & survey.selects_covered;
+    if is_covered && authentication == Authentication::Valid {
         return Err(RewriteError::Authenticated);
     }
     if is_ipv4 && outline.next_header == ip_number::AUTH {

@@ -23,10 +23,14 @@ pub(crate) struct Survey {
     pub(crate) selects_fragmenting: bool,
     /// A header is selected that is fragmented.
     pub(crate) selects_fragmented: bool,
+    /// A header is selected that an authentication header covers if there is one.
+    pub(crate) selects_covered: bool,
     /// A routing header with segments left is selected.
     pub(crate) selects_segments: bool,
     /// What follows is fragmented.
     pub(crate) is_fragmented: bool,
+    /// There is an authentication header.
+    pub(crate) has_authentication: bool,
     /// An authentication header is kept.
     pub(crate) keeps_authentication: bool,
     /// The length in bytes of the headers that are kept.
@@ -40,6 +44,8 @@ pub(crate) struct HeaderFacts {
     pub(crate) is_selected: bool,
     /// It is the fragment header of a fragment.
     pub(crate) fragments: bool,
+    /// It is a fragment header.
+    pub(crate) is_fragment_header: bool,
     /// It is an authentication header.
     pub(crate) authenticates: bool,
     /// It is a routing header with segments left.
@@ -70,6 +76,7 @@ fn facts_of(which: Which, number: IpNumber, header: &[u8], index: usize) -> Head
     HeaderFacts {
         is_selected: which.selects(number, index),
         fragments: fragments(number, header),
+        is_fragment_header: number == ip_number::IPV6_FRAG,
         authenticates: number == ip_number::AUTH,
         has_segments: has_segments(number, header),
         len: header.len(),
@@ -114,8 +121,10 @@ impl Survey {
             selects: false,
             selects_fragmenting: false,
             selects_fragmented: false,
+            selects_covered: false,
             selects_segments: false,
             is_fragmented: false,
+            has_authentication: false,
             keeps_authentication: false,
             kept_len: 0,
         }
@@ -129,8 +138,11 @@ impl Survey {
         self.selects |= facts.is_selected;
         self.selects_fragmenting |= facts.is_selected & facts.fragments;
         self.selects_fragmented |= self.is_fragmented & facts.is_selected;
+        let is_covered = self.has_authentication | !facts.is_fragment_header;
+        self.selects_covered |= facts.is_selected & is_covered;
         self.selects_segments |= facts.is_selected & facts.has_segments;
         self.is_fragmented |= facts.fragments;
+        self.has_authentication |= facts.authenticates;
         self.keeps_authentication |= !facts.is_selected & facts.authenticates;
         if !facts.is_selected {
             self.kept_len = self.kept_len.saturating_add(facts.len);

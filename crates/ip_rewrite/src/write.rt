@@ -5,7 +5,7 @@ ghost use Rattle.ip_spec.specs.Chain.{ExtHeader, bytes_of};
 ghost use Rattle.ip_dissect.specs.Outline.{outline_of};
 ghost use Rattle.ip_dissect.specs.Dissection.{DissectedParts, dissected};
 ghost use Rattle.ip_rewrite.specs.Base.{number_offset};
-ghost use Rattle.ip_rewrite.specs.Rewritten.{rewritten, rewritten_len, rewritten_field, room_fault};
+ghost use Rattle.ip_rewrite.specs.Rewritten.{rewritten, rewritten_len, rewritten_field, changes_unstated, room_fault};
 ghost use Rattle.ip_rewrite.specs.Selection.{kept};
 ghost use Rattle.ip_rewrite.specs.Without.{without, len_without};
 ghost use Rattle.ip_rewrite.specs.Writing.{AreWritten, front_with, link_of};
@@ -36,6 +36,19 @@ fn length_field(outline: &Outline, kept_len: usize, payload_len: usize) -> usize
     }
 }
 
+/// Returns whether a packet states no length, and its length changes to that of so many bytes of extension headers and payload.
+#[inline(always)]
+fn changes_unstated(outline: &Outline, kept_len: usize, payload_len: usize) -> bool
+    requires new { kept_len + payload_len < 2 ^ 64 }
+    requires old { outline.now.extensions_len + outline.now.payload_len < 2 ^ 64 }
+    ensures { (p : DissectedParts) (c : List ExtHeader) (q : List ℕ) → outline.now ≡ outline_of p
+        → kept_len ≡ length (bytes_of c) → payload_len ≡ length q
+        → result ≡ changes_unstated p c q }
+{
+    let len = outline.extensions_len + outline.payload_len;
+    outline.stated_len.is_none() && len != 0 && kept_len + payload_len != len
+}
+
 /// Returns the number for the length field, or why the packet can't be written into `room` bytes.
 #[inline(always)]
 pub(crate) fn test_room(
@@ -54,6 +67,9 @@ pub(crate) fn test_room(
         → n ≡ rewritten_field p c q) }
     ensures fits { OnOk result (outline.now.base_len + kept_len + payload_len ≤ room) }
 {
+    if changes_unstated(outline, kept_len, payload_len) {
+        return Err(RewriteError::NoLength);
+    }
     let field = length_field(outline, kept_len, payload_len);
     if field > 65535 {
         return Err(RewriteError::TooLong);

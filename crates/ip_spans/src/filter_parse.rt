@@ -1,5 +1,5 @@
 //! Filters from their texts.
-ghost use Rattle.std.specs.Prelude.{◌≡◌, IfOk, IfErr, IfSome, IfNone};
+ghost use Rattle.std.specs.Prelude.{◌≡◌, ◌≤◌, IfOk, IfErr, IfSome, IfNone};
 ghost use Rattle.ip_filter.specs.Parsed.{IsParsedFilter, IsFirstError};
 ghost use Rattle.ip_filter.specs.declared.parse_error.Expected.{Expected as WasExpected};
 ghost use Rattle.ip_spans.specs.FilterError.{expected_code};
@@ -21,6 +21,7 @@ pub struct FilterError {
 /// expected where, as that of `parse` does. After an error `filter` is unchanged.
 pub fn parse_filter(text: &[u8], filter: &mut Filter) -> Result<(), FilterError>
     ensures ok { IfOk result (λ _. IsParsedFilter text.now filter.new) }
+    ensures most { IfOk result (λ _. filter.new.count ≤ 64) }
     ensures err { IfErr result (λ e. (x : WasExpected) × (e.expected ≡ expected_code x)
         × IsFirstError text.now e.offset x) }
     ensures same { IfErr result (λ _. filter.new ≡ filter.old) }

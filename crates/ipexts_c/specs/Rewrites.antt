@@ -32,6 +32,7 @@ refusal_code err.TooLong = 9
 refusal_code err.NoRoom = 10
 refusal_code err.NotAHeader = 11
 refusal_code err.Misplaced = 12
+refusal_code err.NoLength = 13
 
 -- what is stored if this length was written, and whether transport checksums hold as before
 abbrev pub rewritten_fields : ℕ → Bool → RewrittenFields

@@ -1,11 +1,12 @@
 //! Packets from their fragments.
-ghost use Rattle.std.specs.Prelude.{◌≡◌, ◌+◌, ◌++◌, length, drop, true, false, IsTrue, Ok, Err, Some, None};
+ghost use Rattle.std.specs.Prelude.{◌≡◌, ◌≤◌, ◌+◌, ◌++◌, length, drop, true, false, IsTrue, Ok, Err, Some, None};
 ghost use Rattle.ip_dissect.specs.Dissection.{dissected};
 ghost use Rattle.ip_defrag.specs.Received.{payload_in};
 ghost use Rattle.ip_defragmenter.specs.FragmentOf.{FragmentParts, packet_fragment};
 ghost use Rattle.ip_defragmenter.specs.Added.{IsAdded, added_nothing};
 ghost use Rattle.ip_defragmenter.specs.Counts.{counted, counted_loss, added_fields};
-ghost use Rattle.ip_defragmenter.specs.Memory.{HoldsReceived, first_in};
+ghost use Rattle.ip_defragmenter.specs.Ecn.{is_congested, marked};
+ghost use Rattle.ip_defragmenter.specs.Memory.{HoldsStored, first_in};
 ghost use Rattle.ip_defragmenter.specs.Whole.{whole_packet, whole_fault};
 ghost use Rattle.ip_defragmenter.specs.Slot.{free_slot};
 ghost use Rattle.ip_defragmenter.specs.Slots.{loss_of};
@@ -16,7 +17,9 @@ ghost use Rattle.ip_defragmenter.specs.declared.outcome.Outcome.TheVariants.{Not
 ghost use Rattle.ip_defragmenter.specs.declared.outcome.DropReason.TheVariants.{Unusable};
 
 use crate::bytes::Bytes;
-use ip_defragmenter::{AddedFields, DefragmenterCounts, PacketMemory, Slot, defragment, give_up};
+use ip_defragmenter::{
+    AddedFields, DefragmenterCounts, PacketMemory, Settings, Slot, defragment, give_up,
+};
 
 /// Calls `defragment` and counts what became of the packet, as `Defragmenter::add` does, if there are as many memories as
 /// slots. Returns whether there are. If so, stores what became of it in `added`; otherwise nothing is changed.
@@ -25,8 +28,9 @@ pub extern "C" fn wolfaren_defragment(
     slots: &mut [Slot],
     memories: &mut [PacketMemory],
     counts: &mut DefragmenterCounts,
-    factor: u32,
+    settings: &Settings,
     bytes: Bytes<'_>,
+    context: u32,
     time: u64,
     added: &mut AddedFields,
 ) -> bool
@@ -43,7 +47,7 @@ pub extern "C" fn wolfaren_defragment(
     ensures added { IsTrue result
         → (f : FragmentParts) → packet_fragment (dissected bytes.entry.slice.now) ≡ Ok (Some f)
         → (a : WasAdded) × (added.new ≡ added_fields a) × (counts.new ≡ counted counts.old a)
-        × IsAdded slots.old memories.old factor time f slots.new memories.new a }
+        × IsAdded slots.old memories.old settings.now context time f slots.new memories.new a }
     ensures as_many { IsTrue result → length slots.old ≡ length memories.old }
     ensures other { result ≡ false → (length slots.old ≡ length memories.old → ⊥)
         × (slots.new ≡ slots.old) × (memories.new ≡ memories.old)
@@ -52,7 +56,7 @@ pub extern "C" fn wolfaren_defragment(
     if slots.len() != memories.len() {
         return false;
     }
-    let done = defragment(slots, memories, factor, time, bytes.slice());
+    let done = defragment(slots, memories, settings, context, time, bytes.slice());
     counts.count(&done);
     *added = done.fields();
     true
@@ -63,14 +67,15 @@ pub extern "C" fn wolfaren_defragment(
 pub extern "C" fn wolfaren_give_up(
     slot: &mut Slot,
     counts: &mut DefragmenterCounts,
+    timeout: u64,
     time: u64,
 ) -> bool
-    ensures lost { (l : Loss) → loss_of slot.old time ≡ Some l
+    ensures lost { (l : Loss) → loss_of timeout slot.old time ≡ Some l
         → (result ≡ true) × (slot.new ≡ free_slot) × (counts.new ≡ counted_loss counts.old l) }
-    ensures kept { loss_of slot.old time ≡ None
+    ensures kept { loss_of timeout slot.old time ≡ None
         → (result ≡ false) × (slot.new ≡ slot.old) × (counts.new ≡ counts.old) }
 {
-    match give_up(slot, time) {
+    match give_up(slot, timeout, time) {
         Some(loss) => {
             counts.count_loss(&loss);
             true
@@ -87,17 +92,20 @@ pub extern "C" fn wolfaren_write_whole_packet(
     out: &mut [u8],
     len: &mut usize,
 ) -> bool
-    ensures not_whole { (s : _) → HoldsReceived memory.now s → payload_in s ≡ None → result ≡ false }
+    ensures not_whole { (s : _) → HoldsStored memory.now s → payload_in s.payload ≡ None
+        → result ≡ false }
     ensures not_first { first_in memory.now ≡ None → result ≡ false }
-    ensures refused { (s f payload : _)
-        → HoldsReceived memory.now s → payload_in s ≡ Some payload → first_in memory.now ≡ Some f
+    ensures refused { (s f payload : _) → HoldsStored memory.now s
+        → payload_in s.payload ≡ Some payload → s.first ≡ Some f
         → result ≡ false
         → whole_fault f.headers f.link (length payload) (length out.old) ≡ None → ⊥ }
-    ensures written { (s f payload : _)
-        → HoldsReceived memory.now s → payload_in s ≡ Some payload → first_in memory.now ≡ Some f
+    ensures written { (s f payload : _) → HoldsStored memory.now s
+        → payload_in s.payload ≡ Some payload → s.first ≡ Some f
         → IsTrue result → (len.new ≡ length f.headers + length payload)
-        × (out.new ≡ whole_packet f.headers f.link f.number payload ++ drop len.new out.old)
+        × (out.new ≡ whole_packet (marked (is_congested s.points) f.headers) f.link f.number payload
+        ++ drop len.new out.old)
         × (whole_fault f.headers f.link (length payload) (length out.old) ≡ None) }
+    ensures within { len.new ≤ length out.old }
     ensures same { result ≡ false → (out.new ≡ out.old) × (len.new ≡ 0) }
 {
     *len = 0;

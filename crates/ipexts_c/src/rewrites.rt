@@ -50,6 +50,7 @@ fn refusal_code(error: RewriteError) -> u8
         RewriteError::NoRoom => 10,
         RewriteError::NotAHeader => 11,
         RewriteError::Misplaced => 12,
+        RewriteError::NoLength => 13,
     }
 }
 

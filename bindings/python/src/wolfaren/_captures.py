@@ -9,11 +9,12 @@ import os
 import secrets
 import shutil
 import stat
+import warnings
 from collections.abc import Generator, Iterator
-from typing import Any, NamedTuple
+from typing import Any, Literal, NamedTuple, get_args
 
-from ._library import captures
-from ._statistics import CaptureError, capture_error
+from ._library import captures, path_for_c, raise_kept
+from ._statistics import CaptureError, CaptureWarning, capture_error
 
 Path = str | os.PathLike[str]
 
@@ -26,7 +27,8 @@ _Bytes = bytes
 
 
 class Packet(NamedTuple):
-    """An IP packet of a capture, and the frame that carries it. Lengths and offsets are in bytes."""
+    """An IP packet of a capture, and the frame that carries it. Lengths and offsets are in bytes. It never changes: threads may
+    share it, it is the same after a fork, and it can be pickled and copied."""
 
     number: int
     """The number of the frame in the capture: 1 for the first."""
@@ -71,7 +73,7 @@ class Reader:
         self._path = path
         self._own, self._library = captures()
         self._error = self._own.new("char[]", self._library.WOLFAREN_PCAP_ERROR_ROOM)
-        opened = self._library.wolfaren_pcap_open(os.fsencode(os.path.abspath(path)), self._error)
+        opened = self._library.wolfaren_pcap_open(path_for_c(path), self._error)
         self._check()
         self._reader = self._own.gc(opened, self._library.wolfaren_pcap_close)
         self.fields = self._own.new("struct wolfaren_pcap_packet[]", _PACKETS)
@@ -82,6 +84,7 @@ class Reader:
     def _check(self) -> None:
         """Raises the error of the last call, if there is one."""
         errno = self._own.errno
+        raise_kept()
         reason = self._own.string(self._error).decode(errors="replace")
         if reason:
             raise capture_error(self._path, reason, errno)
@@ -111,28 +114,60 @@ class Reader:
         self._own.release(self._reader)
 
 
-def packets(path: Path) -> Generator[Packet, None, None]:
+OnError = Literal["raise", "warn"]
+
+
+def raise_or_warn(error: CaptureError, on_error: OnError) -> None:
+    """Raises the error of a capture, or warns of it."""
+    if on_error == "raise":
+        raise error
+    warnings.warn(str(error), CaptureWarning, stacklevel=3)
+
+
+def check_on_error(on_error: OnError) -> None:
+    """Raises `ValueError` for what isn't one of these words."""
+    if on_error not in get_args(OnError):
+        raise ValueError(f"on_error is 'raise' or 'warn', not {on_error!r}")
+
+
+def packets(path: Path, on_error: OnError = "raise") -> Generator[Packet, None, None]:
     """Yields the IP packets of a capture, which may be in any format that ipcap reads, as ipcap finds them in frames.
 
     Frames without an IP packet are left out. Raises `CaptureError` at once if the capture can't be opened, and after the
     last packet if it can't be read to its end: a `CaptureOSError` if the system refused to open or to read it. If
     interfaces of a pcapng file have a link layer that isn't supported, leaves out their packets, and after the last packet
-    raises a `CaptureError` that names these interfaces.
+    raises a `CaptureError` that names these interfaces. With `on_error="warn"` none of these is raised, but given as a
+    `CaptureWarning`, so that `list` returns the packets that are there.
 
     The file is closed at its end, on an error, or when the generator is closed or no longer referred to. It is read by C
-    code, many packets at once or, from a pipe, each as it arrives; Python's other threads run meanwhile.
+    code, many packets at once or, from a pipe, each as it arrives; Python's other threads run meanwhile. Threads can't share
+    the generator, and after a fork only one process may go on with it. It can't be pickled or copied. Raises `ValueError` for
+    a path with a null byte.
     """
-    return _packets_of(Reader(path))
+    check_on_error(on_error)
+    try:
+        return _packets_of(Reader(path), on_error)
+    except CaptureError as error:
+        raise_or_warn(error, on_error)
+        return _no_packets()
 
 
-def _packets_of(reader: Reader) -> Generator[Packet, None, None]:
+def _no_packets() -> Generator[Packet, None, None]:
+    yield from ()
+
+
+def _packets_of(reader: Reader, on_error: OnError) -> Generator[Packet, None, None]:
     with contextlib.closing(reader):
-        while count := reader.read():
-            yield from reader.packets(count)
+        try:
+            while count := reader.read():
+                yield from reader.packets(count)
+        except CaptureError as error:
+            raise_or_warn(error, on_error)
 
 
 class Written(NamedTuple):
-    """How many frames of a capture a filter has read, and how many it has written."""
+    """How many frames of a capture a filter has read, and how many it has written. It never changes: threads may share it, it
+    is the same after a fork, and it can be pickled and copied."""
 
     frames: int
     written: int
@@ -147,6 +182,8 @@ class _Filtered(NamedTuple):
 
 def write_matching(condition: str, path_in: Path, path_out: Path) -> Written:
     """Writes the frames of a capture that meet a condition to another file. See `Filter.write`."""
+    for path in [path_in, path_out]:
+        path_for_c(path)  # before the files are compared: one whose path has a null byte doesn't exist
     if os.path.exists(path_in) and os.path.exists(path_out) and os.path.samefile(path_in, path_out):
         raise shutil.SameFileError(f"{os.fspath(path_in)} and {os.fspath(path_out)} are the same file")
     if os.path.exists(path_out) and not os.path.isfile(path_out):
@@ -198,13 +235,18 @@ def _filter(condition: str, path_in: Path, path_out: Path, descriptor: int) -> _
     text = condition.encode("utf-8", "surrogateescape")
     counts = own.new("struct wolfaren_pcap_counts *")
     error = own.new("char[]", library.WOLFAREN_PCAP_ERROR_ROOM)
-    outcome = library.wolfaren_pcap_filter(text, len(text), os.fsencode(os.path.abspath(path_in)), descriptor, counts, error)
+    outcome = library.wolfaren_pcap_filter(text, len(text), path_for_c(path_in), descriptor, counts, error)
     errno, reason = own.errno, own.string(error).decode(errors="replace")
+    raise_kept()
     if outcome == library.WOLFAREN_PCAP_INPUT_FAILED:
         raise capture_error(path_in, reason, errno)
     if outcome == library.WOLFAREN_PCAP_OUTPUT_FAILED:
         raise OSError(errno, reason, os.fspath(path_out))
     if outcome == library.WOLFAREN_PCAP_CONDITION_FAILED:
         raise ValueError(f"{reason}: {condition!r}")
-    left_out = capture_error(path_in, reason, errno) if outcome == library.WOLFAREN_PCAP_LEFT_OUT else None
-    return _Filtered(Written(counts.frames, counts.written), left_out)
+    written = Written(counts.frames, counts.written)
+    if outcome != library.WOLFAREN_PCAP_LEFT_OUT:
+        return _Filtered(written, None)
+    left_out = capture_error(path_in, reason, errno)
+    left_out.written = written
+    return _Filtered(written, left_out)

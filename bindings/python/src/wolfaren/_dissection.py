@@ -97,7 +97,7 @@ class LenSource(enum.IntEnum):
 @dataclasses.dataclass(frozen=True, slots=True)
 class Fault:
     """An error. `str` formats it as text, which names the faulty header and says where it is. Numbers that don't apply to
-    its kind are 0."""
+    its kind are 0. It never changes: threads may share it, it is the same after a fork, and it can be pickled and copied."""
 
     kind: FaultKind
     header: Layer
@@ -159,7 +159,8 @@ class UnknownOption(enum.IntEnum):
 
 
 class HeaderOption(NamedTuple):
-    """An option of a hop-by-hop or destination options header: its type and its data. Pad1, of type 0, has none."""
+    """An option of a hop-by-hop or destination options header: its type and its data. Pad1, of type 0, has none. It never
+    changes: threads may share it, it is the same after a fork, and it can be pickled and copied."""
 
     type: int
     data: bytes
@@ -177,7 +178,8 @@ class HeaderOption(NamedTuple):
 
 @dataclasses.dataclass(frozen=True, slots=True, eq=False, repr=False)
 class ExtensionHeader(_Parts):
-    """An extension header of a packet. Fields that headers with its number don't have are `None`."""
+    """An extension header of a packet. Fields that headers with its number don't have are `None`. Unless the packet's bytes
+    do, it never changes: threads may share it, it is the same after a fork, and it can be pickled and copied."""
 
     number: int
     """The header's own protocol number."""
@@ -280,7 +282,8 @@ class ExtensionHeader(_Parts):
 
 @dataclasses.dataclass(frozen=True, slots=True)
 class Fragment:
-    """Which fragment a packet is. Of a packet that isn't fragmented, identification and offset are 0."""
+    """Which fragment a packet is. Of a packet that isn't fragmented, identification and offset are 0. It never changes:
+    threads may share it, it is the same after a fork, and it can be pickled and copied."""
 
     kind: FragmentKind
     identification: int
@@ -292,7 +295,8 @@ class Fragment:
 @dataclasses.dataclass(frozen=True, slots=True, eq=False, repr=False)
 class Dissection(_Parts):
     """The parts of a packet, one after another, as far as they are present. The slices refer to the packet's bytes, and
-    those of a copy to bytes of its own. Dissections with equal parts are equal."""
+    those of a copy to bytes of its own. Dissections with equal parts are equal. Unless the packet's bytes do, a dissection
+    never changes: threads may share it, it is the same after a fork, and it can be pickled and copied."""
 
     version: int
     """4 or 6, or 0 if there is no IP header."""

@@ -72,18 +72,27 @@ class Filter:
 
     Filters are equal if their texts compile to the same program, as `not (fault or truncated)` and
     `not fault and not truncated` do.
+
+    A filter never changes: threads may share it, it is the same after a fork, and it can be pickled and copied.
     """
 
-    __slots__ = ("text", "_filter")
+    __slots__ = ("_text", "_filter")
 
     def __init__(self, text: str | bytes) -> None:
-        self.text = text.decode("utf-8", "surrogateescape") if isinstance(text, bytes) else text
+        if not isinstance(text, (str, bytes)):
+            raise TypeError(f"a filter is made of a text, not of {type(text).__name__}")
+        self._text = text.decode("utf-8", "surrogateescape") if isinstance(text, bytes) else text
         self._filter = ffi.new("struct wolfaren_filter *")
         encoded = self.text.encode("utf-8", "surrogateescape")
         error = ffi.new("struct wolfaren_filter_error *")
         if not lib.wolfaren_parse_filter(encoded, len(encoded), self._filter, error):
             offset = len(encoded[:error.offset].decode("utf-8", "replace"))
             raise FilterError(self.text, offset, _expected_text(error.expected))
+
+    @property
+    def text(self) -> str:
+        """The text of which the filter was made."""
+        return self._text
 
     def matches(self, packet: Buffer) -> bool:
         """Returns whether the packet at the start of the bytes, which may be any bytes, meets the condition."""
@@ -114,9 +123,10 @@ class Filter:
 
         Raises `CaptureError` if the input can't be read to its end: a `CaptureOSError` if the system refused to open or to
         read it. If interfaces of a pcapng file have a link layer that isn't supported, writes the output without their
-        packets, and then raises a `CaptureError` that names these interfaces. Raises `OSError` if the output can't be
-        written, and `shutil.SameFileError`, an `OSError`, if input and output are the same file. The files are read and
-        written by C code; Python's other threads run meanwhile.
+        packets, and then raises a `CaptureError` that names these interfaces, and whose `written` has the numbers. Raises
+        `OSError` if the output can't be written, `shutil.SameFileError`, an `OSError`, if input and output are the same file,
+        and `ValueError` for a path with a null byte. The files are read and written by C code; Python's other threads run
+        meanwhile.
         """
         return write_matching(self.text, path_in, path_out)
 

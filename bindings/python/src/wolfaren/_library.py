@@ -4,11 +4,18 @@ import functools
 import importlib.resources
 import os
 import re
-from typing import Any
+import threading
+from typing import TYPE_CHECKING, Any
 
 import cffi
 
-Buffer = bytes | bytearray | memoryview
+# Any object with the buffer protocol, such as bytes, a mapped file or a numpy array.
+if TYPE_CHECKING:
+    from _typeshed import ReadableBuffer
+
+    Buffer = ReadableBuffer
+else:
+    Buffer = "Buffer"
 
 _FOLDER = importlib.resources.files(__package__)
 
@@ -67,7 +74,43 @@ def captures() -> tuple[cffi.FFI, Any]:
     missing = [it for it in dir(library) if not hasattr(library, it)]
     if missing:
         raise ImportError(f"libwolfaren-pcap.so.0 is of another version than the package: it has no {', '.join(missing)}")
+    library.wolfaren_pcap_stop_waiting_if(_is_stopped(own))
     return own, library
+
+
+_of_thread = threading.local()
+
+
+def _keep(kind: type[BaseException], error: BaseException, traceback: Any) -> bool:
+    """Keeps what the handler of a signal has raised. Returns that the call which waits fails."""
+    _of_thread.raised = error
+    return True
+
+
+@functools.cache
+def _is_stopped(own: cffi.FFI) -> Any:
+    """Returns what the library calls if a signal arrives while it waits for a file: Python runs the handlers of signals in
+    it, as in any function, and unless one of them raises, the library waits on. Where the system forbids such functions,
+    returns null."""
+    try:
+        return own.callback("bool(void)", lambda: False, onerror=_keep)
+    except MemoryError:
+        return own.NULL
+
+
+def raise_kept() -> None:
+    """Raises what the handler of a signal has raised in this thread's last call, if anything. Follows each call that reads
+    a file."""
+    raised = _of_thread.__dict__.pop("raised", None)
+    if raised:
+        raise raised
+
+
+def path_for_c(path: str | os.PathLike[str]) -> bytes:
+    """Returns a path as C takes it. Raises `ValueError` if it has a null byte, at which it would end in C."""
+    if b"\0" in os.fsencode(path):  # which `abspath` of some versions of Python removes, with what follows it
+        raise ValueError("embedded null byte")
+    return os.fsencode(os.path.abspath(path))
 
 
 def name_of(find: Any, code: int) -> str:

@@ -10,6 +10,12 @@ from ._optional import import_for
 _FORMATS = {"size_t": "u8", "uint64_t": "u8", "int64_t": "i8", "uint32_t": "u4", "int32_t": "i4", "uint16_t": "u2",
             "uint8_t": "u1", "_Bool": "?"}
 
+# The only number of a dissection that may be above those of the signed type of its length.
+_UNSIGNED = "identification"
+
+# How many packets are passed to the library at a time. In between, Python runs the handlers of signals.
+_TOGETHER = 1 << 11
+
 
 class SpanError(ValueError):
     """A packet that doesn't lie within the buffer."""
@@ -31,6 +37,8 @@ def dtype_of(numpy: Any, kind: Any) -> Any:
     """Returns numpy's type of a C struct."""
     names, fields = zip(*kind.fields)
     formats = [dtype_of(numpy, it.type) if it.type.kind == "struct" else _FORMATS[it.type.cname] for it in fields]
+    if kind.cname in ("struct wolfaren_dissection", "struct wolfaren_fault"):
+        formats = [it if name == _UNSIGNED or not isinstance(it, str) else it.replace("u", "i") for name, it in zip(names, formats)]
     return numpy.dtype({"names": names, "formats": formats, "offsets": [it.offset for it in fields],
                         "itemsize": ffi.sizeof(kind)})
 
@@ -51,8 +59,11 @@ class Packets:
 
     def _column(self, numbers: Any) -> Any:
         column = self.numpy.asarray(numbers)
-        if column.ndim != 1 or (column.size and column.dtype.kind not in "iu"):
-            raise TypeError("offsets and lengths are one-dimensional arrays of integers")
+        if column.dtype == object:  # such as those of pandas that may have missing values
+            column = self.numpy.array([*column])
+        is_masked = self.numpy.ma.is_masked(numbers)
+        if column.ndim != 1 or is_masked or (column.size and column.dtype.kind not in "iu"):
+            raise TypeError("offsets and lengths are one-dimensional arrays of integers, none of them missing")
         return column
 
     def place(self, index: int) -> tuple[Any, int]:
@@ -63,12 +74,14 @@ class Packets:
     def pass_to(self, call: Any, *arguments: Any, array: Any = None, start: int = 0) -> None:
         """Passes the packets to a call of the library, after these arguments. If there is an array to fill, passes as many
         packets from `start` on as it has room for, and the array after them."""
-        outside = ffi.new("size_t *")
-        count, room = (self.count, ()) if array is None else (len(array), (array, len(array)))
-        if not call(*arguments, self.bytes, len(self.bytes), self.spans + start, count, *room, outside):
-            index = start + outside[0]
-            offset, length = (int(it[index]) for it in self._columns)
-            raise SpanError(index, offset, length, len(self.bytes))
+        outside, end = ffi.new("size_t *"), self.count if array is None else start + len(array)
+        for at in range(start, end, _TOGETHER):
+            count = min(_TOGETHER, end - at)
+            room = () if array is None else (array + (at - start), count)
+            if not call(*arguments, self.bytes, len(self.bytes), self.spans + at, count, *room, outside):
+                index = at + outside[0]
+                offset, length = (int(it[index]) for it in self._columns)
+                raise SpanError(index, offset, length, len(self.bytes))
 
 
 def dissect_many(buffer: Buffer, offsets: Any, lengths: Any) -> Any:
@@ -76,33 +89,34 @@ def dissect_many(buffer: Buffer, offsets: Any, lengths: Any) -> Any:
 
     Packet i has the `lengths[i]` bytes of the buffer from `offsets[i]` on. Both are one-dimensional arrays or sequences of
     integers. Packets may overlap. Returns a numpy array with an element for each packet, in order, whose fields are the
-    columns:
+    columns. Their types are signed, so that differences are right, except that of `identification`:
 
-        base_len                u8   the length of the IP header in bytes, or 0 if there is none
-        stated_len              u8   the packet's length in bytes as the IP header states it, or 0 if it states none
-        headers                 u8   the number of extension headers
-        payload_offset          u8   where the payload begins, in bytes from the start of the packet
-        payload_len             u8   the number of payload bytes that are present
-        missing                 u8   the number of bytes of the stated length that aren't present
-        padding                 u8   the number of bytes after the packet
-        fault.required_len      u8   the number of bytes that a layer needs
-        fault.len               u8   the number of bytes that are available to it
-        fault.offset            u8   where this layer begins, in bytes from the start of the packet
-        fault.kind              u1   the error, a `FaultKind`, or 0
-        fault.header            u1   the faulty extension header, a `Layer`
-        fault.layer             u1   the layer that needs the bytes, a `Layer`
-        fault.len_source        u1   where `fault.len` comes from, a `LenSource`
-        fault.value             u4   the invalid version or internet header length
+        base_len                i8   the length of the IP header in bytes, or 0 if there is none
+        stated_len              i8   the packet's length in bytes as the IP header states it, or 0 if it states none
+        headers                 i8   the number of extension headers
+        payload_offset          i8   where the payload begins, in bytes from the start of the packet
+        payload_len             i8   the number of payload bytes that are present
+        missing                 i8   the number of bytes of the stated length that aren't present
+        padding                 i8   the number of bytes after the packet
+        fault.required_len      i8   the number of bytes that a layer needs
+        fault.len               i8   the number of bytes that are available to it
+        fault.offset            i8   where this layer begins, in bytes from the start of the packet
+        fault.kind              i1   the error, a `FaultKind`, or 0
+        fault.header            i1   the faulty extension header, a `Layer`
+        fault.layer             i1   the layer that needs the bytes, a `Layer`
+        fault.len_source        i1   where `fault.len` comes from, a `LenSource`
+        fault.value             i4   the invalid version or internet header length
         identification          u4   a number that all fragments of a packet share, or 0
-        fragment_offset         u4   where the fragment lies in the payload, in bytes
-        version                 u2   4 or 6, or 0 if there is no IP header
-        payload_number          u2   the protocol number of what follows the headers
-        fragment                u2   which fragment the packet is, a `FragmentKind`
-        end                     u2   why the headers end, an `End`
+        fragment_offset         i4   where the fragment lies in the payload, in bytes
+        version                 i2   4 or 6, or 0 if there is no IP header
+        payload_number          i2   the protocol number of what follows the headers
+        fragment                i2   which fragment the packet is, a `FragmentKind`
+        end                     i2   why the headers end, an `End`
 
     The column of a name with a dot is `array["fault"]["kind"]`. Numbers that don't apply are 0.
 
-    Raises `SpanError`, a `ValueError`, with the index of the first packet that doesn't lie within the buffer, and
+    Raises `SpanError`, a `ValueError`, with the index of the first packet that doesn't lie within the buffer, `ValueError` if
+    there are more offsets or more lengths, `TypeError` if they aren't integers, or some are masked or missing, and
     `ImportError` if numpy isn't installed. Python's other threads run meanwhile; none may write to the buffer.
     """
     packets = Packets("wolfaren.dissect_many", buffer, offsets, lengths)

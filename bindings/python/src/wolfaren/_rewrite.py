@@ -16,7 +16,7 @@ class Refusal(enum.IntEnum):
     MISSING = lib.WOLFAREN_REFUSED_MISSING
     """Fewer bytes are here than the IP header states."""
     LATER_FRAGMENT = lib.WOLFAREN_REFUSED_LATER_FRAGMENT
-    """The packet is a middle or last fragment."""
+    """The packet is a middle or last fragment of IPv4."""
     NOT_A_HEADER = lib.WOLFAREN_REFUSED_NOT_A_HEADER
     """The bytes aren't one extension header of the number, or it can't be in a packet of the IP version."""
     NO_HEADER = lib.WOLFAREN_REFUSED_NO_HEADER
@@ -31,6 +31,8 @@ class Refusal(enum.IntEnum):
     """An authentication header covers the change (RFC 4302, section 3.3.3)."""
     HEADER_FOLLOWS = lib.WOLFAREN_REFUSED_HEADER_FOLLOWS
     """The payload would be read as an extension header."""
+    NO_LENGTH = lib.WOLFAREN_REFUSED_NO_LENGTH
+    """The length would change, and the length field is 0, as in a jumbogram (RFC 2675)."""
     TOO_LONG = lib.WOLFAREN_REFUSED_TOO_LONG
     """The length field can't state the length."""
 
@@ -46,6 +48,7 @@ _TEXTS = {
     Refusal.FRAGMENTED: "the change is in the part that is fragmented",
     Refusal.AUTHENTICATED: "an authentication header covers the change",
     Refusal.HEADER_FOLLOWS: "the payload would be read as an extension header",
+    Refusal.NO_LENGTH: "the packet states no length",
     Refusal.TOO_LONG: "the packet is too long for its length field"}
 
 
@@ -61,7 +64,8 @@ class RewriteError(ValueError):
 
 
 class Rewritten(NamedTuple):
-    """A packet that was rewritten."""
+    """A packet that was rewritten. It never changes: threads may share it, it is the same after a fork, and it can be pickled and
+    copied."""
 
     packet: bytes
     keeps_checksums: bool
@@ -87,7 +91,8 @@ def without(packet: Buffer, *, number: int | None = None, index: int | None = No
     Bytes after the packet are left out.
 
     Raises `RewriteError` if that can't be. A packet that keeps an authentication header can only be changed if
-    `may_be_invalid` is true, since the header's check value doesn't hold for the changed packet.
+    `may_be_invalid` is true, since the header's check value doesn't hold for the changed packet, or if only the fragment header
+    of an atomic fragment before it is left out, which isn't covered (RFC 4302, section 3.3.4).
     """
     if (number is None) == (index is None):
         raise TypeError("either number or index must be given")
@@ -127,8 +132,8 @@ def cleared(packet: Buffer, *, may_be_invalid: bool = False) -> Rewritten:
 
     These are defined in RFC 8200, section 4.5, and RFC 4302, section 2.3. All else stays as it is, as with `without`.
 
-    Raises `RewriteError` if that can't be. A packet with an authentication header in which one of these bits is 1 can only be
-    changed if `may_be_invalid` is true.
+    Raises `RewriteError` if that can't be. If one of these bits is 1 in an authentication header, or after one, the packet can
+    only be changed if `may_be_invalid` is true.
     """
     return _rewritten(lib.wolfaren_cleared, packet, may_be_invalid=may_be_invalid)
 

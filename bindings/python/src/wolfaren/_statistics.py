@@ -8,14 +8,19 @@ import io
 import json
 import os
 import re
-import threading
 from collections.abc import Callable, Iterable, Iterator, Mapping
 from typing import TYPE_CHECKING, Any, Generic, TypeVar
 
 from ._dissection import End, FaultKind, Layer
-from ._library import Buffer, captures, ffi, lib
+from ._library import Buffer, captures, ffi, lib, path_for_c, raise_kept
+from ._locks import new_lock
 from ._many import Packets, dtype_of
 from ._optional import import_for
+
+if TYPE_CHECKING:
+    from pandas import DataFrame
+
+    from ._captures import Written
 
 MOST = 2**64 - 1
 """The largest count. Counts stop there."""
@@ -147,7 +152,8 @@ class Statistics:
 
     The counts are those of `struct wolfaren_statistics`, which the library counts and merges; its calls are proved. The
     count `mismatched` and the tables `chains` and `other_protocols` are not. Each count stops at `MOST`. A new object has counted no packets. In
-    tables, the most frequent come first, and no count is 0. Threads may share an object: each call on it is atomic.
+    tables, the most frequent come first, and no count is 0. Threads may share an object: each call on it is atomic. After a
+    fork, parent and child each have their own. It can be pickled and copied.
     """
 
     other_frames = _Field[int]("Frames without an IP packet.")
@@ -182,7 +188,7 @@ class Statistics:
         self._mismatched = 0
         self._chains: dict[str, int] = {}
         self._protocols: dict[str, int] = {}
-        self._lock = threading.RLock()  # a signal's handler may read what its thread counts
+        self._lock = new_lock()
         lib.wolfaren_init_statistics(self._counts)
 
     def _array(self, name: str) -> Any:
@@ -329,14 +335,16 @@ class Statistics:
 
     def to_series(self) -> Any:
         """Returns all counts as a pandas `Series`, by the name of the count or table and the key in the table, which is
-        empty for a single count.
+        empty for a single count. Its type is `int64`, so that differences are right, or `object` if a count is above
+        2**63 - 1.
 
         Raises `ImportError` if pandas isn't installed.
         """
         pandas = import_for("Statistics.to_series", "pandas")
         rows = list(self._rows(None))
         index = pandas.MultiIndex.from_tuples([row[:2] for row in rows], names=["name", "key"])
-        return pandas.Series([row[2] for row in rows], index, dtype="uint64")
+        dtype = "int64" if all(row[2] < 2**63 for row in rows) else object
+        return pandas.Series([row[2] for row in rows], index, dtype=dtype)
 
     def _rows(self, most: int | None) -> Iterator[tuple[str, Any, int]]:
         """Yields each count with its name and key: of a table, the first `most`."""
@@ -355,10 +363,14 @@ class Statistics:
         """Reads what `to_json`, `ipcap stat --json` or `ipcap sum --json` has written.
 
         The name of a file in it is left out, as are the counts of packets in tunnels, which `ipcap stat --tunnels` adds.
-        Raises `ValueError` if the text is something else, or of a version with another major number. Of a version with
+        Raises `ValueError` if the text is something else, or of a version with another major number, and `TypeError` for what
+        isn't a text. Of a version with
         the same major and a larger minor number, members that aren't known are left out.
         """
-        members = json.loads(text)
+        try:
+            members = json.loads(text)
+        except RecursionError:
+            raise ValueError("the text is nested too deeply") from None
         if not isinstance(members, dict):
             raise ValueError("the text is not a JSON object")
         minor = _minor_version(members.pop("version", None))
@@ -478,51 +490,79 @@ def _table(value: Any, name: str, most: int) -> dict[str, int]:
 
 
 class CaptureError(Exception):
-    """A capture that can't be read to its end. `statistics` has the packets up to there, if they were counted."""
+    """A capture that can't be read to its end. What a call has made of the packets up to there is in the attribute for its
+    result; the other attributes are `None`, and all of them if the capture can't be opened.
+    """
 
-    def __init__(self, path: str, reason: str, statistics: Statistics) -> None:  # that of OSError takes other arguments
+    def __init__(self, path: str, reason: str) -> None:
+        super().__init__(path, reason)
         self.path = path
         self.reason = reason
-        self.statistics = statistics
+        self.statistics: Statistics | None = None
+        """The result of `statistics_of`."""
+        self.table: DataFrame | None = None
+        """The result of `table`."""
+        self.written: Written | None = None
+        """The result of `Filter.write`, if it has written the output without the packets of some interfaces."""
 
     def __str__(self) -> str:
         return f"{self.path}: {self.reason}"
 
+    def __repr__(self) -> str:
+        return f"{type(self).__name__}({self.path!r}, {self.reason!r})"
+
 
 class CaptureOSError(CaptureError, OSError):
-    """A capture that the system refused to open or to read to its end: `errno` says why."""
+    """A capture that the system refused to open or to read to its end: `errno` says why. It is also the `OSError` of that
+    number, such as `FileNotFoundError`."""
 
-    def __init__(self, path: str, reason: str, statistics: Statistics, errno: int) -> None:
-        super().__init__(path, reason, statistics)
+    def __init__(self, path: str, reason: str, errno: int) -> None:
+        super().__init__(path, reason)
         self.errno, self.strerror, self.filename = errno, os.strerror(errno), path
 
-    def __reduce__(self) -> tuple[type[CaptureOSError], tuple[str, str, Statistics, int]]:
-        return CaptureOSError, (self.path, self.reason, self.statistics, self.errno)
+    def __reduce__(self) -> tuple[Callable[..., CaptureError], tuple[str, str, int], dict[str, Any]]:
+        return capture_error, (self.path, self.reason, self.errno), self.__dict__
 
 
-def capture_error(path: str | os.PathLike[str], reason: str, errno: int, statistics: Statistics | None = None) -> CaptureError:
+class CaptureWarning(UserWarning):
+    """A capture that can't be read to its end, of which a call returns what is there."""
+
+
+@functools.cache
+def _refusal_type(errno: int) -> type[CaptureOSError]:
+    """Returns the type of errors that are a `CaptureOSError` and what Python raises for a number, as `FileNotFoundError`."""
+    kind = type(OSError(errno, ""))
+    if kind is OSError:
+        return CaptureOSError
+    return type("CaptureOSError", (CaptureOSError, kind), {"__module__": __name__, "__doc__": CaptureOSError.__doc__})
+
+
+def capture_error(path: str | os.PathLike[str], reason: str, errno: int) -> CaptureError:
     """Returns the error of a capture, for the reason that the library of captures has written and the number in `errno`."""
-    counted = Statistics() if statistics is None else statistics
-    if errno:
-        return CaptureOSError(os.fspath(path), reason, counted, errno)
-    return CaptureError(os.fspath(path), reason, counted)
+    if not errno:
+        return CaptureError(os.fspath(path), reason)
+    return _refusal_type(errno)(os.fspath(path), reason, errno)
 
 
 def statistics_of(path: str | os.PathLike[str]) -> Statistics:
     """Counts the packets of a capture, which may be in any format that ipcap reads.
 
     Raises `CaptureError` if the capture can't be read to its end: a `CaptureOSError` if the system refused to open or to
-    read it. The file is read by C code with libpcap; Python's other threads run meanwhile.
+    read it. Its attribute `statistics` has the packets up to there. Raises `ValueError` for a path with a null byte. The file
+    is read by C code with libpcap; Python's other threads run meanwhile.
     """
     own, library = captures()
     error = own.new("char[]", library.WOLFAREN_PCAP_ERROR_ROOM)
-    text = library.wolfaren_pcap_count(os.fsencode(os.path.abspath(path)), error)
+    text = library.wolfaren_pcap_count(path_for_c(path), error)
     errno = own.errno
     try:
-        statistics = Statistics.from_json(own.string(text).decode("ascii")) if text else Statistics()
+        raise_kept()
+        statistics = Statistics.from_json(own.string(text).decode("ascii")) if text else None
     finally:
         library.wolfaren_pcap_free(text)
     reason = own.string(error).decode(errors="replace")
-    if reason:
-        raise capture_error(path, reason, errno, statistics)
+    if reason or statistics is None:
+        refused = capture_error(path, reason, errno)
+        refused.statistics = statistics
+        raise refused
     return statistics

@@ -8,12 +8,12 @@ import ipaddress
 from collections.abc import Callable, Iterable
 from typing import TYPE_CHECKING, Any, NamedTuple
 
-from ._captures import Path, Reader, link_layer_name
+from ._captures import OnError, Path, Reader, check_on_error, link_layer_name, raise_or_warn
 from ._dissection import DST, HOP_LIMIT, SRC
 from ._library import ffi, lib
 from ._many import dtype_of
 from ._optional import import_for
-from ._statistics import MOST_HEADERS, chain_name
+from ._statistics import MOST_HEADERS, CaptureError, chain_name
 
 if TYPE_CHECKING:
     from pandas import DataFrame
@@ -122,37 +122,39 @@ def _fault(name: str) -> Callable[[_Batch], Any]:
 
 
 _COLUMNS = {
-    "number": _Column("uint64", _field("number")),
+    "number": _Column("int64", _field("number")),
     "time": _Column("datetime64[ns]", _times),
     "link_layer": _Column("object", _link_layers),
-    "original_len": _Column("uint32", _field("original_len")),
-    "captured_len": _Column("uint32", _field("captured_len")),
-    "ip_offset": _Column("uint32", _field("ip_offset")),
-    "version": _Column("uint8", _part("version")),
+    "original_len": _Column("int64", _field("original_len")),
+    "captured_len": _Column("int64", _field("captured_len")),
+    "ip_offset": _Column("int64", _field("ip_offset")),
+    "version": _Column("int16", _part("version")),
     "src": _Column("object", functools.partial(_addresses, SRC)),
     "dst": _Column("object", functools.partial(_addresses, DST)),
-    "hop_limit": _Column("uint8", _hop_limits),
+    "hop_limit": _Column("int16", _hop_limits),
     "chain": _Column("object", _chains),
-    "headers": _Column("uint32", _part("headers")),
-    "fragment": _Column("uint8", _part("fragment")),
-    "identification": _Column("uint32", _part("identification")),
-    "fragment_offset": _Column("uint32", _part("fragment_offset")),
-    "payload_number": _Column("uint8", _part("payload_number")),
-    "payload_offset": _Column("uint32", _part("payload_offset")),
-    "payload_len": _Column("uint32", _part("payload_len")),
-    "stated_len": _Column("uint32", _part("stated_len")),
-    "missing": _Column("uint32", _part("missing")),
-    "padding": _Column("uint32", _part("padding")),
-    "end": _Column("uint8", _part("end")),
-    "fault": _Column("uint8", _fault("kind")),
-    "fault_header": _Column("uint8", _fault("header")),
-    "fault_layer": _Column("uint8", _fault("layer")),
-    "fault_offset": _Column("uint32", _fault_offsets),
+    "headers": _Column("int64", _part("headers")),
+    "fragment": _Column("int16", _part("fragment")),
+    "identification": _Column("int64", _part("identification")),
+    "fragment_offset": _Column("int64", _part("fragment_offset")),
+    "payload_number": _Column("int16", _part("payload_number")),
+    "payload_offset": _Column("int64", _part("payload_offset")),
+    "payload_len": _Column("int64", _part("payload_len")),
+    "stated_len": _Column("int64", _part("stated_len")),
+    "missing": _Column("int64", _part("missing")),
+    "padding": _Column("int64", _part("padding")),
+    "end": _Column("int16", _part("end")),
+    "fault": _Column("int16", _fault("kind")),
+    "fault_header": _Column("int16", _fault("header")),
+    "fault_layer": _Column("int16", _fault("layer")),
+    "fault_offset": _Column("int64", _fault_offsets),
 }
 
 
 def _chosen(columns: Iterable[str] | None) -> dict[str, _Column]:
     """Returns the columns with these names, or all."""
+    if isinstance(columns, (str, bytes)):
+        raise TypeError(f"columns is a list of names, such as [{columns!r}]")
     names = [*_COLUMNS] if columns is None else [*columns]
     for name in names:
         if name not in _COLUMNS:
@@ -160,68 +162,88 @@ def _chosen(columns: Iterable[str] | None) -> dict[str, _Column]:
     return {name: _COLUMNS[name] for name in names}
 
 
-def _frame(chosen: dict[str, _Column], arrays: dict[str, list[Any]]) -> DataFrame:
+def _frame(chosen: dict[str, _Column], arrays: dict[str, list[Any]], rows: int) -> DataFrame:
     """Returns a table of columns, each of which is made of the arrays of all batches."""
     pandas, numpy = (import_for("wolfaren.table", it) for it in ["pandas", "numpy"])
     joined = {name: numpy.concatenate([numpy.empty(0, column.dtype), *arrays[name]]) for name, column in chosen.items()}
     if "time" in joined:
         joined["time"] = pandas.DatetimeIndex(joined["time"], tz="UTC")
-    frame: DataFrame = pandas.DataFrame(joined)
+    frame: DataFrame = pandas.DataFrame(joined, pandas.RangeIndex(rows))
     return frame
 
 
 def empty_table(columns: Iterable[str] | None) -> DataFrame:
     """Returns the table of a capture without packets."""
     chosen = _chosen(columns)
-    return _frame(chosen, {name: [] for name in chosen})
+    return _frame(chosen, {name: [] for name in chosen}, 0)
 
 
-def table(path: Path, columns: Iterable[str] | None = None) -> DataFrame:
+def table(path: Path, columns: Iterable[str] | None = None, on_error: OnError = "raise") -> DataFrame:
     """Reads the IP packets of a capture into a pandas `DataFrame`, with a row for each and these columns, by default all.
 
-    Lengths and offsets are in bytes. The fields of a frame and of its packet:
+    Lengths and offsets are in bytes. Types are signed, so that differences are right. The fields of a frame and of its packet:
 
-        number           uint64               the number of the frame in the capture: 1 for the first
+        number           int64                the number of the frame in the capture: 1 for the first
         time             datetime64[ns, UTC]  when the frame was captured; `NaT` if unknown or after 2262-04-11
         link_layer       object               libpcap's name of the frame's link layer, such as `EN10MB`
-        original_len     uint32               the length of the frame
-        captured_len     uint32               how many bytes of the frame the capture has
-        ip_offset        uint32               where the packet begins in the frame
+        original_len     int64                the length of the frame
+        captured_len     int64                how many bytes of the frame the capture has
+        ip_offset        int64                where the packet begins in the frame
 
     Those of its dissection, in which numbers that don't apply are 0:
 
-        version          uint8                4 or 6, or 0 if there is no IP header
+        version          int16                4 or 6, or 0 if there is no IP header
         src, dst         object               the addresses as text, or `None` if there is no IP header
-        hop_limit        uint8                the hop limit of IPv6 or the time to live of IPv4
+        hop_limit        int16                the hop limit of IPv6 or the time to live of IPv4
         chain            object               such as `IPv6 0,43 -> 17`, as in `Statistics.chains`, or `None`
-        headers          uint32               the number of extension headers
-        fragment         uint8                which fragment the packet is: a `FragmentKind`
-        identification   uint32               a number that all fragments of a packet share
-        fragment_offset  uint32               where the fragment lies in the payload
-        payload_number   uint8                the protocol number of what follows the headers
-        payload_offset   uint32               where the payload begins in the packet
-        payload_len      uint32               how many bytes of the payload, or from a faulty header on, are present
-        stated_len       uint32               the length of the packet as the IP header states it
-        missing          uint32               how many bytes of the stated length aren't present
-        padding          uint32               how many bytes follow the packet in the frame
-        end              uint8                why the headers end: an `End`
-        fault            uint8                the kind of error: a `FaultKind`
-        fault_header     uint8                the faulty extension header: a `Layer`
-        fault_layer      uint8                the layer that needs more bytes: a `Layer`
-        fault_offset     uint32               where the faulty header or packet begins in the packet
+        headers          int64                the number of extension headers
+        fragment         int16                which fragment the packet is: a `FragmentKind`
+        identification   int64                a number that all fragments of a packet share
+        fragment_offset  int64                where the fragment lies in the payload
+        payload_number   int16                the protocol number of what follows the headers
+        payload_offset   int64                where the payload begins in the packet
+        payload_len      int64                how many bytes of the payload, or from a faulty header on, are present
+        stated_len       int64                the length of the packet as the IP header states it
+        missing          int64                how many bytes of the stated length aren't present
+        padding          int64                how many bytes follow the packet in the frame
+        end              int16                why the headers end: an `End`
+        fault            int16                the kind of error: a `FaultKind`
+        fault_header     int16                the faulty extension header: a `Layer`
+        fault_layer      int16                the layer that needs more bytes: a `Layer`
+        fault_offset     int64                where the faulty header or packet begins in the packet
 
     Raises `CaptureError` if the capture can't be read to its end: a `CaptureOSError` if the system refused to open or to
-    read it. Raises `CaptureError` too if interfaces of a pcapng file have a link layer that isn't supported. `packets`
-    yields the other packets of these captures. Raises `ValueError` for another column, and `ImportError` if pandas isn't
-    installed.
+    read it. Raises `CaptureError` too if interfaces of a pcapng file have a link layer that isn't supported. Its attribute
+    `table` has the other packets, or those up to there. With `on_error="warn"` these are returned, and the error is given as a
+    `CaptureWarning`. Raises `ValueError` for another column or a path with a null byte, `TypeError` for a text instead of a
+    list, and `ImportError` if pandas isn't installed.
     """
     import_for("wolfaren.table", "pandas")
-    numpy = import_for("wolfaren.table", "numpy")
     chosen = _chosen(columns)
+    check_on_error(on_error)
+    try:
+        reader = Reader(path)
+    except CaptureError as error:
+        raise_or_warn(error, on_error)
+        return empty_table(chosen)
+    with contextlib.closing(reader):
+        found, refused = _table_of(reader, chosen)
+    if refused:
+        refused.table = found
+        raise_or_warn(refused, on_error)
+    return found
+
+
+def _table_of(reader: Reader, chosen: dict[str, _Column]) -> tuple[DataFrame, CaptureError | None]:
+    """Returns the table of the packets that can be read, and the error that left out others."""
+    numpy, refused, rows = import_for("wolfaren.table", "numpy"), None, 0
     arrays: dict[str, list[Any]] = {name: [] for name in chosen}
-    with contextlib.closing(Reader(path)) as reader:
+    try:
         while count := reader.read():
             batch = _Batch(numpy, reader, count)
             for name, column in chosen.items():
                 arrays[name].append(numpy.array(column.values(batch), column.dtype))
-    return _frame(chosen, arrays)
+            rows += count
+    except CaptureError as error:
+        refused = error
+    return _frame(chosen, arrays, rows), refused

@@ -8,6 +8,7 @@ from collections.abc import Iterable
 from typing import TYPE_CHECKING, NamedTuple
 
 from . import _table
+from ._captures import OnError, check_on_error
 from ._optional import import_for
 from ._statistics import CaptureError, Statistics, statistics_of
 
@@ -20,18 +21,26 @@ _MERGED = 16
 
 
 class Counted(NamedTuple):
-    """Statistics of many captures."""
+    """Statistics of many captures. Threads may share them, after a fork parent and child each have their own, and they can be
+    pickled and copied."""
 
     statistics: Statistics
     damaged: dict[str, str]
     """Why each capture that can't be read to its end can't, by its path. The packets up to there are counted."""
 
 
+def _names(paths: Iterable[str | os.PathLike[str]]) -> list[str]:
+    """Returns the paths as texts. Raises `TypeError` for one path instead of several."""
+    if isinstance(paths, (str, bytes, os.PathLike)):
+        raise TypeError(f"paths is a list of paths, such as [{paths!r}]")
+    return [os.fspath(it) for it in paths]
+
+
 def _count(path: str) -> Counted:
     try:
         return Counted(statistics_of(path), {})
     except CaptureError as error:
-        return Counted(error.statistics, {path: error.reason})
+        return Counted(error.statistics or Statistics(), {path: error.reason})
 
 
 def _merge(parts: list[Counted]) -> Counted:
@@ -49,30 +58,35 @@ def statistics_of_many(paths: Iterable[str | os.PathLike[str]], client: Client) 
     there. What to do if a worker is lost is left to Dask: by default, its tasks run again elsewhere. A capture that can't
     be read to its end is no error: it is reported in `damaged`.
     """
-    parts = client.map(_count, [os.fspath(it) for it in paths], pure=False)
+    parts = client.map(_count, _names(paths), pure=False)
     while len(parts) > 1:
         parts = [client.submit(_merge, parts[i:i + _MERGED], pure=False) for i in range(0, len(parts), _MERGED)]
     counted: Counted = client.gather(parts[0]) if parts else _merge([])
     return counted
 
 
-def table(paths: Iterable[str | os.PathLike[str]], columns: Iterable[str] | None = None) -> DataFrame:
+def table(paths: Iterable[str | os.PathLike[str]], columns: Iterable[str] | None = None, on_error: OnError = "warn") -> DataFrame:
     """Returns a Dask dataframe of the IP packets of many captures: a partition for each, which is its `wolfaren.table`.
 
     A capture is read when its partition is computed, on the workers if there is a cluster: each path must then mean the
     same file to all of them, and this package and pandas must be installed there. In each partition, the index starts at
     0. Without paths, there is one partition without packets.
 
-    Raises `ValueError` for a column that `wolfaren.table` doesn't have, and `ImportError` if Dask or pandas isn't
-    installed. Computing a partition raises the `CaptureError` that `wolfaren.table` raises for its capture.
+    The partition of a capture that can't be read to its end has the packets that are there, and the worker warns of it with
+    a `CaptureWarning`. With `on_error="raise"`, computing it raises the `CaptureError` that `wolfaren.table` raises.
+
+    Raises `ValueError` for a column that `wolfaren.table` doesn't have, `TypeError` for one path instead of several, and
+    `ImportError` if Dask or pandas isn't installed.
     """
+    check_on_error(on_error)
     import_for("wolfaren.distributed.table", "pandas")
     dataframe = import_for("wolfaren.distributed.table", "dask.dataframe")
     empty = _table.empty_table(columns)
-    names = [os.fspath(it) for it in paths]
+    names = _names(paths)
     if not names:
         frame: DataFrame = dataframe.from_pandas(empty, npartitions=1)
         return frame
     # the name is new each time, so that no result is kept for a file that has changed
-    frame = dataframe.from_map(_table.table, names, columns=[*empty.columns], meta=empty, token=uuid.uuid4().hex)
+    frame = dataframe.from_map(_table.table, names, columns=[*empty.columns], on_error=on_error, meta=empty,
+                               token=uuid.uuid4().hex)
     return frame

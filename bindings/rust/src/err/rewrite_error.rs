@@ -8,7 +8,7 @@ pub enum RewriteError {
     Headers = 1,
     /// Fewer bytes are here than the base header states.
     Missing,
-    /// The packet is a middle or last fragment.
+    /// The packet is a middle or last fragment of IPv4.
     LaterFragment,
     /// The bytes aren't one extension header of the number, or it can't be in a packet of the IP version.
     NotAHeader = 11,
@@ -24,8 +24,10 @@ pub enum RewriteError {
     Authenticated,
     /// The payload would be read as an extension header.
     HeaderFollows,
+    /// The length would change, and the length field is 0, as in a jumbogram (RFC 2675).
+    NoLength = 13,
     /// The length field can't state the length of the packet.
-    TooLong,
+    TooLong = 9,
     /// The buffer is too short.
     NoRoom,
 }
@@ -45,6 +47,7 @@ impl RewriteError {
             10 => RewriteError::NoRoom,
             11 => RewriteError::NotAHeader,
             12 => RewriteError::Misplaced,
+            13 => RewriteError::NoLength,
             _ => RewriteError::Headers,
         }
     }
@@ -63,6 +66,7 @@ impl fmt::Display for RewriteError {
             RewriteError::Fragmented => "the change is in the part that is fragmented",
             RewriteError::Authenticated => "an authentication header covers the change",
             RewriteError::HeaderFollows => "the payload would be read as an extension header",
+            RewriteError::NoLength => "the packet states no length",
             RewriteError::TooLong => "the packet is too long for its length field",
             RewriteError::NoRoom => "the buffer is too short for the packet",
         })

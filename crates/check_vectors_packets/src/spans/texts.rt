@@ -1,7 +1,7 @@
 //! Errors as text.
 use crate::checks::{assert_bytes, assert_same, assert_that};
 use crate::spans::samples::NO_FAULT;
-use ip_spans::{FaultFields, fault_text};
+use ip_spans::{FaultFields, expected_text, fault_text};
 use std::process::Abort;
 
 const SHORT: FaultFields = FaultFields {
@@ -33,7 +33,7 @@ fn of_kind(kind: u8, value: u32) -> FaultFields {
 }
 
 /// Returns each kind with its text.
-fn rows() -> [(FaultFields, &'static str); 11] {
+fn rows() -> [(FaultFields, &'static str); 16] {
     [
         (NO_FAULT, ""),
         (
@@ -50,6 +50,23 @@ fn rows() -> [(FaultFields, &'static str); 11] {
         (
             LARGEST,
             "not enough bytes for the destination options header at offset 18446744073709551615: 18446744073709551615 needed, 18446744073709551615 there by the payload length",
+        ),
+        (
+            FaultFields {
+                layer: 3,
+                len_source: 2,
+                ..LARGEST
+            },
+            "not enough bytes for the IPv4 packet at offset 18446744073709551615: 18446744073709551615 needed, 18446744073709551615 there by the total length",
+        ),
+        (
+            FaultFields {
+                header: 4,
+                layer: 4,
+                offset: 0,
+                ..SHORT
+            },
+            "not enough bytes for the authentication header at offset 0: 8 needed, 0 there",
         ),
         (
             of_kind(2, 0),
@@ -73,6 +90,21 @@ fn rows() -> [(FaultFields, &'static str); 11] {
                 ..of_kind(3, 0)
             },
             "the length field of the authentication header at offset 20 is 0",
+        ),
+        (
+            FaultFields {
+                header: 4,
+                ..of_kind(3, 0)
+            },
+            "the length field of the authentication header at offset 0 is 0",
+        ),
+        (
+            of_kind(4, 16),
+            "the IP version is 16, where 4 or 6 is required",
+        ),
+        (
+            of_kind(5, 20),
+            "the internet header length of the IPv4 header is 20, where at least 5 is required",
         ),
         (
             of_kind(4, 255),
@@ -127,6 +159,17 @@ fn codes_that_are_none(rt: HostRuntime) {
             header: 13,
             ..SHORT
         },
+        FaultFields { layer: 23, ..SHORT },
+        FaultFields {
+            header: 26,
+            ..SHORT
+        },
+        FaultFields {
+            len_source: 17,
+            ..SHORT
+        },
+        FaultFields { kind: 17, ..SHORT },
+        FaultFields { kind: 20, ..SHORT },
         FaultFields {
             len_source: 0,
             ..SHORT
@@ -143,5 +186,52 @@ fn codes_that_are_none(rt: HostRuntime) {
         let mut text = [1; 2];
         assert_same(&rt, fault, fault_text(&fault, &mut text), 0);
         assert_same(&rt, fault, text, [0, 1]);
+    }
+}
+
+/// Returns what the text of a filter needs, by its code, with its words.
+fn expected_rows() -> [(u8, &'static str); 17] {
+    [
+        (1, "a term, `not` or `(`"),
+        (2, "`and`, `or` or the end"),
+        (3, "`and`, `or` or `)`"),
+        (4, "4 or 6"),
+        (
+            5,
+            "a number from 0 to 255, `hop-by-hop`, `routing`, `fragment`, `authentication` or `destination-options`",
+        ),
+        (6, "a number from 0 to 255 or the name of a protocol"),
+        (7, "`=`, `!=`, `<`, `<=`, `>` or `>=`"),
+        (8, "a number from 0 to 18446744073709551615"),
+        (9, "a number from 0 to 4294967295"),
+        (10, "an address or a prefix"),
+        (11, "no more than 64 terms"),
+        (12, "no more than 16 levels of parentheses"),
+        (13, "a number from 0 to 255"),
+        (14, "an address, a prefix or `port`"),
+        (15, "an address"),
+        (16, "a port or a range of ports, as 1024-65535"),
+        (
+            17,
+            "`fin`, `syn`, `rst`, `psh`, `ack`, `urg`, `ece` or `cwr`, or a list as syn,ack or syn/syn,ack",
+        ),
+    ]
+}
+
+#[test]
+fn words_of_what_is_expected(rt: HostRuntime) {
+    for (code, words) in expected_rows() {
+        let mut text = [1; 256];
+        assert_same(&rt, words, expected_text(code, &mut text), words.len());
+        check_text(&rt, words, &text);
+    }
+}
+
+#[test]
+fn codes_of_nothing_expected(rt: HostRuntime) {
+    for code in [0, 18, 33, 255] {
+        let mut text = [1; 2];
+        assert_same(&rt, code, expected_text(code, &mut text), 0);
+        assert_same(&rt, code, text, [0, 1]);
     }
 }

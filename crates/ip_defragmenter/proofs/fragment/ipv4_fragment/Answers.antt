@@ -1,6 +1,6 @@
 use Rattle.ip_spec.proofs.Common.{◌≡◌, ℕ, List, Some, None, refl, sym, ap, subst, ◌∙◌, arith, ◌++◌, bytes_of, cond-true}
 use Rattle.ip_base.specs.Ipv4Header.{is_ipv4_fragmenting, protocol, ipv4_source_octets, ipv4_destination_octets, ipv4_fragment_offset, ipv4_more_fragments}
-use Rattle.ip_base.specs.BaseHeaderFields.{ipv4_identification}
+use Rattle.ip_base.specs.BaseHeaderFields.{ipv4_ecn, ipv4_identification}
 use Rattle.ip_base.specs.declared.ip_number_impl.IpNumber.{IpNumber}
 use Rattle.ip_defragmenter.specs.declared.key.FragmentKey.TheVariants as key
 use Rattle.ip_base.specs.Ipv4HeaderSlice as ipv4_header
@@ -33,6 +33,7 @@ returns c =
       headers = (dissected s).base;
       link = 9;
       number = protocol (dissected s).base;
+      ecn = ipv4_ecn (dissected s).base;
       offset = ipv4_fragment_offset (dissected s).base;
       more = ipv4_more_fragments (dissected s).base;
       bytes = bytes_of (dissected s).headers ++ (dissected s).payload;
@@ -41,6 +42,7 @@ returns c =
     (c.slice.ensures.bytes ∙ base)
     refl
     (c.protocol-2.ensures ∙ ap protocol base)
+    (c.ecn.ensures ∙ ap ipv4_ecn base)
     (c.fragments_offset.ensures ∙ ap ipv4_fragment_offset base)
     (c.more_fragments.ensures ∙ ap ipv4_more_fragments base)
     bytes)

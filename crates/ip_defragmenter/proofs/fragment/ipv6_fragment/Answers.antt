@@ -1,4 +1,5 @@
-use Rattle.ip_spec.proofs.Common.{◌≡◌, ℕ, ◌+◌, List, Some, sym, ap, subst, ◌∙◌, arith, rules, option_map}
+use Rattle.ip_spec.proofs.Common.{◌≡◌, ℕ, ◌+◌, ◌%◌, List, Some, sym, ap, subst, ◌∙◌, arith, rules, option_map}
+use Rattle.ip_base.specs.BaseHeaderFields.{ipv6_traffic_class}
 use Rattle.ip_base.specs.Ipv6Header.{ipv6_source_octets, ipv6_destination_octets}
 use Rattle.ip_base.specs.Ipv6HeaderSlice as ipv6_header
 use Rattle.ip_dissect.specs.Dissection.{dissected}
@@ -35,6 +36,7 @@ returns c =
     (c.front.ensures ∙ ipv6_headers s c.args.packet.now.base c.args.packet.now.base_is w.header w.found c.args.header.now.start (ap (λ (x : FoundHeader). x.start) w.is))
     (ap (λ (f : Finder). f.link) c.requires.found)
     (ap (λ (x : FoundHeader). x.next_header.0) w.is)
+    (ap (λ (n : ℕ). n % 4) (c.traffic_class.ensures ∙ ap ipv6_traffic_class base))
     (ap (λ (x : FoundHeader). x.offset) w.is)
     (ap (λ (x : FoundHeader). x.more) w.is)
     (c.part.ensures ∙ ipv6_bytes s c.args.packet.now.base c.args.packet.now.base_is w.header w.found _ _ (ap (λ (x : FoundHeader). x.start + x.len) w.is) c.end_of.ensures.is))

@@ -15,7 +15,7 @@ returns-clause-own c = λ m there.
     let size : length xs ≡ length (slice_set xs i n) = sym (length-set xs i n) in (
       n,
       (
-        slice_get_read (slice_set xs i n) (length xs) i n size c.requires (sym (get_or-set_same xs i n n c.requires)),
+        slice_get_read (slice_set xs i n) (length xs) i n size c.requires.within (sym (get_or-set_same xs i n n c.requires.within)),
         subst (λ (x : PacketMemory). IsStored x n c.args.is_known (parts_of c.args.fragment.now) c.store_one.result) (get_or_from_slice_get xs i m _ there) c.store_one.ensures,
       ),
     )

@@ -1,4 +1,4 @@
-use Rattle.ip_spec.proofs.Common.{◌≡◌, ℕ, [], ◌∷◌, List, ExtHeader, IsChain, slice_index, take, drop, length, list_any, ◌-◌, refl, ap, true, false, sym, ◌∙◌, subst}
+use Rattle.ip_spec.proofs.Common.{◌≡◌, ℕ, [], ◌∷◌, List, ExtHeader, IsChain, slice_index, take, drop, length, list_any, ◌-◌, ◌||◌, refl, ap, true, false, sym, ◌∙◌, subst}
 use Rattle.ip_dissect.specs.Fragment.{fragments}
 use Rattle.ip_dissect.specs.Dissection.{DissectedParts, dissected}
 use Rattle.ip_dissect.specs.declared.outline.Outline.{Outline}
@@ -33,15 +33,18 @@ returns-in-Some c =
       selects = true;
       selects_fragmenting = c.fragments.result;
       selects_fragmented = false;
+      selects_covered = c.ne.result;
       selects_segments = c.has_segments.result;
       is_fragmented = c.args.later.now.is_fragmented;
+      has_authentication = c.eq.result || c.args.later.now.has_authentication;
       keeps_authentication = c.args.later.now.has_authentication;
       kept_len = length e - len;
     } in
     let which : v.which ≡ Index 0 = ap (λ (x : Survey). x.which) c.new-survey.ensures in
     let fragmented : v.is_fragmented ≡ list_any fragments (h ∷ d) = c.requires.fragmented ∙ ap (list_any fragments) all in
     let later : v.keeps_authentication ≡ list_any is_authentication d = c.requires.authentication ∙ ap (λ (x : List ExtHeader). list_any is_authentication (drop 1 x)) all in
-    first_surveyed h d v which refl (c.fragments.ensures h refl) refl (c.has_segments.ensures h refl) fragmented later found.2 ∙ ap (surveyed (no_survey (Index 0))) (sym all)
+    let any : v.has_authentication ≡ list_any is_authentication (h ∷ d) = ap (λ x. x || c.args.later.now.has_authentication) c.eq.ensures ∙ ap (λ x. is_authentication h || x) later in
+    first_surveyed h d v which refl (c.fragments.ensures h refl) refl c.ne.ensures (c.has_segments.ensures h refl) fragmented any later found.2 ∙ ap (surveyed (no_survey (Index 0))) (sym all)
 
 pub returns-in-None : goal.returns-in-None
 returns-in-None c =

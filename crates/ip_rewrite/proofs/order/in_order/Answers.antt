@@ -4,7 +4,8 @@ use Rattle.ip_dissect.specs.declared.outline.Outline.{Outline}
 use Rattle.ip_rewrite.specs.Rewritten.{rewritten_len, rewritten_parts}
 use Rattle.ip_rewrite.specs.Order.{in_order, ordering_fault}
 use Rattle.ip_rewrite.proofs.DissectLemmas.{written_front}
-use Rattle.ip_rewrite.proofs.OrderLemmas.{ordered_len, ordering_dissects}
+use Rattle.ip_rewrite.proofs.OrderLemmas.{ordered_len}
+use Rattle.ip_rewrite.proofs.OrderingLemmas.{ordering_dissects}
 use Rattle.ip_rewrite.proofs.order.in_order.Goals as goal
 
 pub returns-in-Ok-clause-dissects : goal.returns-in-Ok-clause-dissects

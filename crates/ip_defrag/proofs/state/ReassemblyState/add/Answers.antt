@@ -20,14 +20,14 @@ returns-in-Ok-true-clause-outcome c = λ s h.
     let at : c.from-first.result ≡ c.args.offset = c.from-first.ensures ∙ c.value.ensures.value in
     let new : IsNew s (fragment_at c.from-first.result c.args.more c.args.bytes.now) = MatchBool-at_true _ _ c.in-Ok-true.field-0-test (c.in-Ok-true.ensures.verdict s h) in
     subst (λ (n : ℕ). (let r : Result Progress AddError = Ok c.progress.result in r) ≡ outcome_of s (fragment_at n c.args.more c.args.bytes.now)) at
-    (ap Ok (c.progress.ensures _ (c.keep.ensures s h new)) ∙ sym (outcome_accepted s (fragment_at c.from-first.result c.args.more c.args.bytes.now) (sym h.abandoned ∙ (sym c.is_set.ensures ∙ c.if-is_set.false)) (not_refused s (fragment_at c.from-first.result c.args.more c.args.bytes.now) new)).0)
+    (ap Ok (c.progress.ensures _ (c.keep.ensures.kept s h new)) ∙ sym (outcome_accepted s (fragment_at c.from-first.result c.args.more c.args.bytes.now) (sym h.abandoned ∙ (sym c.is_set.ensures ∙ c.if-is_set.false)) (not_refused s (fragment_at c.from-first.result c.args.more c.args.bytes.now) new)).0)
 
 pub returns-in-Ok-true-clause-received : goal.returns-in-Ok-true-clause-received
 returns-in-Ok-true-clause-received c = λ s h.
     let at : c.from-first.result ≡ c.args.offset = c.from-first.ensures ∙ c.value.ensures.value in
     let new : IsNew s (fragment_at c.from-first.result c.args.more c.args.bytes.now) = MatchBool-at_true _ _ c.in-Ok-true.field-0-test (c.in-Ok-true.ensures.verdict s h) in
     subst (λ (n : ℕ). AreReceived (state_fields c.keep.new.self c.keep.new.buffer) (received_after s (fragment_at n c.args.more c.args.bytes.now))) at
-    (subst (AreReceived (state_fields c.keep.new.self c.keep.new.buffer)) (sym (outcome_accepted s (fragment_at c.from-first.result c.args.more c.args.bytes.now) (sym h.abandoned ∙ (sym c.is_set.ensures ∙ c.if-is_set.false)) (not_refused s (fragment_at c.from-first.result c.args.more c.args.bytes.now) new)).1) (c.keep.ensures s h new))
+    (subst (AreReceived (state_fields c.keep.new.self c.keep.new.buffer)) (sym (outcome_accepted s (fragment_at c.from-first.result c.args.more c.args.bytes.now) (sym h.abandoned ∙ (sym c.is_set.ensures ∙ c.if-is_set.false)) (not_refused s (fragment_at c.from-first.result c.args.more c.args.bytes.now) new)).1) (c.keep.ensures.kept s h new))
 
 pub returns-in-Ok-false-clause-outcome : goal.returns-in-Ok-false-clause-outcome
 returns-in-Ok-false-clause-outcome c = λ s h.

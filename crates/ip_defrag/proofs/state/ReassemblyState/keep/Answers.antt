@@ -3,8 +3,8 @@ use Rattle.ip_defrag.specs.Reassembly.{state_fields}
 use Rattle.ip_defrag.proofs.ReceivedLemmas.{kept, free_by}
 use Rattle.ip_defrag.proofs.state.ReassemblyState.keep.Goals as goal
 
-pub returns : goal.returns
-returns c = λ s h new.
+pub returns-clause-kept : goal.returns-clause-kept
+returns-clause-kept c = λ s h new.
     let free = free_by (state_fields c.args.self.now c.args.buffer.now) s c.args.first c.div_ceil.result c.args.more c.args.bytes.now h new c.div_ceil.ensures in
     kept (state_fields c.args.self.now c.args.buffer.now) _ s c.args.first c.div_ceil.result c.args.more c.args.bytes.now h new
     record {

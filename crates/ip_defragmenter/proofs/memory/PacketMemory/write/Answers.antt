@@ -1,16 +1,13 @@
-use Rattle.std.proofs.Common.{◌≡◌, true, ◌∙◌, refl}
-use Rattle.std.proofs.lemmas.Bool.{cond-true}
-use Rattle.std.specs.Prelude.{Some, None}
-use Rattle.ip_defrag.specs.Split.{are_among}
-use Rattle.ip_defrag.specs.Received.{received_none, received_all}
-use Rattle.ip_defrag.proofs.GivenLemmas.{shown_pieces}
-use Rattle.ip_defrag.specs.Received.{payload_in}
+use Rattle.std.proofs.Common.{List, ℕ, length, drop, ◌+◌, ◌++◌, ◌≡◌, subst}
+use Rattle.std.specs.Prelude.{Some, Ok, OnOk}
+use Rattle.ip_defragmenter.specs.Ecn.{is_congested, marked}
+use Rattle.ip_defragmenter.specs.Memory.{stored_none, stored_all}
+use Rattle.ip_defragmenter.specs.Whole.{whole_packet}
+use Rattle.ip_defragmenter.proofs.PiecesLemmas.{joined_payload, joined_points}
 use Rattle.ip_defragmenter.proofs.memory.PacketMemory.write.Goals as goal
 
 pub returns-clause-pieces : goal.returns-clause-pieces
-returns-clause-pieces c = λ payload pieces given limit f h split fits among all first.
-    let s = received_all (received_none limit true) given in
-    let there : payload_in (received_all (received_none limit true) given) ≡ Some payload =
-    shown_pieces (payload_in (received_all (received_none limit true) given)) payload pieces limit true given split fits among refl
-    ∙ cond-true (are_among pieces given) (Some payload) None all in
-    c.write_received.ensures.written s f payload h there first
+returns-clause-pieces c = λ payload pieces limit given f h split fits all joinable every first.
+    subst (λ (points : List ℕ). OnOk c.write_stored.result ((c.write_stored.result ≡ Ok (Some (length f.headers + length payload))) × (c.write_stored.new.out ≡ whole_packet (marked (is_congested points) f.headers) f.link f.number payload ++ drop (length f.headers + length payload) c.args.out.now)))
+    (joined_points payload pieces limit given split fits all joinable)
+    (c.write_stored.ensures.written (stored_all (stored_none limit) given) f payload h (joined_payload payload pieces limit given split fits all joinable every) first)

@@ -21,7 +21,7 @@ pub returns-in-Err-clause-err : goal.returns-in-Err-clause-err
 returns-in-Err-clause-err c = first_error _ _ _ c.in-Some.word _ _ c.words.invariant c.in-Some.ensures.some c.in-Err.ensures.err
 
 pub returns-in-Ok-finish-clause-ok : goal.returns-in-Ok-finish-clause-ok
-returns-in-Ok-finish-clause-ok c = parsed _ _ _ c.in-Ok-finish.steps c.of.result c.words.invariant (search rules) c.in_default.ensures.none c.in-Ok-finish.ensures.ok c.of.ensures
+returns-in-Ok-finish-clause-ok c = parsed _ _ _ c.in-Ok-finish.steps c.of.result c.words.invariant (search rules) c.in_default.ensures.none c.in-Ok-finish.ensures.ok c.of.ensures.formula c.of.ensures.tests
 
 pub returns-in-Err-finish-clause-err : goal.returns-in-Err-finish-clause-err
 returns-in-Err-finish-clause-err c = missing_end _ _ _ _ c.words.invariant c.in_default.ensures.none c.in-Err-finish.ensures.err

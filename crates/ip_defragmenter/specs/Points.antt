@@ -1,0 +1,12 @@
+-- What is kept of the ECN code points of a packet's fragments.
+use Rattle.std.specs.Prelude.{◌≡◌, ℕ, ◌==◌, List}
+use Rattle.std.specs.List.{list_any}
+use Rattle.ip_defrag.specs.Reassembly.{is_set}
+use Rattle.ip_defragmenter.specs.Ecn.{is_capable, is_congested}
+use Rattle.ip_defragmenter.specs.declared.points.Points.{Points}
+
+-- These are the code points.
+pub record HoldsPoints (p : Points) (points : List ℕ) : Type 0 where
+  pub incapable : is_set p.incapable ≡ list_any (λ point. point == 0) points
+  pub capable : is_set p.capable ≡ list_any is_capable points
+  pub congested : is_set p.congested ≡ is_congested points

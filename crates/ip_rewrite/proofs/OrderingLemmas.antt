@@ -1,0 +1,64 @@
+-- A packet whose headers are put in order dissects as the old one with this order.
+use Rattle.ip_spec.proofs.Common.{◌≡◌, ℕ, List, [], ◌∷◌, inl, inr, subst, refl, sym, ◌∙◌, arith, common_steps, Bool, true, false, false≢true, cases_Bool, ◌||◌, list_any, AllByRecursion, None, IsHeader, ExtHeader}
+use Rattle.ip_dissect.specs.LaterDemand.{is_later, has_later}
+use Rattle.ip_dissect.specs.Fragment.{fragments}
+use Rattle.ip_dissect.specs.Dissection.{DissectedParts, dissected}
+use Rattle.ip_dissect.specs.Outline.{IsBaseOf, is_later_end}
+use Rattle.ip_dissect.specs.declared.dissection.BaseHeader.{BaseHeader}
+use Rattle.std.specs.Prelude.{Option}
+use Rattle.ip_dissect.proofs.LaterLemmas.{met}
+use Rattle.ip_rewrite.specs.Rewritten.{rewritten, rewritten_parts}
+use Rattle.ip_rewrite.specs.Without.{packet_fault}
+use Rattle.ip_rewrite.specs.Order.{in_order, is_in_order, order_fault, ordering_fault}
+use Rattle.ip_rewrite.specs.declared.which.Authentication.{Authentication}
+use Rattle.ip_rewrite.proofs.ChainLemmas.{not_later}
+use Rattle.ip_rewrite.proofs.DissectLemmas.{none_first, IsWholeChain, whole_chain, CanFollow, as_is, changed}
+use Rattle.ip_rewrite.proofs.OrderLemmas.{all_ordered, ordered_count, zero_first}
+use Rattle.ip_rewrite.proofs.OrderLawLemmas.{in_order_same}
+
+-- no header is that of a later fragment
+none_later : (c : List ExtHeader) → list_any fragments c ≡ false → AllByRecursion (λ h. is_later h ≡ false) c
+none_later [] e = tt
+none_later (h ∷ c) e = (not_later h (first (fragments h) (list_any fragments c) e), none_later c (second (fragments h) (list_any fragments c) e))
+  where
+    first : (a b : Bool) → (a || b) ≡ false → a ≡ false
+    first true b e = absurd (false≢true (sym e))
+    first false b e = refl
+
+    second : (a b : Bool) → (a || b) ≡ false → b ≡ false
+    second true b e = absurd (false≢true (sym e))
+    second false b e = e
+
+later_none : (c : List ExtHeader) → AllByRecursion (λ h. is_later h ≡ false) c → has_later c ≡ false
+later_none [] a = refl
+later_none (h ∷ c) a = rw (a.0, later_none c a.1) refl
+
+unfragmented : (a : Authentication) (p : DissectedParts) → is_in_order p.headers ≡ false → order_fault a p ≡ None → list_any fragments p.headers ≡ false
+unfragmented a p s e = grind (arith, common_steps)
+
+follows : (a : Authentication) (p : DissectedParts) → IsWholeChain p → order_fault a p ≡ None → CanFollow p.version (is_later_end p.end) (in_order p.headers) p.number
+follows a p chain e =
+    let c : List ExtHeader = p.headers in
+    elim (cases_Bool (is_in_order c)) [
+      | inl s ↦ subst (λ d. CanFollow p.version (is_later_end p.end) d p.number) (sym (in_order_same 0 c s)) (as_is p chain)
+      | inr s ↦
+          let none : AllByRecursion (λ h. is_later h ≡ false) c = none_later c (unfragmented a p s e) in
+          let still : has_later (in_order c) ≡ false = later_none (in_order c) (all_ordered (λ h. is_later h ≡ false) c none) in
+          record {
+            headers = all_ordered (λ g. IsHeader g.number g.bytes) c chain.chain.headers;
+            zero = zero_first c chain.chain.zero_only_first;
+            later = still ∙ (sym (later_none c none) ∙ chain.later);
+            demand = met (in_order c) still;
+            ipv6 = chain.ipv6;
+            ipv4 = λ v. record { one = omega (arith, (chain.ipv4 v).one, ordered_count c); number = all_ordered (λ g. g.number ≡ 51) c (chain.ipv4 v).number };
+            last = λ v n. omega (arith, chain.last v n, ordered_count c);
+          }
+    ]
+
+pub ordering_dissects : (a : Authentication) (room : ℕ) (s : List ℕ) (o : Option BaseHeader) → IsBaseOf s o → ordering_fault a (dissected s) room ≡ None
+    → dissected (rewritten (dissected s) (in_order (dissected s).headers) (dissected s).number (dissected s).payload) ≡ rewritten_parts (dissected s) (in_order (dissected s).headers) (dissected s).number (dissected s).payload
+ordering_dissects a room s o is e =
+    let p : DissectedParts = dissected s in
+    let first = none_first (packet_fault p) _ e in
+    let rest = none_first (order_fault a p) _ first.1 in
+    changed (in_order p.headers) p.number p.payload room s o is first.0 (follows a p (whole_chain s o is first.0) rest.0) rest.1

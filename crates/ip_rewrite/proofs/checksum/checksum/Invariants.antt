@@ -1,6 +1,0 @@
-use Rattle.ip_spec.proofs.Common.{◌≡◌, ◌≤◌}
-use Rattle.ip_defragmenter.specs.Checksum.{sum_of}
-use Rattle.ip_rewrite.proofs.checksum.checksum.Given as goal
-
-abbrev pub invariant-words : goal.invariant-words
-invariant-words l = record { sum : l.sum ≡ sum_of l.bytes l.index; fits : l.sum ≤ 65535 }

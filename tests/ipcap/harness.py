@@ -13,6 +13,22 @@ class Failure(Exception):
     pass
 
 
+# A process starts with the peak memory of the one that started it, so a small one starts the command.
+MEASURE = """import os, subprocess, sys
+process = subprocess.Popen(sys.argv[1:], stdout=subprocess.DEVNULL)
+_, status, usage = os.wait4(process.pid, 0)
+print(os.waitstatus_to_exitcode(status), usage.ru_maxrss)
+"""
+
+
+def memory_used(command):
+    """Runs a command, and drops its standard output. Returns its status, its peak memory in kilobytes, and its standard
+    error."""
+    found = subprocess.run([sys.executable, "-I", "-S", "-c", MEASURE, *command], stdout=subprocess.PIPE, stderr=subprocess.PIPE, check=True)
+    status, peak = found.stdout.split()
+    return int(status), int(peak), found.stderr.decode()
+
+
 class Harness:
     def __init__(self, plain, sanitized, refusing, folder):
         self.plain = [plain]

@@ -12,6 +12,7 @@ import time
 
 from blocks import block, interface, option, packet, section, simple
 from captures import *
+from harness import memory_used
 from test_defrag import frame, ipv6_part, ipv6_whole, payload, pieces
 from test_use import refuse_each
 
@@ -171,13 +172,8 @@ def room_for_kept(harness):
             file.write(head)
             for _ in range(count):
                 file.write(long_frame)
-        with open(os.devnull, "wb") as output:
-            process = subprocess.Popen(harness.plain + ["defrag", "--keep", path], stdout=output, stderr=subprocess.PIPE)
-            errors = process.stderr.read().decode()
-            _, status, usage = os.wait4(process.pid, 0)
-            process.returncode = os.waitstatus_to_exitcode(status)
-            process.stderr.close()
-        harness.check(process.returncode == 1 and usage.ru_maxrss < 300 << 10, "memory", usage.ru_maxrss, process.returncode)
+        status, peak, errors = memory_used(harness.plain + ["defrag", "--keep", path])
+        harness.check(status == 1 and peak < 300 << 10, "memory", peak, status)
         lost = re.search(r"(\d+) of these weren't kept: out of memory\n", errors)
         harness.check(lost and 0 < count - int(lost[1]) <= (256 << 20) // len(long_frame), "lost", errors, count)
 

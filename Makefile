@@ -33,7 +33,8 @@
 # make diff           compare its results with etherparse 0.19.0 (SEED=..; LINES=..: how many cases)
 # make diff-test      test that comparison
 # make diff-fields    compare fragment headers with scapy (SEED=..; HEADERS=..: how many)
-# make fuzz           compare its results with etherparse 0.19.0 on inputs made by AFL++ (MINUTES=..)
+# make fuzz           compare its results with etherparse 0.19.0 on inputs made by AFL++, and run ipcap on captures that are
+#                     changed at random (MINUTES=.. for each)
 # make fuzz-test      test that comparison
 #
 # The last eight and make test-c take CARGO_FLAGS="..", additional flags for Cargo, such as one that locates the crate
@@ -233,8 +234,9 @@ diff-test:
 diff-fields:
 	tests/diff/fields
 
-fuzz:
+fuzz: lib-x86_64
 	tests/fuzz/run
+	tests/ipcap/fuzz build build
 
 fuzz-test:
 	tests/fuzz/test

@@ -104,7 +104,8 @@ impl Slot {
         if self.is_free() { 0 } else { self.since }
     }
 
-    /// Returns whether the slot is that of the packet with this key in this context. Compares the shortest fields first.
+    /// Returns whether the slot is that of the packet with this key in this context. Compares the identification first, which
+    /// differs most often.
     #[inline(always)]
     pub(crate) fn has_key(&self, context: u32, key: &FragmentKey) -> bool
         ensures { result ≡ has_key context key.now self.now }
@@ -116,9 +117,9 @@ impl Slot {
                 protocol,
                 identification,
             } => {
-                self.version == 4
+                self.identification % 65536 == u32::from(*identification)
+                    && self.version == 4
                     && self.context == context
-                    && self.identification % 65536 == u32::from(*identification)
                     && self.protocol == protocol.0
                     && front_of(&self.source) == *source
                     && front_of(&self.destination) == *destination
@@ -128,9 +129,9 @@ impl Slot {
                 destination,
                 identification,
             } => {
-                self.version == 6
+                self.identification == *identification
+                    && self.version == 6
                     && self.context == context
-                    && self.identification == *identification
                     && self.source == *source
                     && self.destination == *destination
             }

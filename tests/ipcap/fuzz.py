@@ -1,0 +1,194 @@
+"""Runs all commands of ipcap, built with sanitizers, on captures that are changed at random.
+
+Each run has to end by itself, with a status that the manual has. If the status is 0, what was written has to be readable,
+by ipcap and by Wireshark's reader, which capinfos uses.
+
+usage: fuzz.py IPCAP MINUTES SEED FOLDER. Prints the number of runs. At the first error, prints the capture, which stays in
+FOLDER, and what was wrong.
+"""
+
+import concurrent.futures
+import os
+import random
+import struct
+import subprocess
+import sys
+import tempfile
+import time
+
+from blocks import block, interface, obsolete, option, packet, section, simple
+from captures import *
+
+SECONDS = 120
+# how many outputs capinfos reads at a time
+BATCH = 100
+WORDS = [bytes(4), b"\xff" * 4, b"\x7f\xff\xff\xff", b"\x80\0\0\0", b"\0\1\1\0", b"\n\r\r\n", b"\x1a\x2b\x3c\x4d", b"\x4d\x3c\x2b\x1a"]
+WRITING = [["filter", "fault or not fault"], ["filter", "--defrag", "not fragment"], ["filter", "-c", "3", "header 44 or tcp"],
+           ["defrag"], ["defrag", "--keep"], ["defrag", "--keep", "--slots", "1"], ["rewrite", "--without", "0", "--without", "60"],
+           ["rewrite", "--clear", "--in-order"], ["rewrite", "--break-authentication", "--without", "51", "--without", "43"]]
+READING = [["stat"], ["stat", "--json", "--tunnels"], ["stat", "--defrag", "--per-file"], ["show"], ["show", "--json"],
+           ["show", "--csv", "--defrag"], ["show", "--one-line"]]
+
+
+def frames(draw):
+    """Returns frames of each kind that the commands treat in a way of their own."""
+    number, data = draw.randrange(3), bytes(range(64))
+    parts = [ipv6(44, fragment(17, offset, more, number) + data[8 * offset:8 * offset + size])
+             for offset, more, size in draw.sample([(0, 1, 24), (3, 1, 24), (6, 0, 16)], 3)]
+    pieces = [ipv4(17, data[8 * it:8 * it + 32], (it == 0) << 13 | it) for it in draw.sample([0, 4], 2)]
+    chains = [ipv6_chain([draw.choice([0, 43, 44, 51, 60]) for _ in range(draw.randrange(5))]) for _ in range(2)]
+    tunnels = [ipv4(41, ipv6_chain([0, 60])), ipv4(47, gre(0x86DD, ipv6_chain([60]))), ipv6(4, ipv4(51, authentication(17) + UDP))]
+    packets = parts + pieces + chains + tunnels
+    return [ethernet(it, draw.choice([(), (), (0x8100,)])) for it in draw.sample(packets, len(packets))]
+
+
+def classic(draw):
+    """Returns the parts of a classic capture: its header and its records."""
+    order = draw.choice("<>")
+    head = file_header(draw.choice([ETHERNET, ETHERNET, RAW]), 65535, draw.choice([MICROSECONDS, NANOSECONDS]), order)
+    return [head] + [record(it, draw.choice([None, None, len(it) - 3]), 1000 + number, 5, order) for number, it in enumerate(frames(draw))]
+
+
+def sections(draw):
+    """Returns the blocks of a pcapng file of one or two sections."""
+    found = []
+    for _ in range(draw.choice([1, 1, 2])):
+        order = draw.choice("<>")
+        found += [section(order), interface(ETHERNET, draw.choice([0, 96]), option(9, bytes([draw.choice([3, 6, 9])]), order), order)]
+        comment = option(1, b"a comment", order) + option(0, b"", order)
+        for it in frames(draw):
+            found.append(draw.choice([packet(it, order=order), packet(it, options=comment, order=order), packet(it, kept=len(it) - 3, order=order),
+                                      simple(it, order=order), obsolete(it, order=order),
+                                      interface(draw.choice([ETHERNET, RAW]), order=order) + packet(it, order=order),
+                                      block(draw.choice([4, 5, 10, 0xBAD]), bytes(20), order) + packet(it, order=order)]))
+    return found
+
+
+def rearranged(draw, parts):
+    """Returns parts of which some come twice, are missing, or change places."""
+    for _ in range(draw.choice([0, 0, 1, 2])):
+        at = draw.randrange(len(parts))
+        change = draw.randrange(3)
+        parts = parts[:at] + ([parts[at]] * 2 if change == 0 else draw.choices(parts, k=2) if change == 1 else []) + parts[at + 1:]
+    return parts
+
+
+def changed(draw, content):
+    """Returns bytes of which some are others, are missing, or are added."""
+    content = bytearray(content)
+    for _ in range(draw.choice([0, 0, 1, 1, 2, 5])):
+        at = draw.randrange(len(content) + 1)
+        kind = draw.randrange(5)
+        if kind == 0 and at < len(content):
+            content[at] = draw.choice([0, 1, 255, content[at] ^ 1 << draw.randrange(8), draw.randrange(256)])
+        elif kind == 1:
+            content[at & -4:(at & -4) + 4] = draw.choice(WORDS)
+        elif kind == 2:
+            content[at:at] = bytes(draw.choice([1, 4, 8, 100]))
+        elif kind == 3:
+            del content[at:at + draw.choice([1, 4, 32])]
+        elif kind == 4 and at + 4 <= len(content):
+            word, = struct.unpack_from("<I", content, at & -4)
+            struct.pack_into("<I", content, at & -4, (word + draw.choice([-4, -1, 1, 4, 65536])) % (1 << 32))
+    return bytes(content)
+
+
+def made(draw):
+    """Returns a capture."""
+    parts = draw.choice([classic, sections])(draw)
+    content = changed(draw, b"".join(rearranged(draw, parts)))
+    return content[:draw.randrange(len(content) + 1)] if draw.randrange(8) == 0 else content
+
+
+class Wrong(Exception):
+    """What was wrong, with the capture that shows it."""
+
+
+def run(command, content):
+    """Runs a command on a capture, and checks how it ends. Returns the process."""
+    environment = dict(os.environ, ASAN_OPTIONS="exitcode=98", UBSAN_OPTIONS="halt_on_error=1:exitcode=98")
+    try:
+        found = subprocess.run(command, input=content, stdout=subprocess.PIPE, stderr=subprocess.PIPE, env=environment, timeout=SECONDS)
+    except subprocess.TimeoutExpired as error:
+        raise Wrong(f"{command[1:]} takes more than {SECONDS} seconds") from error
+    if found.returncode not in (0, 1):
+        raise Wrong(f"{command[1:]} ends with {found.returncode}: {found.stderr.decode(errors='replace')}")
+    if found.returncode == 1 and not found.stderr.startswith(b"ipcap: "):
+        raise Wrong(f"{command[1:]} ends with 1 and without a message: {found.stderr!r}")
+    return found
+
+
+def written(ipcap, words, content):
+    """Returns what a command writes, or None if its status isn't 0. Checks that ipcap reads it again."""
+    found = run([ipcap, *words], content)
+    if words in READING or found.returncode:
+        return None
+    again = run([ipcap, "stat"], found.stdout)
+    if again.returncode:
+        raise Wrong(f"{words}: what was written can't be read: {again.stderr.decode(errors='replace')}")
+    return found.stdout
+
+
+def attempt(ipcap, draw, name):
+    """Runs one command on one capture, which is kept as NAME.in. If it writes one, keeps that as NAME.out, and returns
+    the command's words."""
+    content, words = made(draw), draw.choice(WRITING * 2 + READING)
+    with open(name + ".in", "wb") as file:
+        file.write(content)
+    try:
+        output = written(ipcap, words, content)
+    except Wrong as error:
+        raise Wrong(f"{name}.in: {error}") from None
+    if output is None:
+        return None
+    with open(name + ".out", "wb") as file:
+        file.write(output)
+    return words
+
+
+def read_by_others(outputs):
+    """Checks that Wireshark's reader reads outputs, each a name and the words of the command."""
+    if not outputs:
+        return
+    found = subprocess.run(["capinfos", "-T", "-r", "-c", *(name + ".out" for name, _ in outputs)], stdout=subprocess.PIPE, stderr=subprocess.PIPE)
+    said = found.stderr.decode(errors="replace")
+    for name, words in outputs:
+        if name + ".out" in said:
+            raise Wrong(f"{name}.in: {words}: Wireshark can't read what was written: {said}")
+    if found.returncode:
+        raise Wrong(f"capinfos ends with {found.returncode}: {said}")
+
+
+def work(ipcap, seed, until, folder):
+    """Runs commands until a time. Returns how many ran, and how many outputs were read again."""
+    draw, runs, read, outputs = random.Random(seed), 0, 0, []
+    os.mkdir(folder)
+    while time.monotonic() < until:
+        name = os.path.join(folder, f"{len(outputs):03}")
+        words = attempt(ipcap, draw, name)
+        outputs += [(name, words)] if words else []
+        runs += 1
+        if len(outputs) == BATCH:
+            read_by_others(outputs)
+            read, outputs = read + BATCH, []
+    read_by_others(outputs)
+    return runs, read + len(outputs)
+
+
+def main():
+    ipcap, minutes, seed, folder = sys.argv[1:]
+    until, count = time.monotonic() + 60 * float(minutes), os.cpu_count() or 1
+    with concurrent.futures.ProcessPoolExecutor(count) as pool:
+        jobs = [pool.submit(work, ipcap, f"{seed} {it}", until, os.path.join(folder, f"worker-{it}")) for it in range(count)]
+        try:
+            done = [it.result() for it in jobs]
+        except Wrong as error:
+            print(error)
+            return 1
+    runs, read = map(sum, zip(*done))
+    print(f"{runs} runs, {read} outputs read again: passed")
+    return 0 if read else 1
+
+
+if __name__ == "__main__":
+    sys.exit(main())

@@ -3,13 +3,14 @@ use Rattle.ip_spec.proofs.Common.{◌≡◌, ℕ, zero, suc, ◌+◌, ◌-◌, �
 use Rattle.std.proofs.Common.{get_or, replicate, eqb, ltb, leb, bit_or, w8, Fits, append-nil}
 use Rattle.std.proofs.Math.Seq.{take-add}
 use Rattle.std.proofs.lemmas.Bool.{agree_below_at}
-use Rattle.std.proofs.lemmas.List.{get_or-map}
+use Rattle.std.proofs.lemmas.List.{get_or-map, length-take-le, take-take}
 use Rattle.std.proofs.lemmas.List.Elements.{All-tail}
 use Rattle.std.proofs.lemmas.List.Folds.{list_all-append}
 use Rattle.std.proofs.lemmas.List.FromFn.{get_or-map-range_with_len, length-map-range_with_len}
 use Rattle.std.proofs.lemmas.List.Sums.{AllPass-from_list_all, list_all-from_AllPass}
 use Rattle.std.proofs.lemmas.Simd.{length-zip2, length-sel_l, mask_l-mod, length-chunk, take_more_put_chunk, tops_compared, zip2_splat_left}
 use Rattle.std.specs.List.{AllPass, list_all}
+use Rattle.std.specs.Bool.{OnTrue}
 use Rattle.std.specs.Result.{is_ok, MatchResult}
 use Rattle.std.specs.Simd.Lanes.{chunk, put_chunk, zip2, sel_l, top, mask_l, Each1}
 use Rattle.hex.specs.Hex.{is_hex_digit, value_at, decode_pairs, decode_of, decode_sized}
@@ -184,22 +185,38 @@ module _ (text front back : List ℕ) (at : ℕ) (inside : 2 * at + 32 ≤ lengt
       let stored : take (at + 16) (put_chunk at old bytes) ≡ take at old ++ joined_lanes (front ++ back) = rw joined (take_more_put_chunk at old (joined_lanes (front ++ back)) (at + 16) refl room) in
       rw (whole, stored) (decode_of-append _ _ _ _ before (block_decoded is))
 
--- ---- the digits after whole blocks
+-- ---- the bytes before the last block, part of which are decoded already
 
-module _ (text old : List ℕ) (at n m : ℕ) (twice : length text ≡ 2 * length old) (inside : at + n ≡ length old) (same : m ≡ n) where
-  left : decode_sized (take (length text - 2 * at) (drop (2 * at) text)) m ≡ decode_of (drop (2 * at) text)
-  left =
-      let len = length-drop (2 * at) text in
-      rw (take_all (length text - 2 * at) (drop (2 * at) text) (omega (arith, len))) (decode_sized-twice (drop (2 * at) text) m (omega (arith, same, len)))
+paired-take : (k : ℕ) (s : List ℕ) → length s % 2 ≡ 0 → paired (take (2 * k) s) ≡ take k (paired s)
+unfolding paired
+paired-take zero s even = refl
+paired-take (suc k) [] even = grind (arith, common_steps)
+paired-take (suc k) (a ∷ b ∷ s) even =
+    let twice : 2 * suc k ≡ suc (suc (2 * k)) = omega arith in
+    rw twice (ap (λ (xs : List ℕ). (digit_value a * 16 + digit_value b) ∷ xs) (paired-take k s (omega arith)))
+paired-take (suc k) (a ∷ []) even = absurd (omega arith)
 
-  pub left-decoded : decode_of (take (2 * at) text) ≡ Ok (take at old) → (out : List ℕ) → decode_sized (take (length text - 2 * at) (drop (2 * at) text)) m ≡ Ok out → decode_of text ≡ Ok (put_mid at n old out)
-  left-decoded before out is =
-      let none : drop n (drop at old) ≡ [] = drop_all n (drop at old) (omega (arith, length-drop at old)) in
-      let both = decode_of-append (take (2 * at) text) (drop (2 * at) text) (take at old) out before (sym left ∙ is) in
-      rw (none, append-nil out) (rw take-append-drop at both)
+decode_of-take : (k : ℕ) (s x : List ℕ) → 2 * k ≤ length s → decode_of s ≡ Ok x → decode_of (take (2 * k) s) ≡ Ok (take k x)
+decode_of-take k s x within is =
+    let digits = decode_of-ok s x is in
+    let all = decode_of-same s x _ is (decode_of-digits s digits.0 digits.1) in
+    let even : length (take (2 * k) s) % 2 ≡ 0 = omega (arith, length-take-le (2 * k) s within) in
+    rw all (decode_of-digits (take (2 * k) s) even (All-take IsDigit (2 * k) s digits.1) ∙ ap Ok (paired-take k s digits.0))
 
-  pub left-refused : (e : FromHexError) → decode_sized (take (length text - 2 * at) (drop (2 * at) text)) m ≡ Err e → result_ok (decode_of text) ≡ None
-  left-refused e is = refused text (λ digits. cc (decode_of-digits (drop (2 * at) text) (omega (arith, length-drop (2 * at) text)) (All-drop IsDigit (2 * at) text digits), sym left ∙ is))
+before_last : (text old : List ℕ) (at first : ℕ) → first ≤ at → at ≤ length old → length text ≡ 2 * length old → decode_of (take (2 * at) text) ≡ Ok (take at old) → decode_of (take (2 * first) text) ≡ Ok (take first old)
+before_last text old at first before inside twice is =
+    let within : 2 * first ≤ length (take (2 * at) text) = omega (arith, length-take-le (2 * at) text (omega arith)) in
+    let part = decode_of-take first (take (2 * at) text) (take at old) within is in
+    rw (take-take (2 * first) (2 * at) text (omega arith), take-take first at old before) at part
+
+-- the last block ends where the text does
+pub last_decoded : (text old new : List ℕ) (at first : ℕ) (are_digits : Bool) → length text ≡ 2 * length old → first + 16 ≡ length old → length new ≡ length old → first ≤ at → at ≤ length old
+    → decode_of (take (2 * at) text) ≡ Ok (take at old)
+    → OnTrue are_digits (decode_of (take (2 * first) text) ≡ Ok (take first old) → decode_of (take (2 * (first + 16)) text) ≡ Ok (take (first + 16) new))
+    → OnTrue are_digits (decode_of text ≡ Ok new)
+last_decoded text old new at first false twice last same before inside is block = tt
+last_decoded text old new at first true twice last same before inside is block =
+    rw (take_all (2 * (first + 16)) text (omega arith), take_all (first + 16) new (omega arith)) at (block (before_last text old at first before inside twice is))
 
 -- what `decode_to_slice` says of the text is what the text denotes
 pub written_ok : (d : Result (List ℕ) FromHexError) (r : Result Unit FromHexError) (out : List ℕ) → MatchResult d (λ bytes. (r ≡ Ok tt) × (out ≡ bytes)) (λ e. r ≡ Err e) → is_ok r ≡ true → d ≡ Ok out

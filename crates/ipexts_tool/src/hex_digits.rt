@@ -1,4 +1,5 @@
-//! Hexadecimal digits: whole blocks of 32 are decoded by vectors of 16 bytes, and what is left by the crate `hex`.
+//! Hexadecimal digits: blocks of 32 are decoded by vectors of 16 bytes, the last one where the text ends. The crate `hex`
+//! decodes texts shorter than a block.
 ghost use Rattle.std.specs.Prelude.{◌≡◌, ◌+◌, ◌*◌, ◌%◌, ◌≤◌, ◌++◌, length, take, map, slice_index, nat_lt};
 ghost use Rattle.std.specs.List.{range_with_len, list_all};
 ghost use Rattle.std.specs.Bool.{OnTrue, OnFalse};
@@ -17,14 +18,18 @@ pub fn decode(text: &[u8], bytes: &mut [u8]) -> bool
     ensures digits { OnTrue result (decode_of text.now ≡ Ok bytes.new) }
     ensures other { OnFalse result (result_ok (decode_of text.now) ≡ None) }
 {
+    let len = bytes.len();
+    if len < BLOCK_LEN {
+        return hex::decode_to_slice(text, bytes).is_ok();
+    }
     let mut at = 0;
-    'blocks: while bytes.len() - at >= BLOCK_LEN {
+    'blocks: while len - at > BLOCK_LEN {
         if !decode_block(text, at, bytes) {
             return false;
         }
         at += BLOCK_LEN;
     }
-    hex::decode_to_slice(&text[2 * at..], &mut bytes[at..]).is_ok()
+    decode_block(text, len - BLOCK_LEN, bytes)
 }
 
 /// Stores the bytes of the block that starts at byte `at`. Returns whether all its digits are digits. The bytes before

@@ -1,6 +1,6 @@
 -- Vectors of hexadecimal digits, lane by lane, and the bytes that all digits of a text denote.
-use Rattle.ip_spec.proofs.Common.{◌≡◌, ℕ, zero, suc, ◌+◌, ◌-◌, ◌*◌, ◌%◌, ◌^◌, ◌<◌, ◌≤◌, List, [], ◌∷◌, ◌++◌, length, map, Bool, true, false, ◌&&◌, cond, refl, sym, ap, ◌∙◌, arith, common_steps, nat_tests, eqb-true, false≢true, drop, take, take_all, drop_all, length-drop, length-append, length-map, map-append, drop-drop, take-append-drop, All-append, All-take, All-drop, put_mid, result_ok, range_with_len, None, Result, Ok, Err}
-use Rattle.std.proofs.Common.{get_or, replicate, eqb, ltb, leb, bit_or, w8, Fits, append-nil}
+use Rattle.ip_spec.proofs.Common.{◌≡◌, ℕ, zero, suc, ◌+◌, ◌-◌, ◌*◌, ◌%◌, ◌^◌, ◌<◌, ◌≤◌, List, [], ◌∷◌, ◌++◌, length, map, Bool, true, false, ◌&&◌, cond, refl, sym, ap, ◌∙◌, arith, common_steps, nat_tests, eqb-true, false≢true, drop, take, take_all, length-append, length-map, map-append, drop-drop, All-append, All-take, All-drop, result_ok, range_with_len, None, Result, Ok, Err}
+use Rattle.std.proofs.Common.{get_or, replicate, eqb, ltb, leb, bit_or, w8, Fits}
 use Rattle.std.proofs.Math.Seq.{take-add}
 use Rattle.std.proofs.lemmas.Bool.{agree_below_at}
 use Rattle.std.proofs.lemmas.List.{get_or-map, length-take-le, take-take}
@@ -13,9 +13,9 @@ use Rattle.std.specs.List.{AllPass, list_all}
 use Rattle.std.specs.Bool.{OnTrue}
 use Rattle.std.specs.Result.{is_ok, MatchResult}
 use Rattle.std.specs.Simd.Lanes.{chunk, put_chunk, zip2, sel_l, top, mask_l, Each1}
-use Rattle.hex.specs.Hex.{is_hex_digit, value_at, decode_pairs, decode_of, decode_sized}
+use Rattle.hex.specs.Hex.{is_hex_digit, value_at, decode_pairs, decode_of}
 use Rattle.hex.specs.declared.error.FromHexError.{FromHexError}
-use Rattle.hex.proofs.HexLemmas.{decode_sized-twice, decode_of-even, decode_of-ok, decode_of-same}
+use Rattle.hex.proofs.HexLemmas.{decode_of-even, decode_of-ok, decode_of-same}
 use Rattle.ipexts_tool.specs.HexDigits.{digit_value}
 
 -- ---- the value of a digit in each lane

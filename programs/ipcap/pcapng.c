@@ -13,6 +13,7 @@ enum {
     INTERFACE_DESCRIPTION = 1,
     OBSOLETE_PACKET = 2,
     SIMPLE_PACKET = 3,
+    INTERFACE_STATISTICS = 5,
     ENHANCED_PACKET = 6,
     CUSTOM_NOT_COPIED = 0x40000bad
 };
@@ -26,12 +27,15 @@ enum {
     MAJOR_AT = 12,
     MINOR_AT = 14,
     SECTION_LENGTH_AT = 16,
+    SECTION_OPTIONS_AT = 24,
     LEAST_SECTION = 28,
     SNAP_LEN_AT = 12,
     INTERFACE_OPTIONS_AT = 16,
     LEAST_INTERFACE = 20,
     SIMPLE_FRAME_AT = 12,
     LEAST_SIMPLE = 16,
+    STATISTICS_OPTIONS_AT = 20,
+    LEAST_STATISTICS = 24,
     TIME_AT = 12,
     CAPTURED_LEN_AT = 20,
     LEN_AT = 24,
@@ -138,28 +142,6 @@ static bool read_length(struct pcapng *pcapng)
                 MOST_BLOCK);
 }
 
-static bool read_section(struct pcapng *pcapng)
-{
-    unsigned major = half_word_at(pcapng, MAJOR_AT), minor = half_word_at(pcapng, MINOR_AT);
-    if (major != 1 || (minor != 0 && minor != 2))
-        return fail(pcapng, "section", "has version %u.%u, which isn't supported", major, minor);
-    pcapng->interface_count = 0;
-    memset(pcapng->block + SECTION_LENGTH_AT, 0xff, 8);
-    return true;
-}
-
-/* Returns libpcap's DLT_ value for a link type in a file. Those that differ are the same on each system. */
-static int link_type_of(unsigned number)
-{
-    static const struct {
-        unsigned number;
-        int link_type;
-    } types[] = {{100, DLT_ATM_RFC1483}, {101, DLT_RAW}, {102, DLT_SLIP_BSDOS}, {103, DLT_PPP_BSDOS}};
-    for (size_t i = 0; i < sizeof types / sizeof *types; i++)
-        if (types[i].number == number) return types[i].link_type;
-    return (int)number;
-}
-
 /* Reads a resolution: a power of 10, or of 2 if the first bit is set. */
 static bool read_resolution(struct pcapng *pcapng, uint8_t resolution, struct interface *interface)
 {
@@ -184,22 +166,45 @@ static bool read_interface_option(struct pcapng *pcapng, unsigned code, size_t a
     return true;
 }
 
-static bool read_interface_options(struct pcapng *pcapng, struct interface *interface)
+/* Reads the options of a block from an offset on. Those of an interface description change `interface`; others are only
+ * passed over, and have none. */
+static bool read_options(struct pcapng *pcapng, const char *what, size_t at, struct interface *interface)
 {
     enum { HEAD_LEN = 4 };
     size_t end = pcapng->len - TRAILER_LEN;
-    for (size_t at = INTERFACE_OPTIONS_AT; end - at >= HEAD_LEN;) {
+    while (end - at >= HEAD_LEN) {
         unsigned code = half_word_at(pcapng, at);
         size_t len = half_word_at(pcapng, at + 2), padded = (len + 3) / 4 * 4;
         at += HEAD_LEN;
-        if (code == 0) return true;
         if (padded > end - at)
-            return fail(pcapng, "interface description", "has an option of %zu bytes, but only %zu are left", len,
-                        end - at);
-        if (!read_interface_option(pcapng, code, at, len, interface)) return false;
+            return fail(pcapng, what, "has an option of %zu bytes, but only %zu are left", len, end - at);
+        if (code == 0) return true;
+        if (interface && !read_interface_option(pcapng, code, at, len, interface)) return false;
         at += padded;
     }
     return true;
+}
+
+static bool read_section(struct pcapng *pcapng)
+{
+    unsigned major = half_word_at(pcapng, MAJOR_AT), minor = half_word_at(pcapng, MINOR_AT);
+    if (major != 1 || (minor != 0 && minor != 2))
+        return fail(pcapng, "section", "has version %u.%u, which isn't supported", major, minor);
+    pcapng->interface_count = 0;
+    memset(pcapng->block + SECTION_LENGTH_AT, 0xff, 8);
+    return read_options(pcapng, "section header", SECTION_OPTIONS_AT, NULL);
+}
+
+/* Returns libpcap's DLT_ value for a link type in a file. Those that differ are the same on each system. */
+static int link_type_of(unsigned number)
+{
+    static const struct {
+        unsigned number;
+        int link_type;
+    } types[] = {{100, DLT_ATM_RFC1483}, {101, DLT_RAW}, {102, DLT_SLIP_BSDOS}, {103, DLT_PPP_BSDOS}};
+    for (size_t i = 0; i < sizeof types / sizeof *types; i++)
+        if (types[i].number == number) return types[i].link_type;
+    return (int)number;
 }
 
 static bool make_interface_room(struct pcapng *pcapng)
@@ -222,12 +227,18 @@ static bool read_interface(struct pcapng *pcapng)
     struct interface interface = {.link_type = link_type_of(half_word_at(pcapng, BODY_AT)),
                                   .snap_len = word_at(pcapng, SNAP_LEN_AT), .units_per_second = 1000000};
     interface.link_layer = find_link_layer(interface.link_type);
-    if (!read_interface_options(pcapng, &interface)) return false;
+    if (!read_options(pcapng, "interface description", INTERFACE_OPTIONS_AT, &interface)) return false;
     pcapng->interfaces[pcapng->interface_count++] = interface;
     return true;
 }
 
-/* Determines the kind of a block, and reads it if it describes a section or an interface. */
+static bool read_statistics(struct pcapng *pcapng)
+{
+    if (pcapng->len < LEAST_STATISTICS) return fail(pcapng, "interface statistics block", "is too short");
+    return read_options(pcapng, "interface statistics block", STATISTICS_OPTIONS_AT, NULL);
+}
+
+/* Determines the kind of a block, and reads it if it is neither a packet nor of another type. */
 static bool take_block(struct pcapng *pcapng)
 {
     uint32_t type = word_at(pcapng, 0);
@@ -235,6 +246,7 @@ static bool take_block(struct pcapng *pcapng)
     if (type == ENHANCED_PACKET || type == SIMPLE_PACKET || type == OBSOLETE_PACKET) pcapng->kind = BLOCK_PACKET;
     if (type == CUSTOM_NOT_COPIED) pcapng->kind = BLOCK_PRIVATE;
     if (type == SECTION_HEADER) return read_section(pcapng);
+    if (type == INTERFACE_STATISTICS) return read_statistics(pcapng);
     if (type != INTERFACE_DESCRIPTION) return true;
     pcapng->kind = BLOCK_INTERFACE;
     return read_interface(pcapng);
@@ -305,16 +317,24 @@ static bool read_timed_packet(struct pcapng *pcapng, bool is_enhanced, struct bl
     return true;
 }
 
+/* Checks that a packet fits into its block. A simple packet is all of its block; options may follow the others. */
+static bool test_packet(struct pcapng *pcapng, bool is_simple, const struct block_packet *packet)
+{
+    size_t at = (size_t)(packet->frame - pcapng->block), room = pcapng->len - TRAILER_LEN - at;
+    size_t padded = ((size_t)packet->captured_len + 3) / 4 * 4;
+    if (padded > room || (is_simple && padded < room))
+        return fail(pcapng, "packet", "has a length of %u, but its block has %s%zu bytes", packet->captured_len,
+                    padded > room ? "only " : "", room);
+    return is_simple || read_options(pcapng, "packet", at + padded, NULL);
+}
+
 bool read_block_packet(struct pcapng *pcapng, struct block_packet *packet)
 {
     uint32_t type = word_at(pcapng, 0);
     *packet = (struct block_packet){0};
-    bool is_read = type == SIMPLE_PACKET ? read_simple_packet(pcapng, packet)
-                                         : read_timed_packet(pcapng, type == ENHANCED_PACKET, packet);
-    if (!is_read) return false;
-    size_t room = (size_t)(pcapng->block + pcapng->len - TRAILER_LEN - packet->frame);
-    if (packet->captured_len <= room) return true;
-    return fail(pcapng, "packet", "has a length of %u, but its block has only %zu bytes", packet->captured_len, room);
+    bool is_simple = type == SIMPLE_PACKET;
+    bool is_read = is_simple ? read_simple_packet(pcapng, packet) : read_timed_packet(pcapng, type == ENHANCED_PACKET, packet);
+    return is_read && test_packet(pcapng, is_simple, packet);
 }
 
 void end_pcapng(struct pcapng *pcapng)

@@ -1,7 +1,8 @@
 """Runs all commands of ipcap, built with sanitizers, on captures that are changed at random.
 
-Each run has to end by itself, with a status that the manual has. If the status is 0, what was written has to be readable,
-by ipcap and by Wireshark's reader, which capinfos uses.
+Each run has to end by itself, with a status that the manual has. If the status is 0, what was written has to be readable:
+by ipcap, and by Wireshark's reader, which capinfos uses, if that reads the capture. Blocks of pcapng that are neither
+packets nor of the file's structure are copied as they are.
 
 usage: fuzz.py IPCAP MINUTES SEED FOLDER. Prints the number of runs. At the first error, prints the capture, which stays in
 FOLDER, and what was wrong.
@@ -146,17 +147,18 @@ def attempt(ipcap, draw, name):
     return words
 
 
+def is_readable(*paths):
+    """Whether Wireshark's reader reads captures to their ends."""
+    return subprocess.run(["capinfos", "-T", "-r", "-c", *paths], stdout=subprocess.DEVNULL, stderr=subprocess.DEVNULL).returncode == 0
+
+
 def read_by_others(outputs):
-    """Checks that Wireshark's reader reads outputs, each a name and the words of the command."""
-    if not outputs:
+    """Checks that Wireshark's reader reads outputs, each a name and the words of the command, if it reads the captures."""
+    if not outputs or is_readable(*(name + ".out" for name, _ in outputs)):
         return
-    found = subprocess.run(["capinfos", "-T", "-r", "-c", *(name + ".out" for name, _ in outputs)], stdout=subprocess.PIPE, stderr=subprocess.PIPE)
-    said = found.stderr.decode(errors="replace")
     for name, words in outputs:
-        if name + ".out" in said:
-            raise Wrong(f"{name}.in: {words}: Wireshark can't read what was written: {said}")
-    if found.returncode:
-        raise Wrong(f"capinfos ends with {found.returncode}: {said}")
+        if not is_readable(name + ".out") and is_readable(name + ".in"):
+            raise Wrong(f"{name}.in: {words}: Wireshark can't read what was written: {name}.out")
 
 
 def work(ipcap, seed, until, folder):

@@ -44,9 +44,9 @@ def byte_orders(harness):
             new = new[:length - 32 - 8]
             found = harness.run("rewrite", "--without", "0", content=head + packet(old, order=order))
             harness.check(found == (0, head + packet(new, order=order), "", None), "rewrite", order, length, found[2])
-            content = head + packet(first, order=order) + packet(filled(last, length), units=7, order=order)
+            content = head + packet(first, order=order) + packet(filled(last, length), units=1000000007, order=order)
             found = harness.run("defrag", content=content)
-            harness.check(found == (0, head + packet(whole, units=7, order=order), "", None), "defrag", order, length, found[2])
+            harness.check(found == (0, head + packet(whole, units=1000000007, order=order), "", None), "defrag", order, length, found[2])
             late = [interface(RAW, it, notes(length - 20, order), order) for it in (96, 0)]
             found = harness.run("defrag", content=head + packet(whole, order=order) + late[0])
             harness.check(found[:2] == (0, head + packet(whole, order=order) + late[1]), "interface", order, length, found[2])

@@ -247,6 +247,13 @@ HOSTILE = [
     (block(1, bytes(4)), "the interface description at offset @ is too short"),
     (interface(options=struct.pack("<HH", 2, 5) + bytes(4)), OPTION % (5, 4)),
     (interface(options=struct.pack("<HH", 9, 65535)), OPTION % (65535, 0)),
+    (section(options=struct.pack("<HH", 1, 9) + bytes(4)), OPTION.replace("interface description", "section header") % (9, 4)),
+    (packet(b"frame", options=struct.pack("<HH", 1, 5) + bytes(4)), OPTION.replace("interface description", "packet") % (5, 4)),
+    (packet(b"frame", options=struct.pack("<HH", 0, 1)), OPTION.replace("interface description", "packet") % (1, 0)),
+    (block(2, struct.pack("<HHIIIIHH", 0, 0, 0, 0, 0, 0, 1, 3)), OPTION.replace("interface description", "packet") % (3, 0)),
+    (block(5, bytes(8)), "the interface statistics block at offset @ is too short"),
+    (block(5, bytes(12) + struct.pack("<HH", 2, 9) + bytes(8)), OPTION.replace("interface description", "interface statistics block") % (9, 8)),
+    (block(3, struct.pack("<I", 5) + bytes(12)), "the packet at offset @ has a length of 5, but its block has 12 bytes"),
     (interface(options=option(9, b"\x14")), RESOLUTION % "10^-20"), (interface(options=option(9, b"\xc0")), RESOLUTION % "2^-64"),
 ]
 

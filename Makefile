@@ -96,7 +96,7 @@ lib-x86_64:
 	$(PYTHON_IS_THERE)
 	$(call CC_IS_THERE,$(CC),gcc)
 	scripts/prove ipexts_c
-	$(MAKE) --no-print-directory -C programs archive PROVED=../crates/ipexts_c/out/libipexts_c.a OUT=../build
+	$(MAKE) -s -C programs archive PROVED=../crates/ipexts_c/out/libipexts_c.a OUT=../build
 	cmp -s include/wolfaren.h build/wolfaren.h || cp include/wolfaren.h build/
 
 # the archive is removed, so that none of another machine is left beside the proofs
@@ -109,7 +109,7 @@ lib-aarch64:
 	rm -f build/aarch64/libwolfaren.so.*
 	cd crates/ipexts_c && rt lib --target aarch64-unknown-linux-gnu >> ../../build/prove.log 2>&1 || { \
 		echo "ipexts_c could not be built for ARM64; build/prove.log has the output of the tools" >&2; exit 1; }
-	$(MAKE) --no-print-directory -C programs archive CC='$(ARM64_CC)' AR='$(ARM64_AR)' \
+	$(MAKE) -s -C programs archive CC='$(ARM64_CC)' AR='$(ARM64_AR)' \
 		PROVED=../crates/ipexts_c/out/libipexts_c.a OUT=../build/aarch64
 	rm crates/ipexts_c/out/libipexts_c.a
 	cp include/wolfaren.h build/aarch64/

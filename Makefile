@@ -3,8 +3,8 @@
 # make test           compare the documented contracts, errors, terms and figures with the code and the recorded run, run
 #                     the merge gate, check the documents and the spelling, and test the program, the library, ipcap,
 #                     the packages and the page, and 20,000 comparisons with etherparse
-# make lib            build the static C library and its header in build/ (TARGET=aarch64: for ARM64, in build/aarch64/,
-#                     with its shared library if Debian's cross-compiler is there)
+# make lib            build the static C library and its header in build/, which needs a C compiler (TARGET=aarch64: for
+#                     ARM64, with the compiler ARM64_CC=aarch64-linux-gnu-gcc, in build/aarch64/, with its shared library)
 # make programs       build the shared libraries and the programs ipexts and ipcap, which needs a C compiler and libpcap;
 #                     with zlib, libzstd or liblzma, ipcap also reads compressed captures
 # make portable       build those of them that need libpcap so that they load it by either of its names, in build/portable/,
@@ -42,6 +42,9 @@
 .PHONY: run try test lib lib-x86_64 lib-aarch64 programs portable wheel install install-lib install-pcap-lib uninstall dist deb test-c page test-page mutants memory bench bench-border cost diff diff-test diff-fields fuzz fuzz-test
 .SILENT:
 
+CC_IS_THERE = command -v $(firstword $(1)) >/dev/null || { \
+	echo "A C compiler is missing: '$(firstword $(1))' has to be on the PATH (Debian: $(2))." >&2; exit 1; }
+
 RT_IS_THERE = command -v rt >/dev/null || { \
 	echo "The Rattle toolchain is missing: its command 'rt' has to be on the PATH." >&2; exit 1; }
 
@@ -78,6 +81,12 @@ VERSION = 0.1.0
 
 TARGET = x86_64
 ARM64_CC = aarch64-linux-gnu-gcc
+ARM64_AR = $(shell $(ARM64_CC) -print-prog-name=ar)
+
+# The shared libraries, whose names end in the checksums of their interfaces.
+checksum = $(shell sed -n 's/^\#define WOLFAREN_\(PCAP_\)*ABI 0x\([0-9a-f]*\)u$$/\2/p' $(1) 2>/dev/null)
+SHARED = libwolfaren.so.0.$(or $(call checksum,$(BUILD)/wolfaren.h),$(call checksum,include/wolfaren.h))
+PCAP_SHARED = libwolfaren-pcap.so.0.$(call checksum,programs/ipcap/wolfaren-pcap.h)
 
 lib: lib-$(TARGET)
 
@@ -85,31 +94,33 @@ lib: lib-$(TARGET)
 lib-x86_64:
 	$(RT_IS_THERE)
 	$(PYTHON_IS_THERE)
+	$(call CC_IS_THERE,$(CC),gcc)
 	scripts/prove ipexts_c
-	mkdir -p build
-	cmp -s crates/ipexts_c/out/libipexts_c.a build/libwolfaren.a || { rm -f build/libwolfaren.so.0 && \
-		cp crates/ipexts_c/out/libipexts_c.a build/libwolfaren.a; }
+	$(MAKE) -s -C programs archive PROVED=../crates/ipexts_c/out/libipexts_c.a OUT=../build
 	cmp -s include/wolfaren.h build/wolfaren.h || cp include/wolfaren.h build/
 
-# the archive is moved, so that none of another machine is left beside the proofs
+# the archive is removed, so that none of another machine is left beside the proofs
 lib-aarch64:
 	$(RT_IS_THERE)
 	$(PYTHON_IS_THERE)
+	$(call CC_IS_THERE,$(ARM64_CC),gcc-aarch64-linux-gnu libc6-dev-arm64-cross)
 	scripts/prove ipexts_c
 	mkdir -p build/aarch64
-	rm -f build/aarch64/libwolfaren.so.0
+	rm -f build/aarch64/libwolfaren.so.*
 	cd crates/ipexts_c && rt lib --target aarch64-unknown-linux-gnu >> ../../build/prove.log 2>&1 || { \
 		echo "ipexts_c could not be built for ARM64; build/prove.log has the output of the tools" >&2; exit 1; }
-	mv crates/ipexts_c/out/libipexts_c.a build/aarch64/libwolfaren.a
+	$(MAKE) -s -C programs archive CC='$(ARM64_CC)' AR='$(ARM64_AR)' \
+		PROVED=../crates/ipexts_c/out/libipexts_c.a OUT=../build/aarch64
+	rm crates/ipexts_c/out/libipexts_c.a
 	cp include/wolfaren.h build/aarch64/
-	! command -v $(ARM64_CC) >/dev/null || $(MAKE) -C programs shared CC=$(ARM64_CC) LIB=$(CURDIR)/build/aarch64 \
-		OUT=$(CURDIR)/build/aarch64
+	$(MAKE) -C programs shared CC='$(ARM64_CC)' LIB=$(CURDIR)/build/aarch64 OUT=$(CURDIR)/build/aarch64
 
 programs: lib
 	$(PCAP_IS_THERE)
 	$(MAKE) -C programs shared pcap-shared ipcap LIB=$(CURDIR)/build INCLUDE=$(CURDIR)/build OUT=$(CURDIR)/build/ipcap.out
 	scripts/prove ipexts
-	cp build/ipcap.out/ipcap build/ipcap.out/*.so.0 crates/ipexts/out/ipexts build/
+	rm -f build/libwolfaren*.so.*
+	cp build/ipcap.out/ipcap build/ipcap.out/$(SHARED) build/ipcap.out/$(PCAP_SHARED) crates/ipexts/out/ipexts build/
 
 portable: programs
 	$(MAKE) -C programs shared pcap-shared ipcap PCAP=loaded LIB=$(CURDIR)/build INCLUDE=$(CURDIR)/build \
@@ -137,8 +148,8 @@ PKG_CONFIG_FILE = sed -e 's|@PREFIX@|$(PREFIX)|; s|@INCLUDEDIR@|$(INCLUDEDIR)|; 
 
 # Updates the loader's cache, unless the files are only staged in DESTDIR, and says so if the loader doesn't find them.
 UPDATE_LOADER = [ -n "$(DESTDIR)" ] || { PATH="$$PATH:/usr/sbin:/sbin"; ldconfig 2>/dev/null; \
-	ldconfig -p | grep -q ' $(abspath $(LIBDIR))/libwolfaren.so.0$$'; } || { \
-	echo "The loader doesn't find libwolfaren.so.0 in $(abspath $(LIBDIR)) yet. Run 'ldconfig' as root if /etc/ld.so.conf has that"; \
+	ldconfig -p | grep -q ' $(abspath $(LIBDIR))/$(SHARED)$$'; } || { \
+	echo "The loader doesn't find $(SHARED) in $(abspath $(LIBDIR)) yet. Run 'ldconfig' as root if /etc/ld.so.conf has that"; \
 	echo "directory; otherwise set LD_LIBRARY_PATH to it."; }
 
 install-lib:
@@ -146,17 +157,17 @@ install-lib:
 	$(INSTALL) -d $(DESTDIR)$(INCLUDEDIR) $(DESTDIR)$(LIBDIR)/pkgconfig
 	$(INSTALL) -m 644 $(BUILD)/wolfaren.h $(DESTDIR)$(INCLUDEDIR)/
 	$(INSTALL) -m 644 $(BUILD)/libwolfaren.a $(DESTDIR)$(LIBDIR)/
-	if [ -f $(BUILD)/libwolfaren.so.0 ]; then \
-		$(INSTALL) -m 644 $(BUILD)/libwolfaren.so.0 $(DESTDIR)$(LIBDIR)/ && \
-		ln -sf libwolfaren.so.0 $(DESTDIR)$(LIBDIR)/libwolfaren.so; fi
+	if [ -f $(BUILD)/$(SHARED) ]; then \
+		$(INSTALL) -m 644 $(BUILD)/$(SHARED) $(DESTDIR)$(LIBDIR)/ && \
+		ln -sf $(SHARED) $(DESTDIR)$(LIBDIR)/libwolfaren.so; fi
 	$(call PKG_CONFIG_FILE,wolfaren)
-	[ ! -f $(BUILD)/libwolfaren.so.0 ] || $(UPDATE_LOADER)
+	[ ! -f $(BUILD)/$(SHARED) ] || $(UPDATE_LOADER)
 
 install-pcap-lib: install-lib
-	[ -f build/libwolfaren-pcap.so.0 ] || { echo "libwolfaren-pcap is missing: run 'make programs' first." >&2; exit 1; }
+	[ -f build/$(PCAP_SHARED) ] || { echo "libwolfaren-pcap is missing: run 'make programs' first." >&2; exit 1; }
 	$(INSTALL) -m 644 programs/ipcap/wolfaren-pcap.h $(DESTDIR)$(INCLUDEDIR)/
-	$(INSTALL) -m 644 build/libwolfaren-pcap.so.0 $(DESTDIR)$(LIBDIR)/
-	ln -sf libwolfaren-pcap.so.0 $(DESTDIR)$(LIBDIR)/libwolfaren-pcap.so
+	$(INSTALL) -m 644 build/$(PCAP_SHARED) $(DESTDIR)$(LIBDIR)/
+	ln -sf $(PCAP_SHARED) $(DESTDIR)$(LIBDIR)/libwolfaren-pcap.so
 	$(call PKG_CONFIG_FILE,wolfaren-pcap)
 
 install: install-pcap-lib
@@ -169,16 +180,16 @@ install: install-pcap-lib
 
 uninstall:
 	rm -f $(DESTDIR)$(INCLUDEDIR)/wolfaren.h $(DESTDIR)$(LIBDIR)/pkgconfig/wolfaren.pc
-	rm -f $(DESTDIR)$(LIBDIR)/libwolfaren.a $(DESTDIR)$(LIBDIR)/libwolfaren.so.0 $(DESTDIR)$(LIBDIR)/libwolfaren.so
+	rm -f $(DESTDIR)$(LIBDIR)/libwolfaren.a $(DESTDIR)$(LIBDIR)/$(SHARED) $(DESTDIR)$(LIBDIR)/libwolfaren.so
 	rm -f $(DESTDIR)$(INCLUDEDIR)/wolfaren-pcap.h $(DESTDIR)$(LIBDIR)/pkgconfig/wolfaren-pcap.pc
-	rm -f $(DESTDIR)$(LIBDIR)/libwolfaren-pcap.so.0 $(DESTDIR)$(LIBDIR)/libwolfaren-pcap.so
+	rm -f $(DESTDIR)$(LIBDIR)/$(PCAP_SHARED) $(DESTDIR)$(LIBDIR)/libwolfaren-pcap.so
 	rm -f $(DESTDIR)$(BINDIR)/ipcap $(DESTDIR)$(BINDIR)/ipexts
 	rm -f $(DESTDIR)$(MANDIR)/man1/ipcap.1 $(DESTDIR)$(MANDIR)/man1/ipexts.1
 	rm -f $(DESTDIR)$(BASHDIR)/ipcap $(DESTDIR)$(ZSHDIR)/_ipcap
 
 dist: portable page wheel
 	scripts/dist
-	! command -v $(ARM64_CC) >/dev/null || { $(MAKE) lib TARGET=aarch64 && scripts/dist aarch64; }
+	! command -v $(firstword $(ARM64_CC)) >/dev/null || { $(MAKE) lib TARGET=aarch64 && scripts/dist aarch64; }
 
 deb: programs
 	scripts/deb

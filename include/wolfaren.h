@@ -38,10 +38,11 @@
  *    write that during the call.
  *
  * The library needs memcpy, memmove and memset, and nothing else. It is compiled for x86-64-v2 (SSE4.2) and the System
- * V calling convention. It uses SSE registers, the red zone below the stack pointer, and less than 1 KB of stack, except
- * for wolfaren_parse_filter, which uses 73 KB. A kernel must therefore save the SSE registers around calls, and must not
- * take an interrupt on the same stack. For ARM64 it is compiled for ARMv8-A, the AAPCS64 calling convention and
- * little-endian data, and may use vector registers.
+ * V calling convention; wolfaren_cpu_is_supported returns whether a processor has these instructions. It uses SSE
+ * registers, the red zone below the stack pointer, and less than 1 KB of stack, except for wolfaren_parse_filter, which
+ * uses 73 KB. A kernel must therefore save the SSE registers around calls, and must not take an interrupt on the same
+ * stack. For ARM64 it is compiled for ARMv8-A, the AAPCS64 calling convention and little-endian data, and may use vector
+ * registers.
  */
 #ifndef WOLFAREN_H
 #define WOLFAREN_H
@@ -60,8 +61,16 @@
 /* A checksum of the structs, numbers and calls in this header, made by scripts/abi of the repository. */
 #define WOLFAREN_ABI 0x142e74e9u
 
-#if !(defined(__x86_64__) && !defined(__ILP32__)) && !defined(_M_X64) && !defined(__aarch64__) && !defined(_M_ARM64)
-#error "libwolfaren needs a 64-bit machine: x86-64 or ARM64"
+/* The symbol that is named after the checksum. */
+#define WOLFAREN_ABI_SYMBOL wolfaren_abi_142e74e9
+
+/* The machines for which the library is built. */
+#if !defined(__ELF__) && !defined(__linux__)
+#error "libwolfaren is built for ELF with the System V calling convention, as on Linux, not for Windows or macOS"
+#elif !defined(__LP64__) || !(defined(__x86_64__) || defined(__aarch64__))
+#error "libwolfaren needs a 64-bit machine with 64-bit pointers: x86-64 or ARM64"
+#elif !defined(__BYTE_ORDER__) || __BYTE_ORDER__ != __ORDER_LITTLE_ENDIAN__
+#error "libwolfaren needs a little-endian machine"
 #endif
 
 /* What GCC and Clang check of calls: that a result is used, and that the pointers with these numbers aren't null. */
@@ -73,9 +82,39 @@
 #define WOLFAREN_NONNULL(...)
 #endif
 
+/* What keeps an object that nothing uses, also if the linker drops unused sections. */
+#ifdef __has_attribute
+#if __has_attribute(retain)
+#define WOLFAREN_RETAINED __attribute__((used, retain))
+#endif
+#endif
+#if defined(__GNUC__) && !defined(WOLFAREN_RETAINED)
+#define WOLFAREN_RETAINED __attribute__((used))
+#elif !defined(WOLFAREN_RETAINED)
+#define WOLFAREN_RETAINED
+#endif
+
 #ifdef __cplusplus
 extern "C" {
 #endif
+
+/*
+ * Each file that includes this header refers to the library's symbol for this interface. A program that was compiled for
+ * another interface can't be linked with the library, nor loaded. A program that isn't linked with the library, but loads
+ * it by dlopen, defines WOLFAREN_UNLINKED before it includes the header.
+ */
+#ifndef WOLFAREN_UNLINKED
+extern const char WOLFAREN_ABI_SYMBOL;
+static const char *const wolfaren_needed_abi WOLFAREN_RETAINED = &WOLFAREN_ABI_SYMBOL;
+#endif
+
+/*
+ * Returns whether this processor has the instructions of the library. On one without them, any other call may end the
+ * program by SIGILL; this one runs on each x86-64 and ARM64 processor. A program that may meet such a machine makes this
+ * call once, when it starts.
+ */
+WOLFAREN_USE_RESULT
+bool wolfaren_cpu_is_supported(void);
 
 /* Returns WOLFAREN_VERSION of the header that the library was built with. */
 uint32_t wolfaren_version(void);

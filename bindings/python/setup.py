@@ -10,20 +10,28 @@ from setuptools.command.build_py import build_py
 from wheel.bdist_wheel import bdist_wheel
 
 FOLDER = os.environ.get("WOLFAREN_LIB_DIR")
-LIBRARIES = ["libwolfaren.so.0", "libwolfaren-pcap.so.0"]
-HEADERS = ["wolfaren.h", "wolfaren-pcap.h"]
+HEADERS = {"libwolfaren": "wolfaren.h", "libwolfaren-pcap": "wolfaren-pcap.h"}
 # The libraries that a manylinux wheel may need (PEP 600, and the policies of auditwheel), and the oldest glibc that is named.
 EVERYWHERE = re.compile(r"(?:libc|libm|libgcc_s|ld-linux-[\w-]+)\.so\.\d|lib(?:dl|rt|z)\.so\.[12]|libpthread\.so\.0")
 LEAST_GLIBC = (2, 17)
 
 
+def libraries():
+    """Returns the file names of the libraries, which end in the checksums in their headers."""
+    found = []
+    for name, header in HEADERS.items():
+        with open(os.path.join("src", "wolfaren", header), encoding="utf-8") as it:
+            found.append(f"{name}.so.0." + re.search(r"_ABI 0x([0-9a-f]{8})u$", it.read(), re.M)[1])
+    return found
+
+
 class BuildWithLibraries(build_py):
     def run(self):
-        missing = [it for it in HEADERS if not os.path.isfile(os.path.join("src", "wolfaren", it))]
+        missing = [it for it in HEADERS.values() if not os.path.isfile(os.path.join("src", "wolfaren", it))]
         if missing:
             raise SystemExit(f"{', '.join(missing)} missing: run `make wheel`, or build a copy made by scripts/copy-python")
         super().run()
-        for name in LIBRARIES if FOLDER else []:
+        for name in libraries() if FOLDER else []:
             shutil.copy(os.path.join(FOLDER, name), os.path.join(self.build_lib, "wolfaren", name))
 
 
@@ -31,7 +39,7 @@ def platform_of(linux):
     """Returns the tag for the machine of `linux`: with the glibc that the libraries need if they need nothing else."""
     try:
         said = "".join(subprocess.run(["objdump", "-p", os.path.join(FOLDER, it)], capture_output=True, text=True, check=True).stdout
-                       for it in LIBRARIES)
+                       for it in libraries())
     except (OSError, subprocess.CalledProcessError):
         return linux
     needed, versions = re.findall(r"NEEDED +(\S+)", said), re.findall(r"\bGLIBC_(\w[\w.]*)", said)

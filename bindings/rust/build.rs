@@ -1,6 +1,6 @@
 //! Finds the static library `libwolfaren.a`, in the directory named by `WOLFAREN_LIB_DIR` or else with pkg-config, and
-//! checks that the header beside it has the version and the layouts that this package was written for. The variables
-//! are those of the crate `pkg-config`.
+//! checks that it and the header beside it have the version and the layouts that this package was written for. The
+//! variables are those of the crate `pkg-config`.
 use std::env;
 use std::ffi::OsString;
 use std::fs;
@@ -31,6 +31,7 @@ fn main() {
     if let Some(header) = headers.iter().find(|header| header.is_file()) {
         check_header(header);
     }
+    check_archive(&folder.join(ARCHIVE));
     println!("cargo:rerun-if-changed={}", folder.join(ARCHIVE).display());
     println!("cargo:rustc-link-search=native={}", folder.display());
     println!("cargo:rustc-link-lib=static=wolfaren");
@@ -88,6 +89,21 @@ fn check_header(header: &Path) {
         give_up(&format!(
             "This package needs a library with the checksum {ABI}; {} has {abi}.",
             header.display()
+        ));
+    }
+}
+
+/// Ends the build if the library hasn't the symbol that is named after the checksum.
+fn check_archive(archive: &Path) {
+    let symbol = format!("wolfaren_abi_{}\0", &ABI[2..10]);
+    let bytes = fs::read(archive).unwrap_or_default();
+    if !bytes
+        .windows(symbol.len())
+        .any(|it| it == symbol.as_bytes())
+    {
+        give_up(&format!(
+            "This package needs a library with the checksum {ABI}, which {} doesn't have.",
+            archive.display()
         ));
     }
 }

@@ -5,6 +5,8 @@
 #include <stdlib.h>
 #include <string.h>
 
+#include "wolfaren.h"
+
 enum { MAGIC_LEN = 4 };
 
 /* Sets the text of the error, formatted as by printf, and returns false. */
@@ -188,6 +190,7 @@ static bool open_opened(struct capture *capture)
 bool open_capture(struct capture *capture, const char *path)
 {
     *capture = (struct capture){0};
+    if (!wolfaren_cpu_is_supported()) return fail(capture, UNSUPPORTED_CPU);
     if (!open_file(capture, path)) return false;
     if (open_opened(capture)) return true;
     close_file(capture);

@@ -17,6 +17,9 @@
 /* A buffer size that is large enough for the text of every error and its terminating null byte. */
 enum { CAPTURE_ERROR_ROOM = PCAP_ERRBUF_SIZE + 64 };
 
+/* Why nothing is read on a processor without the library's instructions. */
+#define UNSUPPORTED_CPU "this processor lacks instructions of x86-64-v2, such as SSE4.2"
+
 /* How many bytes are read from a file at once. */
 enum { CAPTURE_BUFFER = 1 << 17 };
 

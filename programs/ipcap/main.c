@@ -9,10 +9,12 @@
 #include <string.h>
 #include <unistd.h>
 
+#include "capture.h"
 #include "commands.h"
 #include "options.h"
 #include "report.h"
 #include "stop.h"
+#include "wolfaren.h"
 
 static const char usage[] =
     "usage: ipcap stat [-j N] [--defrag] [--json] [--per-file] [--top N] [--tunnels] [FILE..]\n"
@@ -103,6 +105,10 @@ int main(int count, char **arguments)
         return STATUS_FAILED;
     }
     if (strcmp(name, "--version") == 0) return print_version();
+    if (!wolfaren_cpu_is_supported()) {
+        complain(UNSUPPORTED_CPU);
+        return STATUS_FAILED;
+    }
     const struct command *command = find_command(name);
     return command ? run_command(command, count - 1, arguments + 1) : refuse_usage("ipcap", "unknown command '%.40s'", name);
 }

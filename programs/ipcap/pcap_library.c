@@ -15,6 +15,8 @@ _Static_assert((int)CAPTURE_ERROR_ROOM <= WOLFAREN_PCAP_ERROR_ROOM, "every error
 /* The only symbols that the library exports. */
 #define EXPORTED __attribute__((visibility("default")))
 
+EXPORTED const char WOLFAREN_PCAP_ABI_SYMBOL = 0;
+
 /* Returns the statistics as JSON, or null if memory runs out. */
 static char *json_of(struct counts *counts)
 {

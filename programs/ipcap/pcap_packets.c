@@ -206,6 +206,10 @@ EXPORTED int wolfaren_pcap_filter(const char *condition, size_t condition_len, c
     struct wolfaren_filter filter;
     struct wolfaren_filter_error place;
     *counts = (struct wolfaren_pcap_counts){0};
+    if (!wolfaren_cpu_is_supported()) {
+        write_error(error, UNSUPPORTED_CPU, 0);
+        return WOLFAREN_PCAP_INPUT_FAILED;
+    }
     if (!wolfaren_parse_filter(condition, condition_len, &filter, &place)) {
         write_error(error, "the condition is not a filter", 0);
         return WOLFAREN_PCAP_CONDITION_FAILED;

@@ -6,7 +6,8 @@
  * For every call: a path is that of a file; `-` has no special meaning. `error` has room for WOLFAREN_PCAP_ERROR_ROOM
  * bytes. A call that fails writes why, with a terminating null byte; otherwise, `error` is the empty text. Each call
  * with an `error` sets `errno`: to the system's error if the system refused to open, to read or to write a file,
- * otherwise to 0. Any number of threads may make calls at the same time, but only one at a time with the same reader.
+ * otherwise to 0. Any number of threads may make calls at the same time, but only one at a time with the same reader. On
+ * a processor without the instructions of libwolfaren, each call that opens a capture fails.
  */
 #ifndef WOLFAREN_PCAP_H
 #define WOLFAREN_PCAP_H
@@ -15,8 +16,36 @@
 #include <stddef.h>
 #include <stdint.h>
 
+/* A checksum of the structs, numbers and calls in this header, made by scripts/abi of the repository. */
+#define WOLFAREN_PCAP_ABI 0x8ff11947u
+
+/* The symbol that is named after the checksum. */
+#define WOLFAREN_PCAP_ABI_SYMBOL wolfaren_pcap_abi_8ff11947
+
+/* What keeps an object that nothing uses, also if the linker drops unused sections. */
+#ifdef __has_attribute
+#if __has_attribute(retain)
+#define WOLFAREN_PCAP_RETAINED __attribute__((used, retain))
+#endif
+#endif
+#if defined(__GNUC__) && !defined(WOLFAREN_PCAP_RETAINED)
+#define WOLFAREN_PCAP_RETAINED __attribute__((used))
+#elif !defined(WOLFAREN_PCAP_RETAINED)
+#define WOLFAREN_PCAP_RETAINED
+#endif
+
 #ifdef __cplusplus
 extern "C" {
+#endif
+
+/*
+ * Each file that includes this header refers to the library's symbol for this interface. A program that was compiled for
+ * another interface can't be linked with the library, nor loaded. A program that isn't linked with the library, but loads
+ * it by dlopen, defines WOLFAREN_UNLINKED before it includes the header.
+ */
+#ifndef WOLFAREN_UNLINKED
+extern const char WOLFAREN_PCAP_ABI_SYMBOL;
+static const char *const wolfaren_pcap_needed_abi WOLFAREN_PCAP_RETAINED = &WOLFAREN_PCAP_ABI_SYMBOL;
 #endif
 
 /* A buffer size that is large enough for any text of an error and its terminating null byte. */

@@ -64,6 +64,25 @@ def wrong_usage(harness):
     harness.equal(harness.run("filter", "--sh", "fault")[0], 0, "a shortened option")
 
 
+def old_processors(harness):
+    """On a processor without x86-64-v2, each command but for help and version says so, and so does the library's call."""
+    if not shutil.which("qemu-x86_64"):
+        print("old processors: skipped, qemu-x86_64 missing")
+        return
+    path = harness.file(capture([ethernet(ipv4(17, UDP))]))
+    words = "this processor lacks instructions of x86-64-v2, such as SSE4.2\n"
+    for model, is_old in [("qemu64", True), ("max", False)]:
+        processor = ["qemu-x86_64", "-cpu", model]
+        for arguments in [["--help"], ["--version"], ["help", "stat"]]:
+            harness.equal(harness.answer(processor + harness.plain, arguments, b"", None), harness.run(*arguments), model, arguments)
+        for arguments in [["stat", path], ["sum"], ["filter", "any", path], ["show", path], ["defrag", path], ["rewrite", "--clear", path]]:
+            wanted = (1, b"", "ipcap: " + words, None) if is_old else harness.run(*arguments)
+            harness.equal(harness.answer(processor + harness.plain, arguments, b"", None), wanted, model, arguments)
+        count = harness.commands("count")[0]
+        wanted = (1, b"", words.strip(), None) if is_old else harness.answer(count, [path], b"", None)
+        harness.equal(harness.answer(processor + count, [path], b"", None), wanted, model, "count")
+
+
 # What is given, and how it is shown: characters of C1 in UTF-8 and alone, those that change a text's direction, and others.
 HIDDEN = [(b"a\x9b31mb", "a\\x9b31mb"), ("a\x9b31mb".encode(), "a\\xc2\\x9b31mb"), (b"\xe9", "\\xe9"),
           ("a\u202egnp.pcap".encode(), "a\\xe2\\x80\\xaegnp.pcap"), ("\u2066x\u2069".encode(), "\\xe2\\x81\\xa6x\\xe2\\x81\\xa9"),

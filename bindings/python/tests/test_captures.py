@@ -23,7 +23,7 @@ import blocks
 from captures import LOOP, NANOSECONDS, RAW, SLL2, cooked2
 
 import wolfaren
-from wolfaren._library import captures
+from wolfaren._library import captures, file_of
 from wolfaren import CaptureError, CaptureOSError, CaptureWarning, Filter, Packet, Statistics, Written, packets
 
 ARP = ethernet(bytes(46), (), 0x0806)
@@ -259,7 +259,7 @@ class Program(Scratch):
         """Builds the program with libwolfaren-pcap in a directory, and returns its path."""
         program = f"{self.folder}/captures"
         subprocess.run(["cc", "-std=c99", "-D_POSIX_C_SOURCE=200809L", "-Wall", "-Wextra", "-Werror", *flags,
-                        f"-I{ROOT}/programs/ipcap", f"{ROOT}/tests/c/captures.c", f"{library}/libwolfaren-pcap.so.0",
+                        f"-I{ROOT}/programs/ipcap", f"{ROOT}/tests/c/captures.c", f"{library}/{file_of('libwolfaren-pcap', 'wolfaren-pcap.h')}",
                         f"-Wl,-rpath,{os.path.abspath(library)}", "-o", program], check=True)
         return program
 

@@ -17,10 +17,11 @@ from support import BUILD, PACKETS, ROOT, capture, ethernet, write
 
 import wolfaren
 from wolfaren import Statistics
-from wolfaren._library import ffi, lib
+from wolfaren._library import ffi, file_of, lib
 from wolfaren._statistics import _Field
 
 DISSECT = "import wolfaren; print(wolfaren.dissect(bytes.fromhex('%s')).payload_number)" % ("60" + "00" * 5 + "11" + "00" * 33)
+LIBRARY, PCAP_LIBRARY = file_of("libwolfaren", "wolfaren.h"), file_of("libwolfaren-pcap", "wolfaren-pcap.h")
 COUNT = "import wolfaren; wolfaren.statistics_of('/nonexistent')"
 
 
@@ -105,9 +106,10 @@ class Documentation(unittest.TestCase):
 
 class Libraries(unittest.TestCase):
     def test_missing(self):
+        self.assertRegex(LIBRARY, r"^libwolfaren\.so\.0\.[0-9a-f]{8}$")
         status, said = run([sys.executable, "-c", DISSECT], WOLFAREN_LIB_DIR="/nonexistent")
         self.assertEqual(status, 1)
-        self.assertIn("install libwolfaren.so.0, or set WOLFAREN_LIB_DIR", said)
+        self.assertIn(f"install {LIBRARY}, or set WOLFAREN_LIB_DIR", said)
 
     def test_optional_packages(self):
         """The import needs none of the packages that only some calls need."""
@@ -124,35 +126,47 @@ class Libraries(unittest.TestCase):
             said = run([sys.executable, "-c", blocked + "wolfaren.distributed.table([])"])[1]
             self.assertIn("ImportError: wolfaren.distributed.table needs dask (Debian: python3-dask)", said)
 
-    def test_other_version(self):
+    def refusal_of(self, source):
+        """Returns the last line of the message with which a library made of this source is refused."""
         with tempfile.TemporaryDirectory() as folder:
-            source = "unsigned wolfaren_version(void) { return 100; } unsigned wolfaren_abi(void) { return 1; }"
-            subprocess.run(["cc", "-shared", "-fPIC", "-x", "c", "-", "-o", f"{folder}/libwolfaren.so.0"], input=source,
-                           text=True, check=True)
+            subprocess.run(["cc", "-shared", "-fPIC", "-x", "c", "-", "-o", f"{folder}/{LIBRARY}"], input=source, text=True,
+                           check=True)
             status, said = run([sys.executable, "-c", DISSECT], WOLFAREN_LIB_DIR=folder)
         self.assertEqual(status, 1)
-        self.assertRegex(said, r"ImportError: libwolfaren.so.0 has version 100 and checksum 0x00000001, but the package "
-                               r"needs version \d+ and checksum 0x[0-9a-f]{8}")
+        return said.splitlines()[-1]
+
+    def test_other_version(self):
+        numbers = "unsigned wolfaren_version(void) { return 100; } unsigned wolfaren_abi(void) { return 1; }"
+        said = self.refusal_of(numbers + " _Bool wolfaren_cpu_is_supported(void) { return 1; }")
+        self.assertRegex(said, rf"^ImportError: {LIBRARY} has version 100 and checksum 0x00000001, but the package needs version "
+                               r"\d+ and checksum 0x[0-9a-f]{8}$")
+        self.assertEqual(self.refusal_of(numbers), f"ImportError: {LIBRARY} is of an earlier version than the package")
+
+    def test_unsupported_processor(self):
+        """No call but the one about the processor is made: the others would end the interpreter."""
+        numbers = "unsigned wolfaren_version(void) { __builtin_trap(); } unsigned wolfaren_abi(void) { __builtin_trap(); }"
+        said = self.refusal_of(numbers + " _Bool wolfaren_cpu_is_supported(void) { return 0; }")
+        self.assertEqual(said, f"ImportError: {LIBRARY} can't run here: this processor lacks instructions of x86-64-v2, such as "
+                               "SSE4.2")
 
     def test_without_capture_library(self):
         with tempfile.TemporaryDirectory() as folder:
-            shutil.copy(f"{BUILD}/libwolfaren.so.0", folder)
+            shutil.copy(f"{BUILD}/{LIBRARY}", folder)
             self.assertEqual(run([sys.executable, "-c", DISSECT], WOLFAREN_LIB_DIR=folder), (0, "17\n"))
             status, said = run([sys.executable, "-c", COUNT], WOLFAREN_LIB_DIR=folder)
         self.assertEqual(status, 1)
-        self.assertIn("install libwolfaren-pcap.so.0, or set WOLFAREN_LIB_DIR", said)
-
+        self.assertIn(f"install {PCAP_LIBRARY}, or set WOLFAREN_LIB_DIR", said)
 
     def test_other_capture_library(self):
         """A library that has only some of the calls is refused, with the names of the others."""
         with tempfile.TemporaryDirectory() as folder:
-            shutil.copy(f"{BUILD}/libwolfaren.so.0", folder)
+            shutil.copy(f"{BUILD}/{LIBRARY}", folder)
             source = "void wolfaren_pcap_count(void) {} void wolfaren_pcap_free(void) {} void wolfaren_pcap_open(void) {}"
-            subprocess.run(["cc", "-shared", "-fPIC", "-x", "c", "-", "-o", f"{folder}/libwolfaren-pcap.so.0"], input=source,
+            subprocess.run(["cc", "-shared", "-fPIC", "-x", "c", "-", "-o", f"{folder}/{PCAP_LIBRARY}"], input=source,
                            text=True, check=True)
             status, said = run([sys.executable, "-c", COUNT], WOLFAREN_LIB_DIR=folder)
         self.assertEqual(status, 1)
-        self.assertIn("ImportError: libwolfaren-pcap.so.0 is of another version than the package: it has no "
+        self.assertIn(f"ImportError: {PCAP_LIBRARY} is of another version than the package: it has no "
                       "wolfaren_pcap_close, wolfaren_pcap_filter, wolfaren_pcap_link_layer_name, wolfaren_pcap_read", said)
 
 
@@ -193,7 +207,7 @@ class Wheel(unittest.TestCase):
             self.assertEqual(status, 0, said)
             with open(glob.glob(f"{folder}/target/wolfaren-*.dist-info/METADATA")[0], encoding="utf-8") as it:
                 self.assertNotIn("](..", it.read())
-            for name in ["py.typed", "wolfaren.h", "libwolfaren.so.0", "libwolfaren-pcap.so.0"]:
+            for name in ["py.typed", "wolfaren.h", LIBRARY, PCAP_LIBRARY]:
                 self.assertTrue(os.path.isfile(f"{folder}/target/wolfaren/{name}"), name)
             used = ["env", "-u", "WOLFAREN_LIB_DIR", f"PYTHONPATH={folder}/target", sys.executable, "-c"]
             self.assertEqual(run([*used, DISSECT]), (0, "17\n"))
@@ -208,7 +222,7 @@ class Wheel(unittest.TestCase):
                 subprocess.run([*build, f"{folder}/libother.so", "-Wl,-soname,libother.so.1"], input="int other(void) { return 1; }",
                                text=True, check=True)
                 needs = [f"-L{folder}", "-Wl,--as-needed", "-lother"]
-                for name, content in [("libwolfaren.so.0", calls % "0"), ("libwolfaren-pcap.so.0", calls % call)]:
+                for name, content in [(LIBRARY, calls % "0"), (PCAP_LIBRARY, calls % call)]:
                     subprocess.run([*build, f"{folder}/{name}", *needs], input=content, text=True, check=True)
                 _, said = run([f"{ROOT}/scripts/wheel", f"{folder}/wheels", folder])
                 self.assertRegex(said, rf"^{folder}/wheels/wolfaren-[\d.]*-py3-none-{tag}_x86_64\.whl\n")

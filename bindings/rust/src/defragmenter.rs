@@ -1,3 +1,4 @@
+use crate::err::AllocError;
 use crate::library;
 use alloc::boxed::Box;
 
@@ -159,17 +160,32 @@ impl Defragmenter {
     /// senders don't know.
     ///
     /// It allocates 72 KB for each slot as zeros, of which a system with virtual memory uses only the pages that packets need.
+    ///
+    /// # Panics
+    ///
+    /// If there is no memory. [`try_new`](Defragmenter::try_new) returns an error then.
     #[must_use]
     pub fn new(slots: usize, seed: [u64; 2]) -> Defragmenter {
-        Defragmenter {
-            slots: library::zeroed(slots),
-            memories: library::zeroed(slots),
+        Defragmenter::try_new(slots, seed).unwrap_or_else(|error| panic!("{error}"))
+    }
+
+    /// Returns a defragmenter as [`new`](Defragmenter::new) does, or an error if there is no memory for its slots.
+    ///
+    /// # Errors
+    ///
+    /// If memory isn't there for so many slots, or they would take more bytes than an address can count.
+    pub fn try_new(slots: usize, seed: [u64; 2]) -> Result<Defragmenter, AllocError> {
+        let error = AllocError { slots };
+        let memories = library::try_zeroed(slots).ok_or(error.clone())?;
+        Ok(Defragmenter {
+            slots: library::try_zeroed(slots).ok_or(error)?,
+            memories,
             counts: library::DefragmenterCounts::default(),
             settings: library::DefragmenterSettings {
                 seed,
                 timeout: Defragmenter::DEFAULT_TIMEOUT,
             },
-        }
+        })
     }
 
     /// Returns the defragmenter with another timeout: packets that aren't whole after so many nanoseconds are given up.

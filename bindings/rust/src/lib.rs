@@ -31,9 +31,8 @@
 //! # Names of etherparse
 //!
 //! A program that uses only names in the column "Same" replaces `etherparse` by `wolfaren` in its imports. They behave
-//! as in etherparse 0.19.0, except for the differences that the repository's `docs/DIFFERENCES.md` lists. Those in the
-//! column "Different" exist with another type or another result, as the package's README says. A name that begins with
-//! a dot is a field.
+//! as in etherparse 0.19.0, except for the differences that the package's README lists. Those in the column "Different"
+//! exist with another type or another result. A name that begins with a dot is a field.
 //!
 //! | Name | Same | Different | Not here |
 //! |---|---|---|---|
@@ -86,8 +85,8 @@
 //! Only here: `Dissection`, `BaseHeader`, `Fragment`, `FragmentKind`, `End`, `Filter`, `Statistics`, `FaultKind`,
 //! `HeaderOptions`, `HeaderOption`, `UnknownOption`, `RoutingAddresses`, `RoutingAddress`, `PacketSpan`, `Defragmenter`,
 //! `Added`, `Outcome`, `DropReason`, `Loss`, `without`, `with_header`, `with_payload`, `cleared`, `in_order`, `recommended_index`, `Which`,
-//! `Authentication`, `Rewritten`, `Ipv6ExtensionsBuilder`, `err::BuildError`, `err::FilterError`, `err::Expected`,
-//! `err::SpanError`, `err::RewriteError`.
+//! `Authentication`, `Rewritten`, `Ipv6ExtensionsBuilder`, `is_cpu_supported`, `err::AllocError`, `err::BuildError`,
+//! `err::FilterError`, `err::Expected`, `err::SpanError`, `err::RewriteError`.
 //!
 //! The table has all names of etherparse's layer of extension headers. Of the layer below, that is IP headers, protocol
 //! numbers, `IpFragOffset`, `LenSource` and `Layer`, etherparse has more names than the table lists. The constants of
@@ -108,6 +107,7 @@ extern crate std;
 #[doc = include_str!("../README.md")]
 struct Readme;
 
+mod cpu;
 #[cfg(feature = "alloc")]
 mod defragmenter;
 mod dissection;
@@ -145,6 +145,7 @@ mod rewrite;
 mod routing_addresses;
 mod statistics;
 
+pub use cpu::is_cpu_supported;
 #[cfg(feature = "alloc")]
 pub use defragmenter::{Added, Defragmenter, DropReason, Loss, Outcome};
 pub use dissection::{BaseHeader, Dissection, End, Fragment, FragmentKind};

@@ -5,7 +5,7 @@
 use crate::err::SpanError;
 use crate::{PacketSpan, Statistics};
 #[cfg(feature = "alloc")]
-use alloc::alloc::{alloc_zeroed, handle_alloc_error, Layout};
+use alloc::alloc::{alloc_zeroed, Layout};
 #[cfg(feature = "alloc")]
 use alloc::boxed::Box;
 #[cfg(feature = "alloc")]
@@ -489,11 +489,19 @@ unsafe extern "C" {
 
     fn wolfaren_find_number_name(number: u8, name: *mut Name);
 
+    fn wolfaren_cpu_is_supported() -> bool;
+
     #[cfg(all(test, not(miri)))]
     fn wolfaren_version() -> u32;
 
     #[cfg(all(test, not(miri)))]
     fn wolfaren_abi() -> u32;
+}
+
+/// Returns whether this processor has the library's instructions.
+pub(crate) fn cpu_is_supported() -> bool {
+    // SAFETY: the call has no arguments, and needs no instructions that some processor lacks.
+    unsafe { wolfaren_cpu_is_supported() }
 }
 
 /// Parses the longest chain of IPv6 extension headers at the start of the bytes, beginning with the number `first`.
@@ -1336,23 +1344,21 @@ impl Numbers for Slot {}
 #[cfg(feature = "alloc")]
 impl Numbers for PacketMemory {}
 
-/// Returns an array of zeros on the heap, of which nothing is written here.
+/// Returns an array of zeros on the heap, of which nothing is written here, or `None` if there is no memory for it.
 #[cfg(feature = "alloc")]
-pub(crate) fn zeroed<T: Numbers>(count: usize) -> Box<[T]> {
-    let Ok(layout) = Layout::array::<T>(count) else {
-        panic!("capacity overflow");
-    };
+pub(crate) fn try_zeroed<T: Numbers>(count: usize) -> Option<Box<[T]>> {
+    let layout = Layout::array::<T>(count).ok()?;
     if layout.size() == 0 {
-        return Box::new([]);
+        return Some(Box::new([]));
     }
     // SAFETY: the layout isn't empty. The memory is for `count` values of `T`, of which zeros are one, and is freed with the
     // same layout when the box is dropped.
     unsafe {
         let first: *mut T = alloc_zeroed(layout).cast();
         if first.is_null() {
-            handle_alloc_error(layout);
+            return None;
         }
-        Box::from_raw(ptr::slice_from_raw_parts_mut(first, count))
+        Some(Box::from_raw(ptr::slice_from_raw_parts_mut(first, count)))
     }
 }
 

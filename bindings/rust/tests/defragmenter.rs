@@ -54,6 +54,27 @@ fn any_order() {
 }
 
 #[test]
+fn refused_memory() {
+    // The second number of slots takes more bytes than the addresses of a process.
+    for slots in [usize::MAX, 1 << 33] {
+        let error = Defragmenter::try_new(slots, [0; 2]).expect_err("there is no memory");
+        assert_eq!(error.slots, slots);
+        assert_eq!(
+            error.to_string(),
+            format!("there is no memory for {slots} slots")
+        );
+    }
+    let mut defragmenter = Defragmenter::try_new(1, [0; 2]).expect("there is memory");
+    assert_eq!(defragmenter.add(5, &piece(1, 0, true)).slot, Some(0));
+}
+
+#[test]
+#[should_panic(expected = "there is no memory for 8589934592 slots")]
+fn panic_without_memory() {
+    let _ = Defragmenter::new(1 << 33, [0; 2]);
+}
+
+#[test]
 fn losses_and_drops() {
     let mut defragmenter = Defragmenter::new(1, [0; 2]);
     assert_eq!(defragmenter.add(5, &piece(1, 0, true)).slot, Some(0));

@@ -1,6 +1,6 @@
 """Dissects, filters, counts and changes IP packets by their extension headers.
 
-The work is done by `libwolfaren.so.0`, whose calls are formally verified. This package calls it through cffi.
+The work is done by `libwolfaren`, whose calls are formally verified. This package calls it through cffi.
 """
 
 from ._captures import Packet, Written, packets

@@ -28,8 +28,16 @@ def _declarations(text: str) -> str:
     """Returns what cffi reads of a header: structs, codes, calls, and the constants among its macros."""
     text = re.sub(r"/\*.*?\*/", "", text, flags=re.S).replace("\\\n", " ")
     text = re.sub(r"^static inline [^\n]*\n\{.*?^\}$", "", text, flags=re.S | re.M)
-    text = re.sub(r'^#(?!define \w+ \w+$).*$|^extern "C" \{$|^\}$', "", text, flags=re.M)
+    text = re.sub(r'^#(?!define \w+ \d\w*$).*$|^extern "C" \{$|^\}$', "", text, flags=re.M)
+    text = re.sub(r"^(?:extern|static) const .*;$", "", text, flags=re.M)  # the symbol that only linked programs refer to
     return re.sub(r"WOLFAREN_(NONNULL\([^)]*\)|USE_RESULT|LAYOUT\([^)]*\);)", "", text)
+
+
+def file_of(name: str, header: str) -> str:
+    """Returns the file name of a library, which is its soname and ends in the checksum in its header."""
+    found = re.search(r"^#define \w+_ABI 0x([0-9a-f]{8})u$", _text_of(header), re.M)
+    assert found, f"{header} has no checksum"
+    return f"{name}.so.0.{found[1]}"
 
 
 def _open(ffi: cffi.FFI, name: str) -> Any:
@@ -44,21 +52,27 @@ def _open(ffi: cffi.FFI, name: str) -> Any:
         raise ImportError(f"{error}: install {name}, or set WOLFAREN_LIB_DIR to its directory") from None
 
 
-def _check(library: Any) -> None:
-    """Refuses a library that was built with another header than this package."""
+def _check(library: Any, name: str) -> None:
+    """Refuses a processor without the library's instructions, and a library that was built with another header than this
+    package."""
+    if not hasattr(library, "wolfaren_cpu_is_supported"):
+        raise ImportError(f"{name} is of an earlier version than the package")
+    if not library.wolfaren_cpu_is_supported():
+        raise ImportError(f"{name} can't run here: this processor lacks instructions of x86-64-v2, such as SSE4.2")
     wanted = (10000 * library.WOLFAREN_VERSION_MAJOR + 100 * library.WOLFAREN_VERSION_MINOR
               + library.WOLFAREN_VERSION_PATCH, library.WOLFAREN_ABI)
     stated = (library.wolfaren_version(), library.wolfaren_abi())
     if stated != wanted:
-        raise ImportError("libwolfaren.so.0 has version %d and checksum 0x%08x, but the package needs version %d and "
-                          "checksum 0x%08x" % (*stated, *wanted))
+        raise ImportError("%s has version %d and checksum 0x%08x, but the package needs version %d and checksum 0x%08x"
+                          % (name, *stated, *wanted))
 
 
 def _load() -> tuple[cffi.FFI, Any]:
     ffi = cffi.FFI()
     ffi.cdef(_declarations(_text_of("wolfaren.h")))
-    library = _open(ffi, "libwolfaren.so.0")
-    _check(library)
+    name = file_of("libwolfaren", "wolfaren.h")
+    library = _open(ffi, name)
+    _check(library, name)
     return ffi, library
 
 
@@ -70,10 +84,11 @@ def captures() -> tuple[cffi.FFI, Any]:
     """Returns the library that reads captures, which needs libpcap. It is loaded when it is first needed."""
     own = cffi.FFI()
     own.cdef(_declarations(_text_of("wolfaren-pcap.h")))
-    library = _open(own, "libwolfaren-pcap.so.0")
+    name = file_of("libwolfaren-pcap", "wolfaren-pcap.h")
+    library = _open(own, name)
     missing = [it for it in dir(library) if not hasattr(library, it)]
     if missing:
-        raise ImportError(f"libwolfaren-pcap.so.0 is of another version than the package: it has no {', '.join(missing)}")
+        raise ImportError(f"{name} is of another version than the package: it has no {', '.join(missing)}")
     library.wolfaren_pcap_stop_waiting_if(_is_stopped(own))
     return own, library
 

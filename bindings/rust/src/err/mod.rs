@@ -3,6 +3,8 @@
 //! Each error implements `Display` and `core::error::Error`. An error that wraps another has the text and the source of
 //! the inner error, so a report of an error with its sources has each text once. A `match` returns the inner error.
 #[cfg(feature = "alloc")]
+mod alloc_error;
+#[cfg(feature = "alloc")]
 mod build_error;
 mod filter_error;
 pub mod ip;
@@ -16,6 +18,8 @@ mod rewrite_error;
 mod span_error;
 mod value_too_big_error;
 
+#[cfg(feature = "alloc")]
+pub use alloc_error::AllocError;
 #[cfg(feature = "alloc")]
 pub use build_error::BuildError;
 pub use filter_error::{Expected, FilterError};

@@ -7,6 +7,7 @@
 
 #include "capture.h"
 #include "kept.h"
+#include "losses.h"
 
 /* How many packets can be incomplete at once, unless it is said otherwise. */
 enum { DEFAULT_SLOTS = 4096 };
@@ -19,6 +20,9 @@ struct defragmenter;
  * enough memory.
  */
 struct defragmenter *begin_defragmenter(uint64_t slots, bool keeps);
+
+/* Writes a line to the report for each packet that is given up, and for each fragment that is dropped by itself. */
+void report_losses(struct defragmenter *defragmenter, struct loss_report *report);
 
 /*
  * Makes `read_packet` read a whole packet in place of the fragment that completes it, and no other fragment. The whole packet

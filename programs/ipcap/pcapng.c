@@ -148,16 +148,27 @@ static bool read_section(struct pcapng *pcapng)
     return true;
 }
 
-/* Returns libpcap's DLT_ value for a link type in a file. Those that differ are the same on each system. */
+/* The link types in files that differ from libpcap's DLT_ values. They are the same on each system. */
+static const struct {
+    unsigned number;
+    int link_type;
+} link_types[] = {{100, DLT_ATM_RFC1483}, {101, DLT_RAW}, {102, DLT_SLIP_BSDOS}, {103, DLT_PPP_BSDOS}};
+
+enum { LINK_TYPES = sizeof link_types / sizeof *link_types };
+
+/* Returns libpcap's DLT_ value for a link type in a file. */
 static int link_type_of(unsigned number)
 {
-    static const struct {
-        unsigned number;
-        int link_type;
-    } types[] = {{100, DLT_ATM_RFC1483}, {101, DLT_RAW}, {102, DLT_SLIP_BSDOS}, {103, DLT_PPP_BSDOS}};
-    for (size_t i = 0; i < sizeof types / sizeof *types; i++)
-        if (types[i].number == number) return types[i].link_type;
+    for (size_t i = 0; i < LINK_TYPES; i++)
+        if (link_types[i].number == number) return link_types[i].link_type;
     return (int)number;
+}
+
+unsigned file_link_type(int link_type)
+{
+    for (size_t i = 0; i < LINK_TYPES; i++)
+        if (link_types[i].link_type == link_type) return link_types[i].number;
+    return (unsigned)link_type;
 }
 
 /* Reads a resolution: a power of 10, or of 2 if the first bit is set. */

@@ -40,13 +40,12 @@ def wrong_usage(harness):
     harness.equal((found[0], found[1], found[2].encode()), (2, b"", harness.run("--help")[1]), "no argument")
     for arguments in [["frob"], ["--frob"], ["x" * 500], ["help", "frob"], ["help", "stat", "sum"],
                       ["stat", "--frob"], ["sum", "file"], ["sum", "--frob"],
-                      ["show", "a", "b"],
                       ["show", "--color"], ["show", "--color=red"], ["show", "-w", "x"], ["show", "-c", "0"],
                       ["show", "--json", "--one-line"], ["show", "--csv", "--json"],
                       ["stat", "--json=1"], ["stat", "-j", "0"], ["stat", "-j"],
                       ["stat", "-j", "x"], ["sum", "-j", "2"],
                       ["stat", "--top", "0"], ["stat", "--top"], ["sum", "--top", "x"], ["sum", "--per-file"],
-                      ["stat", "--tunnels=1"], ["sum", "--tunnels"], ["show", "--tunnels"]]:
+                      ["stat", "--tunnels=1"], ["sum", "--tunnels"], ["defrag", "--tunnels"], ["rewrite", "--clear", "--tunnels"]]:
         status, found, errors, _ = harness.run(*arguments)
         harness.equal((status, found), (2, b""), arguments)
         name = "ipcap " + arguments[0] if arguments[0] in COMMANDS else "ipcap"

@@ -25,6 +25,7 @@ enum { MOST_LINK_LEN = 256 };
 struct pending {
     uint64_t fragments; /* number of fragments that arrived; 0 if the slot is free */
     uint64_t lost;      /* number of those that weren't kept, since memory ran out */
+    bool has_memory;    /* the slot has taken memory */
     struct kept *kept;
     struct loss loss;   /* the fragments for the report, also those that were refused */
     int refusal;        /* the outcome by which the packet was abandoned, or 0 */
@@ -46,6 +47,7 @@ struct defragmenter {
     struct wolfaren_defragmenter_settings settings;
     uint64_t time; /* of the last packet that had one, in nanoseconds */
     bool keeps;
+    struct account *account;
     struct keeper keeper;
     struct kept *kept; /* those that made no packet whole; sorted after it was stopped */
     struct kept *last; /* the one that `next_kept` returned last */
@@ -106,12 +108,36 @@ static struct wolfaren_defragmenter_settings random_settings(void)
     return settings;
 }
 
-struct defragmenter *begin_defragmenter(uint64_t slots, bool keeps)
+/*
+ * How much memory a slot has, and the list of its fragments for a report at most. The memory of a single slot may also have
+ * parts of pages before and after it.
+ */
+enum {
+    PAGES_BESIDE = 2 * 4096,
+    LIST_MEMORY = MOST_NUMBERS * sizeof(uint64_t),
+    SLOT_MEMORY = sizeof(struct wolfaren_slot) + sizeof(struct wolfaren_packet_memory) + sizeof(struct pending)
+};
+
+uint64_t memory_of_slots(uint64_t slots, bool has_report)
+{
+    uint64_t each = SLOT_MEMORY + (has_report ? LIST_MEMORY : 0);
+    return slots > UINT64_MAX / 2 / each ? UINT64_MAX : slots * each + PAGES_BESIDE;
+}
+
+uint64_t slots_within(uint64_t memory)
+{
+    /* what is left is for decompression */
+    uint64_t slots = memory_for_file(memory) / 4 * 3 / SLOT_MEMORY;
+    return slots < DEFAULT_SLOTS ? slots : DEFAULT_SLOTS;
+}
+
+struct defragmenter *begin_defragmenter(struct account *account, uint64_t slots, bool keeps)
 {
     struct defragmenter *defragmenter = calloc(1, sizeof *defragmenter);
     if (defragmenter) {
         defragmenter->slot_count = slots;
         defragmenter->keeps = keeps;
+        defragmenter->account = defragmenter->keeper.account = account;
         defragmenter->slots = reserve(slots, sizeof *defragmenter->slots);
         defragmenter->memories = reserve(slots, sizeof *defragmenter->memories);
         defragmenter->pendings = reserve(slots, sizeof *defragmenter->pendings);
@@ -204,6 +230,9 @@ static void note(struct defragmenter *defragmenter, struct pending *pending, siz
                  const struct capture *capture, const struct packet *packet)
 {
     pending->fragments++;
+    if (!pending->has_memory)
+        take_promised(defragmenter->account, SLOT_MEMORY + PAGES_BESIDE + (defragmenter->report ? LIST_MEMORY : 0));
+    pending->has_memory = true;
     note_loss(defragmenter, &pending->loss, capture, packet);
     if (defragmenter->keeps && !keep(&defragmenter->keeper, &pending->kept, capture, packet)) pending->lost++;
     if (pending->has_link || !defragmenter->memories[slot].first_here || packet->ip_offset > MOST_LINK_LEN) return;

@@ -41,6 +41,7 @@ static const char usage[] =
     "  --packets A-B only the packets with these numbers in their capture, or with the number A if `-B` is left out\n"
     "  --defrag      whole packets in place of their fragments\n"
     "  --tunnels     also packets in whose tunnels one meets the condition\n"
+    "  --memory SIZE use at most so much memory, such as 2G (default: 512M)\n"
     "  --number      write a pcapng file, with each packet's number in its capture as a comment\n"
     "  --show        print the tests that the condition is compiled to, and read no packets\n"
     "  --help-terms  print all terms, each with an example\n"
@@ -55,6 +56,7 @@ struct request {
     int file_count;
     const char *output;
     uint64_t most;   /* how many packets are written at most */
+    uint64_t memory; /* for all files */
     struct timespec since, until;
     struct number_range packets;
     bool has_whole;  /* whole packets are filtered in place of their fragments */
@@ -77,6 +79,7 @@ static const struct option_row options[] = {
     {"packets", read_range_argument, offsetof(struct request, packets), "a number above 0, or two such as 5-10"},
     {"defrag", set_flag, offsetof(struct request, has_whole), NULL},
     {"tunnels", set_flag, offsetof(struct request, has_tunnels), NULL},
+    {"memory", read_memory_argument, offsetof(struct request, memory), MEMORY_WORDS},
     {"number", set_flag, offsetof(struct request, has_numbers), NULL},
     {"show", set_flag, offsetof(struct request, is_shown), NULL},
     {"help-terms", set_flag, offsetof(struct request, has_help), NULL},
@@ -250,7 +253,7 @@ static bool filter_packets(const struct request *request, struct target *target,
 /* Filters a capture with whole packets in place of their fragments. */
 static bool filter_whole_packets(const struct request *request, struct target *target, struct capture *capture)
 {
-    struct defragmenter *defragmenter = begin_defragmenter(DEFAULT_SLOTS, false);
+    struct defragmenter *defragmenter = begin_defragmenter(account_of(capture), slots_within(request->memory), false);
     if (!defragmenter) {
         complain_of_memory();
         return false;
@@ -324,6 +327,7 @@ static bool filter_files(const struct request *request)
 {
     struct target target = {.matcher = {.condition = request->condition, .has_tunnels = request->has_tunnels}};
     bool is_done = true;
+    set_budget(request->memory, request->has_whole ? memory_of_slots(slots_within(request->memory), false) : 0);
     for (int i = 0; i < request->file_count && wants_files(request, &target); i++)
         if (!filter_file(request, &target, request->files[i])) is_done = false;
     if (!write_empty_output(&target, request)) is_done = false;
@@ -381,7 +385,7 @@ static int read_operands(struct request *request, int count, char *const *operan
 int run_filter(int count, char **arguments)
 {
     struct condition condition;
-    struct request request = {.condition = &condition, .most = UINT64_MAX, .packets = {1, UINT64_MAX},
+    struct request request = {.condition = &condition, .most = UINT64_MAX, .memory = DEFAULT_MEMORY, .packets = {1, UINT64_MAX},
                               .since = {.tv_sec = INT64_MIN}, .until = {.tv_sec = INT64_MAX}};
     int status = read_options(count, arguments, usage, options, sizeof options / sizeof *options, &request);
     if (status < 0 && request.has_help) return list_terms() ? STATUS_DONE : STATUS_FAILED;

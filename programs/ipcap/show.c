@@ -20,11 +20,12 @@
 #include "writer.h"
 
 static const char usage[] =
-    "usage: ipcap show [-c N] [--defrag] [--tunnels] [--color=WHEN | --one-line | --json | --csv] [[COND] FILE]\n"
+    "usage: ipcap show [-c N] [--defrag] [--tunnels] [--memory SIZE] [--color=WHEN | --one-line | --json | --csv] [[COND] FILE]\n"
     "Draws each IP packet of FILE, or standard input, with its chain of extension headers.\n"
     "  COND          draw only packets that meet a condition, as `ipcap filter` reads it\n"
     "  -c N          stop after N packets\n"
     "  --defrag      show whole packets in place of their fragments\n"
+    "  --memory SIZE use at most so much memory, such as 2G (default: 512M)\n"
     "  --tunnels     also show the packets in tunnels, each after the one that carries it\n"
     "  --color=WHEN  use colours `always`, `never`, or `auto`: only on a terminal (default)\n"
     "  --one-line    print only the first line of each packet\n"
@@ -64,6 +65,7 @@ struct request {
     bool has_whole;   /* whole packets are shown in place of their fragments */
     bool has_tunnels; /* packets in tunnels are shown, too */
     uint64_t most;    /* how many packets are shown at most, besides those in tunnels */
+    uint64_t memory;
     const char *path; /* the file to read, or null */
     struct condition *condition; /* null if all packets are shown */
 };
@@ -157,7 +159,7 @@ static bool show_packets(const struct request *request, struct capture *capture)
 /* Shows the packets of an open capture, with whole packets in place of their fragments. */
 static bool show_whole_packets(const struct request *request, struct capture *capture)
 {
-    struct defragmenter *defragmenter = begin_defragmenter(DEFAULT_SLOTS, false);
+    struct defragmenter *defragmenter = begin_defragmenter(account_of(capture), slots_within(request->memory), false);
     if (!defragmenter) {
         complain_of_memory();
         return false;
@@ -173,6 +175,7 @@ static bool show_whole_packets(const struct request *request, struct capture *ca
 static bool show_capture(const struct request *request)
 {
     struct input input;
+    set_budget(request->memory, request->has_whole ? memory_of_slots(slots_within(request->memory), false) : 0);
     if (!open_input(&input, request->path)) return false;
     bool is_shown = (request->has_whole ? show_whole_packets : show_packets)(request, &input.capture);
     bool is_read = close_input(&input);
@@ -186,6 +189,7 @@ static const struct option_row options[] = {
     {"json", set_flag, offsetof(struct request, json), NULL},
     {"csv", set_flag, offsetof(struct request, csv), NULL},
     {"defrag", set_flag, offsetof(struct request, has_whole), NULL},
+    {"memory", read_memory_argument, offsetof(struct request, memory), MEMORY_WORDS},
     {"tunnels", set_flag, offsetof(struct request, has_tunnels), NULL},
 };
 
@@ -212,7 +216,7 @@ static int read_operands(struct request *request, struct condition *condition, i
 int run_show(int count, char **arguments)
 {
     struct condition condition;
-    struct request request = {.in_color = is_color_terminal(), .most = UINT64_MAX};
+    struct request request = {.in_color = is_color_terminal(), .most = UINT64_MAX, .memory = DEFAULT_MEMORY};
     int status = read_options(count, arguments, usage, options, sizeof options / sizeof *options, &request);
     if (status >= 0) return status;
     if (request.json + request.csv + request.is_one_line > 1)

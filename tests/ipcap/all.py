@@ -10,6 +10,7 @@ import test_defrag
 import test_filter
 import test_library
 import test_link_layers
+import test_memory
 import test_outputs
 import test_pcapng
 import test_rewrite
@@ -91,7 +92,10 @@ GROUPS = [("link layers", test_link_layers.link_layers), ("mismatched packets", 
           ("byte orders of blocks", test_outputs.byte_orders), ("decryption secrets", test_outputs.secrets),
           ("truncated simple packet blocks", test_outputs.simple_packets), ("kept fragments in sections", test_outputs.kept_in_sections), ("stated lengths of frames", test_outputs.stated_lengths),
           ("outputs without interfaces", test_outputs.empty_outputs), ("memory for kept fragments", test_outputs.memory_for_kept),
-          ("room for kept fragments", test_outputs.room_for_kept), ("closed streams", test_outputs.closed_streams), ("outputs that are inputs", test_outputs.appended_outputs),
+          ("room for kept fragments", test_outputs.room_for_kept),
+          ("the budget of jobs", test_memory.budget_of_jobs), ("the budget of slots", test_memory.budget_of_slots),
+          ("the budget of kept fragments", test_memory.budget_of_kept), ("the budget of decoders", test_memory.budget_of_decoders),
+          ("sizes of memory", test_memory.sizes), ("closed streams", test_outputs.closed_streams), ("outputs that are inputs", test_outputs.appended_outputs),
           ("signals", test_outputs.signals), ("signals in pipes", test_outputs.signals_in_pipes),
           ("damaged captures", test_use.damaged_captures), ("compressed captures", test_compression.compressed),
           ("truncated compressed data", test_compression.truncated), ("damaged compressed data", test_compression.damaged),

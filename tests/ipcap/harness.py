@@ -9,6 +9,14 @@ import sys
 import tempfile
 
 
+# Runs a command in a process of its own, since a process has at least the peak memory of the one that started it, and prints
+# its peak memory in kilobytes to standard error.
+MEASURE = """import resource, subprocess, sys
+status = subprocess.call(sys.argv[1:])
+sys.stderr.write("peak %d\\n" % resource.getrusage(resource.RUSAGE_CHILDREN).ru_maxrss)
+sys.exit(status)"""
+
+
 class Failure(Exception):
     pass
 
@@ -23,7 +31,7 @@ class Harness:
         self.passed = 0
         self.files = itertools.count()
         self.pending = []
-        self.pool = concurrent.futures.ThreadPoolExecutor(os.cpu_count() or 1)
+        self.pool = concurrent.futures.ThreadPoolExecutor(len(os.sched_getaffinity(0)))
         self.environment = dict(os.environ, ASAN_OPTIONS="exitcode=98", UBSAN_OPTIONS="halt_on_error=1:exitcode=98")
         self.environment.pop("NO_COLOR", None)
 
@@ -73,6 +81,13 @@ class Harness:
         self.equal(sanitized.result(), answer, "different result with sanitizers of", arguments)
         self.pending.append((checked, answer, arguments))
         return answer
+
+    def measure(self, *arguments, output=None, timeout=300):
+        """Runs the plain build. Returns its status, output and messages, and its peak memory in bytes."""
+        command = [sys.executable, "-S", "-E", "-c", MEASURE, *self.plain, *arguments]
+        found = subprocess.run(command, stdout=output or subprocess.PIPE, stderr=subprocess.PIPE, env=self.environment, timeout=timeout)
+        errors, _, peak = found.stderr.decode().rpartition("peak ")
+        return found.returncode, found.stdout, errors, int(peak) << 10
 
     def settle(self):
         """Waits for the runs under valgrind, and compares their results with those of the plain build."""

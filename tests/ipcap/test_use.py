@@ -232,21 +232,13 @@ def interrupts(harness):
             process.stdout.close()
 
 
-def memory_used(command, path):
-    """Runs a command on a file. Returns its status and its peak memory in kilobytes."""
-    started = subprocess.Popen(command + [path], stdout=subprocess.DEVNULL)
-    _, status, usage = os.wait4(started.pid, 0)
-    started.returncode = status
-    return status, usage.ru_maxrss
-
-
 def bounded_memory(harness):
     """A capture with a thousand times as many packets takes no more memory."""
     frames = [record(ethernet(ipv6_chain(numbers))) for numbers in [[0], [0, 43], [60, 44], [51]]]
     short, long = [harness.file(file_header() + b"".join(frames) * count) for count in [50, 50000]]
     for command in [["stat"], ["filter", "header 44", "-w", "/dev/null"], ["show"], ["rewrite", "--without", "0", "-w", "/dev/null"]]:
-        few, many = memory_used(harness.plain + command, short), memory_used(harness.plain + command, long)
-        harness.check(few[0] == many[0] == 0 and many[1] < few[1] + 500, command, few, many)
+        few, many = [harness.measure(*command, path, output=subprocess.DEVNULL) for path in (short, long)]
+        harness.check(few[0] == many[0] == 0 and many[3] < few[3] + (500 << 10), command, few, many)
 
 
 def refuse_each(harness, arguments, given=b""):

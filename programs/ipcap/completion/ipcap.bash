@@ -25,7 +25,7 @@ _ipcap_files() {
 _ipcap_argument() {
     case $1 in
         -r | -w | --report) ;;
-        -c | -j | --packets | --since | --slots | --top | --until) compopt +o default 2>/dev/null ;;
+        -c | -j | --memory | --packets | --since | --slots | --top | --until) compopt +o default 2>/dev/null ;;
         --without) _ipcap_words 'hop-by-hop routing fragment authentication destination-options' "$2" ;;
         --color | =) _ipcap_words 'always never auto' "${2#=}" ;;
         *) return 1 ;;
@@ -40,12 +40,12 @@ _ipcap() {
         return
     fi
     case ${COMP_WORDS[1]} in
-        stat) options='-j --defrag --json --per-file --top --tunnels' ;;
+        stat) options='-j --defrag --json --memory --per-file --top --tunnels' ;;
         sum) options='--json --top' ;;
-        filter) options='-c -n -r -w --since --until --packets --defrag --tunnels --number --show --help-terms' ;;
-        show) options='-c --defrag --tunnels --color= --one-line --json --csv' ;;
-        defrag) options='-w --keep --report --slots' ;;
-        rewrite) options='-w --without --clear --in-order --break-authentication' ;;
+        filter) options='-c -n -r -w --since --until --packets --defrag --tunnels --memory --number --show --help-terms' ;;
+        show) options='-c --defrag --tunnels --memory --color= --one-line --json --csv' ;;
+        defrag) options='-w --keep --memory --report --slots' ;;
+        rewrite) options='-w --without --clear --in-order --break-authentication --memory' ;;
         *) return ;;
     esac
     _ipcap_argument "${COMP_WORDS[COMP_CWORD-1]}" "$word" && return

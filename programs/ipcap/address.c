@@ -69,9 +69,14 @@ static void put_ipv6(struct writer *writer, const uint8_t *address)
     put_ipv4(writer, address + 2 * (size_t)count);
 }
 
+void put_address_bytes(struct writer *writer, unsigned version, const uint8_t *address)
+{
+    (version == 4 ? put_ipv4 : put_ipv6)(writer, address);
+}
+
 void put_address(struct writer *writer, const struct parts *parts, bool is_destination)
 {
     uint16_t version = parts->packet.version;
     const uint8_t *address = parts->bytes + places[version].offset + (is_destination ? places[version].len : 0);
-    (version == 4 ? put_ipv4 : put_ipv6)(writer, address);
+    put_address_bytes(writer, version, address);
 }

@@ -13,4 +13,7 @@
  */
 void put_address(struct writer *writer, const struct parts *parts, bool is_destination);
 
+/* Writes the address of an IP version in these bytes. */
+void put_address_bytes(struct writer *writer, unsigned version, const uint8_t *address);
+
 #endif

@@ -4,6 +4,7 @@
 #include <string.h>
 #include <time.h>
 
+#include "budget.h"
 #include "wolfaren.h"
 
 bool set_flag(const char *argument, void *place)
@@ -36,6 +37,18 @@ bool read_count_argument(const char *argument, void *place)
 {
     uint64_t *count = place;
     return take_number(&argument, count) && *argument == '\0' && *count > 0;
+}
+
+bool read_memory_argument(const char *argument, void *place)
+{
+    static const char units[] = "KMG";
+    uint64_t *bytes = place;
+    if (!take_number(&argument, bytes)) return false;
+    const char *unit = *argument ? strchr(units, *argument) : NULL;
+    int power = unit ? (int)(unit - units + 1) * 10 : 0;
+    if (*bytes > UINT64_MAX >> power) return false;
+    *bytes <<= power;
+    return argument[unit ? 1 : 0] == '\0' && *bytes >= LEAST_MEMORY;
 }
 
 bool read_range_argument(const char *argument, void *place)

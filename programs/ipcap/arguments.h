@@ -8,6 +8,9 @@
 #include <stdbool.h>
 #include <stdint.h>
 
+/* What `read_memory_argument` reads, for messages. */
+#define MEMORY_WORDS "a number of bytes of at least 64M, such as 512M or 2G"
+
 /* Numbers from `first` up to `last`, including both. */
 struct number_range {
     uint64_t first;
@@ -22,6 +25,9 @@ bool read_text_argument(const char *argument, void *place);
 
 /* Reads a decimal number above 0: a `uint64_t`. */
 bool read_count_argument(const char *argument, void *place);
+
+/* Reads a number of bytes, at least LEAST_MEMORY, which may end in K, M or G for powers of 1024: a `uint64_t`. */
+bool read_memory_argument(const char *argument, void *place);
 
 /* Reads a number above 0, or two with a hyphen between them, such as `5-10`: a `struct number_range`. */
 bool read_range_argument(const char *argument, void *place);

@@ -58,10 +58,10 @@ static bool is_nanosecond_magic(const uint8_t magic[MAGIC_LEN])
     return false;
 }
 
-static bool open_file(struct capture *capture, const char *path)
+static bool open_file(struct capture *capture, const char *path, const struct memory_source *memory)
 {
     capture->name = is_standard_stream(path) ? "standard input" : path;
-    capture->file = open_source(&capture->source, path);
+    capture->file = open_source(&capture->source, path, memory);
     if (!capture->file) return fail_as_source(capture);
     setvbuf(capture->file, capture->buffer, _IOFBF, sizeof capture->buffer);
     capture->is_live = is_live(&capture->source);
@@ -187,11 +187,11 @@ static bool open_opened(struct capture *capture)
     return is_pcapng_magic(magic) ? open_blocks(capture) : open_handle(capture, magic);
 }
 
-bool open_capture(struct capture *capture, const char *path)
+bool open_capture(struct capture *capture, const char *path, const struct memory_source *memory)
 {
     *capture = (struct capture){0};
     if (!wolfaren_cpu_is_supported()) return fail(capture, UNSUPPORTED_CPU);
-    if (!open_file(capture, path)) return false;
+    if (!open_file(capture, path, memory)) return false;
     if (open_opened(capture)) return true;
     close_file(capture);
     return false;

@@ -84,8 +84,11 @@ struct packet {
     struct protocol protocol; /* the last number that says what the frame carries */
 };
 
-/* Opens a file or standard input. On failure, sets `error` and returns false. */
-bool open_capture(struct capture *capture, const char *path);
+/*
+ * Opens a file or standard input. Decompression asks `memory`, or takes what it needs if that is null. On failure, sets `error`
+ * and returns false.
+ */
+bool open_capture(struct capture *capture, const char *path, const struct memory_source *memory);
 
 /*
  * Reads the next packet and returns true. At the end, on failure, and if reading has to stop, returns false. Both of the latter

@@ -25,13 +25,23 @@ enum step {
     STEP_FAILED
 };
 
+/* Whom a decoder asks for memory besides a little that each has. */
+struct memory_source {
+    bool (*ask)(void *account, uint64_t bytes); /* takes bytes, or returns false if there are too few */
+    void *account;                              /* for `ask` */
+};
+
+/* Why a decoder fails that gets too little. */
+#define MEMORY_REFUSED "more memory needed than the budget allows"
+
 struct compression {
     const char *name;
     const char *library;          /* the library that decompresses it */
     const char *(*version)(void); /* returns the version of the library; null if the program is built without it */
-    void *(*begin)(void);         /* returns a decoder, or null if memory runs out */
+    void *(*begin)(const struct memory_source *memory); /* returns a decoder, or null if memory runs out */
     enum step (*decode)(void *decoder, struct chunk *chunk);
     void (*end)(void *decoder);
+    uint64_t most_memory; /* for how many bytes a decoder asks at most */
 };
 
 extern const struct compression gzip, zstd, xz;

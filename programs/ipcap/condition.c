@@ -28,16 +28,15 @@ static void free_text(struct text *text)
     free(text->origins);
 }
 
-/* Reports that memory runs out, unless the text has what it needs. */
+/* Whether the text has what it needs. If memory ran out, frees the rest. */
 static bool has_memory(struct text *text, bool needs_origins)
 {
     if (text->bytes && text->ends && (text->origins || !needs_origins)) return true;
-    complain_of_memory();
     free_text(text);
     return false;
 }
 
-/* Joins the arguments. If memory runs out, reports it and returns false. */
+/* Joins the arguments. Returns false if memory runs out. */
 static bool join(struct text *text, int count, char *const *arguments)
 {
     size_t len = 0;
@@ -107,10 +106,7 @@ static void copy_words(struct text *text, const struct text *arguments)
     text->origins[len] = end;
 }
 
-/*
- * Makes a text for the library's filters, with `stand_in` for each term of this program. If memory runs out, reports it
- * and returns false.
- */
+/* Makes a text for the library's filters, with `stand_in` for each term of this program. Returns false if memory runs out. */
 static bool replace_words(struct text *text, const struct text *arguments, const char *stand_in)
 {
     size_t len = arguments->ends[arguments->count - 1] + 1, count = (size_t)arguments->count;
@@ -229,7 +225,7 @@ static void take_own_test(struct condition *condition, size_t test)
 
 /*
  * Finds the tests for terms of this program in the first `taken` arguments: those whose number is another one with
- * another stand-in. If memory runs out, reports it and returns false.
+ * another stand-in. Returns false if memory runs out.
  */
 static bool find_own_tests(struct condition *condition, const struct text *joined, int taken)
 {
@@ -246,26 +242,46 @@ static bool find_own_tests(struct condition *condition, const struct text *joine
     return is_parsed;
 }
 
+/* Reports that memory ran out, and returns the exit status. */
+static int fail_on_memory(void)
+{
+    complain_of_memory();
+    return STATUS_FAILED;
+}
+
 /* Reads the condition in the joined arguments, as `read_condition` does. */
 static int read_joined(struct condition *condition, const struct text *joined, bool is_whole, int *taken)
 {
     struct text text;
     struct wolfaren_filter_error error;
-    if (!replace_words(&text, joined, "id 0")) return STATUS_FAILED;
+    if (!replace_words(&text, joined, "id 0")) return fail_on_memory();
     *taken = take_condition(&condition->filter, &text, is_whole, &error);
     if (*taken == 0) complain_of_condition(joined, error.expected, text.origins[error.offset]);
     free_text(&text);
     if (*taken == 0 || has_host_bits(&condition->filter)) return STATUS_USAGE;
-    return find_own_tests(condition, joined, *taken) ? -1 : STATUS_FAILED;
+    return find_own_tests(condition, joined, *taken) ? -1 : fail_on_memory();
 }
 
 int read_condition(struct condition *condition, int count, char *const *arguments, bool is_whole, int *taken)
 {
     struct text joined;
-    if (!join(&joined, count, arguments)) return STATUS_FAILED;
+    if (!join(&joined, count, arguments)) return fail_on_memory();
     int status = read_joined(condition, &joined, is_whole, taken);
     free_text(&joined);
     return status;
+}
+
+bool is_condition(int count, char *const *arguments)
+{
+    struct text joined, text;
+    struct wolfaren_filter filter;
+    struct wolfaren_filter_error error;
+    if (!join(&joined, count, arguments)) return false;
+    bool is_made = replace_words(&text, &joined, "id 0");
+    bool is_parsed = is_made && take_condition(&filter, &text, true, &error) > 0;
+    if (is_made) free_text(&text);
+    free_text(&joined);
+    return is_parsed;
 }
 
 const struct wolfaren_filter *filter_for(struct condition *condition, const struct packet *packet)

@@ -31,6 +31,9 @@ struct condition {
  */
 int read_condition(struct condition *condition, int count, char *const *arguments, bool is_whole, int *taken);
 
+/* Whether the arguments are a condition. Reports nothing, also if memory runs out. */
+bool is_condition(int count, char *const *arguments);
+
 /* Returns the filter that decides about a packet. The next call changes it. */
 const struct wolfaren_filter *filter_for(struct condition *condition, const struct packet *packet);
 

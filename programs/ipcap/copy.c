@@ -21,6 +21,13 @@ bool is_input(const char *output, const char *path)
     return to.st_dev == from.st_dev && to.st_ino == from.st_ino;
 }
 
+bool is_same_output(const char *path, const char *other)
+{
+    struct stat one, two;
+    if (!look_at(path, STDOUT_FILENO, &one) || !S_ISREG(one.st_mode) || !look_at(other, STDOUT_FILENO, &two)) return false;
+    return one.st_dev == two.st_dev && one.st_ino == two.st_ino;
+}
+
 static const char *name_of(const char *path)
 {
     return is_standard_stream(path) ? "standard output" : path;

@@ -10,6 +10,9 @@
  */
 bool is_input(const char *output, const char *path);
 
+/* Whether two outputs, each standard output if it is null or `-`, are the same file. */
+bool is_same_output(const char *path, const char *other);
+
 /* Begins an output in the format of a capture: `begin_output` or `begin_long_output`. */
 typedef bool begin_call(struct output *output, struct capture *capture, FILE *file);
 

@@ -31,12 +31,13 @@ struct pool {
 };
 
 /* Counts the packets of a file. Only one that is alone shows its progress. */
-static void count_packets(struct counted_file *file, const struct files *files, struct input *input, bool is_alone)
+static void count_packets(struct counted_file *file, const struct files *files, struct input *input, struct account *account,
+                          bool is_alone)
 {
-    file->is_open = begin_input(input, file->path);
+    file->is_open = begin_input(input, file->path, account);
     if (!is_alone) input->capture.follow = NULL;
     if (file->is_open) {
-        if (files->has_whole) file->defragmenter = begin_defragmenter(DEFAULT_SLOTS, false);
+        if (files->has_whole) file->defragmenter = begin_defragmenter(account, files->slots, false);
         if (file->defragmenter) pass_whole(file->defragmenter, &input->capture);
         file->is_memory_short = (files->has_whole && !file->defragmenter) || !count_capture(&file->counts, &input->capture);
         if (file->defragmenter) stop_defragmenter(file->defragmenter);
@@ -53,10 +54,13 @@ static void count_file(struct counted_file *file, const struct files *files, siz
     file->name = file->path = files->paths[number];
     init_counts(&file->counts, files->has_tunnels);
     if (stop_signal) return;
-    struct input *input = malloc(sizeof *input);
+    struct account account;
+    open_account(&account, number);
+    struct input *input = calloc(1, sizeof *input);
     file->is_memory_short = !input;
-    if (input) count_packets(file, files, input, is_alone);
+    if (input) count_packets(file, files, input, &account, is_alone);
     free(input);
+    close_account(&account);
 }
 
 /* Releases what is known of a file. */
@@ -180,6 +184,7 @@ static bool count_in_parallel(const struct files *files, size_t jobs, take_count
 void count_files(const struct files *files, size_t jobs, take_counted_file *take, void *taker)
 {
     if (jobs > files->count) jobs = files->count;
+    if (jobs > files_within_budget()) jobs = files_within_budget();
     if (jobs > 1 && count_in_parallel(files, jobs, take, taker)) return;
     count_in_turn(files, take, taker);
 }

@@ -4,6 +4,7 @@
 
 #include <stdbool.h>
 #include <stddef.h>
+#include <stdint.h>
 
 #include "capture.h"
 #include "counts.h"
@@ -28,6 +29,7 @@ struct files {
     size_t count;
     bool has_tunnels; /* tunnels are followed */
     bool has_whole;   /* whole packets are counted in place of their fragments */
+    uint64_t slots;   /* how many packets of a file can be incomplete at once */
 };
 
 /*

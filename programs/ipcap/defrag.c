@@ -13,24 +13,30 @@
 #include "report.h"
 
 static const char usage[] =
-    "usage: ipcap defrag [--keep] [--slots N] [-w OUTPUT] [FILE]\n"
+    "usage: ipcap defrag [--keep] [--memory SIZE] [--slots N] [--report REPORT] [-w OUTPUT] [FILE]\n"
     "Writes the packets of FILE, or standard input, with whole packets in place of their fragments.\n"
-    "  -w OUTPUT  write to this file instead of standard output\n"
-    "  --keep     also write the fragments that made no packet whole, at the end\n"
-    "  --slots N  keep the fragments of at most N packets at once (default: 4096)\n"
-    "  --help     print this help\n"
-    "  --version  print the version\n";
+    "  -w OUTPUT        write to this file instead of standard output\n"
+    "  --keep           also write the fragments that made no packet whole, at the end\n"
+    "  --memory SIZE    use at most so much memory, such as 2G (default: 512M)\n"
+    "  --report REPORT  write a line for each packet that wasn't made whole to this file\n"
+    "  --slots N        keep the fragments of at most N packets at once (default: 4096)\n"
+    "  --help           print this help\n"
+    "  --version        print the version\n";
 
 /* The values of the options. */
 struct request {
     const char *output;
-    uint64_t slots;
+    const char *report;
+    uint64_t slots; /* 0 if not given */
+    uint64_t memory;
     bool keeps;
 };
 
 static const struct option_row options[] = {
     {"w", read_text_argument, offsetof(struct request, output), "a path"},
+    {"report", read_text_argument, offsetof(struct request, report), "a path"},
     {"slots", read_count_argument, offsetof(struct request, slots), "a number above 0"},
+    {"memory", read_memory_argument, offsetof(struct request, memory), MEMORY_WORDS},
     {"keep", set_flag, offsetof(struct request, keeps), NULL},
 };
 
@@ -58,28 +64,59 @@ static bool write_packets(struct output *output, const struct request *request, 
     return finish_copy(output, request->output) && has_kept_all(defragmenter);
 }
 
+/* Opens the report, if one is asked for, and then the output. Returns false on failure, which is reported. */
+static bool open_outputs(const struct request *request, struct defragmenter *defragmenter, struct loss_report *report,
+                         struct output *output, struct capture *capture, const char *path)
+{
+    if (request->report) {
+        if (!open_report(report, request->report, path, request->output)) return false;
+        if (capture->is_live) report_at_once(report);
+        report_losses(defragmenter, report);
+    }
+    return open_copy(output, request->output, capture, path, begin_long_output);
+}
+
 static bool defragment_file(const struct request *request, const char *path)
 {
     struct input input;
     struct output output = {0};
+    struct loss_report report = {0};
+    set_budget(request->memory, memory_of_slots(request->slots, request->report));
     if (!open_input(&input, path)) return false;
     if (!is_standard_stream(request->output)) allow_progress(&input);
-    struct defragmenter *defragmenter = begin_defragmenter(request->slots, request->keeps);
+    struct defragmenter *defragmenter = begin_defragmenter(&input.own, request->slots, request->keeps);
     if (!defragmenter) complain_of_memory();
-    bool is_done = defragmenter && open_copy(&output, request->output, &input.capture, path, begin_long_output)
-        && write_packets(&output, request, defragmenter, &input.capture);
+    bool is_open = defragmenter && open_outputs(request, defragmenter, &report, &output, &input.capture, path);
+    bool is_done = is_open && write_packets(&output, request, defragmenter, &input.capture);
+    bool is_reported = finish_report(&report);
     end_output(&output);
     end_defragmenter(defragmenter);
-    return close_input(&input) && is_done;
+    end_report(&report);
+    return close_input(&input) && is_done && is_reported;
+}
+
+/* Chooses the number of slots unless it is given. Returns -1, or the exit status if the budget is too small for it. */
+static int choose_slots(struct request *request)
+{
+    uint64_t room = memory_for_file(request->memory), needed = memory_of_slots(request->slots, request->report);
+    if (request->slots == 0) request->slots = slots_within(request->memory);
+    if (needed <= room) return -1;
+    unsigned long long slots = request->slots, least = needed > UINT64_MAX / 2 ? 0 : (needed + request->memory - room + 0xfffff) >> 20;
+    if (least == 0) return refuse_usage("ipcap defrag", "--slots %llu needs more memory than there is", slots);
+    return refuse_usage("ipcap defrag", "--slots %llu needs --memory %lluM or more", slots, least);
 }
 
 int run_defrag(int count, char **arguments)
 {
-    struct request request = {.slots = DEFAULT_SLOTS};
+    struct request request = {.memory = DEFAULT_MEMORY};
     int status = read_options(count, arguments, usage, options, sizeof options / sizeof *options, &request);
     if (status >= 0) return status;
     if (count - optind > 1) return refuse_usage("ipcap defrag", "defrag reads a single file");
+    if (request.report && is_standard_stream(request.report) && is_standard_stream(request.output))
+        return refuse_usage("ipcap defrag", "the capture and the report can't both be written to standard output: use -w");
     if (is_standard_stream(request.output) && isatty(STDOUT_FILENO))
         return refuse_usage("ipcap defrag", "refusing to write a capture to a terminal: use -w or a pipe");
+    status = choose_slots(&request);
+    if (status >= 0) return status;
     return defragment_file(&request, arguments[optind]) ? STATUS_DONE : STATUS_FAILED;
 }

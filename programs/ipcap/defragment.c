@@ -25,7 +25,10 @@ enum { MOST_LINK_LEN = 256 };
 struct pending {
     uint64_t fragments; /* number of fragments that arrived; 0 if the slot is free */
     uint64_t lost;      /* number of those that weren't kept, since memory ran out */
+    bool has_memory;    /* the slot has taken memory */
     struct kept *kept;
+    struct loss loss;   /* the fragments for the report, also those that were refused */
+    int refusal;        /* the outcome by which the packet was abandoned, or 0 */
     int link_type;
     uint16_t link_len; /* length of the first fragment's link headers */
     bool has_link;
@@ -44,6 +47,7 @@ struct defragmenter {
     struct wolfaren_defragmenter_settings settings;
     uint64_t time; /* of the last packet that had one, in nanoseconds */
     bool keeps;
+    struct account *account;
     struct keeper keeper;
     struct kept *kept; /* those that made no packet whole; sorted after it was stopped */
     struct kept *last; /* the one that `next_kept` returned last */
@@ -51,6 +55,7 @@ struct defragmenter {
     bool (*copy)(struct capture *capture, const uint8_t *block, size_t len); /* how blocks are copied */
     uint64_t left[LEFT_REASONS]; /* number of fragments by reason */
     uint64_t lost; /* number of those that weren't kept, since memory ran out */
+    struct loss_report *report; /* null if nothing is reported */
     uint8_t block[BLOCK_HEAD + MOST_LINK_LEN + WOLFAREN_WHOLE_PACKET_ROOM + BLOCK_END];
 };
 
@@ -82,8 +87,11 @@ static void release_all(struct defragmenter *defragmenter)
 void end_defragmenter(struct defragmenter *defragmenter)
 {
     if (!defragmenter) return;
-    for (size_t i = 0; defragmenter->pendings && defragmenter->keeps && i < defragmenter->slot_count; i++)
+    bool has_lists = defragmenter->keeps || defragmenter->report;
+    for (size_t i = 0; defragmenter->pendings && has_lists && i < defragmenter->slot_count; i++) {
         free_kept(&defragmenter->keeper, defragmenter->pendings[i].kept);
+        forget_loss(&defragmenter->pendings[i].loss);
+    }
     free_kept(&defragmenter->keeper, defragmenter->kept);
     free_kept(&defragmenter->keeper, defragmenter->last);
     end_keeper(&defragmenter->keeper);
@@ -100,12 +108,36 @@ static struct wolfaren_defragmenter_settings random_settings(void)
     return settings;
 }
 
-struct defragmenter *begin_defragmenter(uint64_t slots, bool keeps)
+/*
+ * How much memory a slot has, and the list of its fragments for a report at most. The memory of a single slot may also have
+ * parts of pages before and after it.
+ */
+enum {
+    PAGES_BESIDE = 2 * 4096,
+    LIST_MEMORY = MOST_NUMBERS * sizeof(uint64_t),
+    SLOT_MEMORY = sizeof(struct wolfaren_slot) + sizeof(struct wolfaren_packet_memory) + sizeof(struct pending)
+};
+
+uint64_t memory_of_slots(uint64_t slots, bool has_report)
+{
+    uint64_t each = SLOT_MEMORY + (has_report ? LIST_MEMORY : 0);
+    return slots > UINT64_MAX / 2 / each ? UINT64_MAX : slots * each + PAGES_BESIDE;
+}
+
+uint64_t slots_within(uint64_t memory)
+{
+    /* what is left is for decompression */
+    uint64_t slots = memory_for_file(memory) / 4 * 3 / SLOT_MEMORY;
+    return slots < DEFAULT_SLOTS ? slots : DEFAULT_SLOTS;
+}
+
+struct defragmenter *begin_defragmenter(struct account *account, uint64_t slots, bool keeps)
 {
     struct defragmenter *defragmenter = calloc(1, sizeof *defragmenter);
     if (defragmenter) {
         defragmenter->slot_count = slots;
         defragmenter->keeps = keeps;
+        defragmenter->account = defragmenter->keeper.account = account;
         defragmenter->slots = reserve(slots, sizeof *defragmenter->slots);
         defragmenter->memories = reserve(slots, sizeof *defragmenter->memories);
         defragmenter->pendings = reserve(slots, sizeof *defragmenter->pendings);
@@ -116,6 +148,57 @@ struct defragmenter *begin_defragmenter(uint64_t slots, bool keeps)
     return NULL;
 }
 
+void report_losses(struct defragmenter *defragmenter, struct loss_report *report)
+{
+    defragmenter->report = report;
+}
+
+/* What the report says of a packet, by the reason. */
+static const char *const loss_words[LEFT_REASONS] = {
+    [WOLFAREN_FAULTY_FRAGMENT] = "refused: its headers are truncated or faulty",
+    [WOLFAREN_NO_STATED_LENGTH] = "refused: it states no length",
+    [WOLFAREN_BYTES_MISSING] = "refused: bytes of it are missing",
+    [WOLFAREN_UNALIGNED] = "refused: its length isn't a positive multiple of 8, though more follow",
+    [WOLFAREN_TOO_LONG] = "refused: it makes its packet too long for its length field",
+    [WOLFAREN_OVERLAP] = "refused: a fragment overlaps others",
+    [WOLFAREN_TWO_ENDS] = "refused: a fragment contradicts the end of the packet",
+    [WOLFAREN_ABANDONED] = "refused: the packet was abandoned",
+    [WOLFAREN_HEADERS_TOO_LONG] = "refused: it has more than 4,096 bytes of headers",
+    [WOLFAREN_NO_SLOT] = "refused: there is no slot",
+    [WOLFAREN_MIXED_ECN] = "refused: some fragments are ECN-capable, others aren't",
+    [LEFT_TIMED_OUT] = "timed out: not whole after 60 seconds",
+    [LEFT_DISPLACED] = "displaced: given up for another packet, since all slots were in use",
+    [LEFT_INCOMPLETE] = "not whole at the end",
+    [LEFT_LONG_LINK] = "refused: more than 256 bytes of link-layer headers",
+};
+
+/* Adds a fragment to those of a packet for the report. */
+static void note_loss(struct defragmenter *defragmenter, struct loss *loss, const struct capture *capture,
+                      const struct packet *packet)
+{
+    if (defragmenter->report) add_to_loss(defragmenter->report, loss, capture, packet);
+}
+
+/*
+ * Reports a fragment that was refused: with its packet, if that was abandoned, and otherwise in a line of its own. A packet that
+ * is abandoned has accepted a fragment before.
+ */
+static void report_refused(struct defragmenter *defragmenter, struct pending *pending, int outcome,
+                           const struct capture *capture, const struct packet *packet)
+{
+    struct loss alone = {0};
+    bool is_abandoned = outcome == WOLFAREN_OVERLAP || outcome == WOLFAREN_TWO_ENDS || outcome == WOLFAREN_ABANDONED
+        || outcome == WOLFAREN_MIXED_ECN;
+    if (!defragmenter->report) return;
+    if (is_abandoned) {
+        note_loss(defragmenter, &pending->loss, capture, packet);
+        if (pending->refusal == 0) pending->refusal = outcome;
+        return;
+    }
+    note_loss(defragmenter, &alone, capture, packet);
+    write_loss(defragmenter->report, &alone, loss_words[outcome]);
+}
+
 /* Frees the fragments of a packet that is whole. */
 static void forget(struct defragmenter *defragmenter, struct pending *pending)
 {
@@ -123,6 +206,8 @@ static void forget(struct defragmenter *defragmenter, struct pending *pending)
     pending->kept = NULL;
     pending->fragments = pending->lost = 0;
     pending->has_link = false;
+    pending->refusal = 0;
+    forget_loss(&pending->loss);
 }
 
 /* Counts the fragments of a packet that was given up, and moves them to those that made no packet whole. */
@@ -132,6 +217,8 @@ static void give_up(struct defragmenter *defragmenter, struct pending *pending, 
     while (*end) end = &(*end)->next;
     *end = defragmenter->kept;
     defragmenter->kept = pending->kept;
+    if (defragmenter->report)
+        write_loss(defragmenter->report, &pending->loss, loss_words[pending->refusal ? pending->refusal : reason]);
     defragmenter->left[reason] += pending->fragments;
     defragmenter->lost += pending->lost;
     pending->kept = NULL;
@@ -143,6 +230,10 @@ static void note(struct defragmenter *defragmenter, struct pending *pending, siz
                  const struct capture *capture, const struct packet *packet)
 {
     pending->fragments++;
+    if (!pending->has_memory)
+        take_promised(defragmenter->account, SLOT_MEMORY + PAGES_BESIDE + (defragmenter->report ? LIST_MEMORY : 0));
+    pending->has_memory = true;
+    note_loss(defragmenter, &pending->loss, capture, packet);
     if (defragmenter->keeps && !keep(&defragmenter->keeper, &pending->kept, capture, packet)) pending->lost++;
     if (pending->has_link || !defragmenter->memories[slot].first_here || packet->ip_offset > MOST_LINK_LEN) return;
     pending->has_link = true;
@@ -240,6 +331,7 @@ static bool add(struct defragmenter *defragmenter, struct capture *capture, stru
         give_up(defragmenter, pending, added.loss == WOLFAREN_TIMED_OUT ? LEFT_TIMED_OUT : LEFT_DISPLACED);
     if (added.outcome > WOLFAREN_WHOLE) {
         defragmenter->left[added.outcome]++;
+        report_refused(defragmenter, pending, added.outcome, capture, packet);
         if (defragmenter->keeps && !keep(&defragmenter->keeper, &defragmenter->kept, capture, packet)) defragmenter->lost++;
         return false;
     }
@@ -298,8 +390,29 @@ void pass_whole(struct defragmenter *defragmenter, struct capture *capture)
     capture->copy = copy_block;
 }
 
+/* Compares two packets by the number of the first fragment. */
+static int compare_losses(const void *a, const void *b)
+{
+    const struct loss *one = &(*(struct pending *const *)a)->loss, *other = &(*(struct pending *const *)b)->loss;
+    uint64_t first = one->kept > 0 ? one->numbers[0] : 0, second = other->kept > 0 ? other->numbers[0] : 0;
+    return first < second ? -1 : first > second;
+}
+
+/* Reports the packets that aren't whole in the order of their first fragments, as far as memory allows. */
+static void report_incomplete(struct defragmenter *defragmenter)
+{
+    struct pending **found = defragmenter->report ? calloc(defragmenter->slot_count, sizeof(struct pending *)) : NULL;
+    size_t count = 0;
+    for (size_t i = 0; found && i < defragmenter->slot_count; i++)
+        if (defragmenter->pendings[i].fragments > 0) found[count++] = &defragmenter->pendings[i];
+    if (found) qsort(found, count, sizeof *found, compare_losses);
+    for (size_t i = 0; i < count; i++) give_up(defragmenter, found[i], LEFT_INCOMPLETE);
+    free(found);
+}
+
 void stop_defragmenter(struct defragmenter *defragmenter)
 {
+    report_incomplete(defragmenter);
     for (size_t i = 0; i < defragmenter->slot_count; i++)
         if (defragmenter->pendings[i].fragments > 0) give_up(defragmenter, &defragmenter->pendings[i], LEFT_INCOMPLETE);
     release_all(defragmenter);

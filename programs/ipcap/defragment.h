@@ -5,20 +5,32 @@
 #include <stdbool.h>
 #include <stdint.h>
 
+#include "budget.h"
 #include "capture.h"
 #include "kept.h"
+#include "losses.h"
 
 /* How many packets can be incomplete at once, unless it is said otherwise. */
 enum { DEFAULT_SLOTS = 4096 };
 
 struct defragmenter;
 
+/* Returns how much memory so many slots have at most, also with a report. Stops at UINT64_MAX. */
+uint64_t memory_of_slots(uint64_t slots, bool has_report);
+
+/* Returns how many packets can be incomplete at once within a budget: DEFAULT_SLOTS, or fewer. */
+uint64_t slots_within(uint64_t memory);
+
 /*
- * Begins to make packets whole, of which at most `slots` are incomplete at once. Each of these uses memory when its first
- * fragment arrives. If `keeps`, the fragments that make no packet whole are kept for `next_kept`. Returns null if there isn't
- * enough memory.
+ * Begins to make packets whole, of which at most `slots` are incomplete at once. Each of these takes memory that the account was
+ * promised when its first fragment arrives. If `keeps`, the fragments that make no packet whole are kept for `next_kept`.
+ * Returns null if there isn't enough memory. The account has to be open until the defragmenter is stopped, or if it keeps
+ * fragments, until it ends.
  */
-struct defragmenter *begin_defragmenter(uint64_t slots, bool keeps);
+struct defragmenter *begin_defragmenter(struct account *account, uint64_t slots, bool keeps);
+
+/* Writes a line to the report for each packet that is given up, and for each fragment that is dropped by itself. */
+void report_losses(struct defragmenter *defragmenter, struct loss_report *report);
 
 /*
  * Makes `read_packet` read a whole packet in place of the fragment that completes it, and no other fragment. The whole packet

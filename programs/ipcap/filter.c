@@ -3,6 +3,7 @@
 #include <getopt.h>
 #include <stddef.h>
 #include <stdio.h>
+#include <stdlib.h>
 #include <string.h>
 #include <unistd.h>
 
@@ -13,12 +14,14 @@
 #include "defragment.h"
 #include "input.h"
 #include "long_output.h"
+#include "matching.h"
 #include "options.h"
 #include "output.h"
 #include "program.h"
 #include "report.h"
 #include "stop.h"
 #include "terms.h"
+#include "text.h"
 #include "wolfaren.h"
 
 static const char usage[] =
@@ -37,6 +40,9 @@ static const char usage[] =
     "  --until TIME  only packets before this time\n"
     "  --packets A-B only the packets with these numbers in their capture, or with the number A if `-B` is left out\n"
     "  --defrag      whole packets in place of their fragments\n"
+    "  --tunnels     also packets in whose tunnels one meets the condition\n"
+    "  --memory SIZE use at most so much memory, such as 2G (default: 512M)\n"
+    "  --number      write a pcapng file, with each packet's number in its capture as a comment\n"
     "  --show        print the tests that the condition is compiled to, and read no packets\n"
     "  --help-terms  print all terms, each with an example\n"
     "  --help        print this help\n"
@@ -50,9 +56,12 @@ struct request {
     int file_count;
     const char *output;
     uint64_t most;   /* how many packets are written at most */
+    uint64_t memory; /* for all files */
     struct timespec since, until;
     struct number_range packets;
     bool has_whole;  /* whole packets are filtered in place of their fragments */
+    bool has_tunnels; /* a packet meets the condition if one in its tunnels does */
+    bool has_numbers; /* packets have their numbers in comments */
     bool is_numeric; /* ignored */
     bool is_shown;   /* whether the condition is printed, and no capture is read */
     bool has_help;   /* whether the terms are printed, and nothing else is done */
@@ -69,16 +78,20 @@ static const struct option_row options[] = {
     {"until", read_time_argument, offsetof(struct request, until), time_words},
     {"packets", read_range_argument, offsetof(struct request, packets), "a number above 0, or two such as 5-10"},
     {"defrag", set_flag, offsetof(struct request, has_whole), NULL},
+    {"tunnels", set_flag, offsetof(struct request, has_tunnels), NULL},
+    {"memory", read_memory_argument, offsetof(struct request, memory), MEMORY_WORDS},
+    {"number", set_flag, offsetof(struct request, has_numbers), NULL},
     {"show", set_flag, offsetof(struct request, is_shown), NULL},
     {"help-terms", set_flag, offsetof(struct request, has_help), NULL},
 };
 
 /*
- * The capture that is written. For a single pcapng file, it consists of blocks of that. Otherwise it is a classic file,
- * whose link layer is that of the first file.
+ * The capture that is written. For a single pcapng file, it consists of blocks of that. Otherwise it is a classic file, or
+ * with numbers a pcapng file, whose link layer is that of the first file.
  */
 struct target {
     struct output output;
+    struct matcher matcher;
     const char *name;
     const char *first; /* name of the first file */
     int link_type;     /* one of libpcap's DLT_ values */
@@ -123,6 +136,7 @@ static bool open_output(struct target *target, const struct request *request, st
 {
     FILE *file = open_target(target, request);
     target->first = capture->name;
+    target->output.has_numbers = request->has_numbers;
     target->link_type = capture->link_type;
     if (!file) return false;
     if (request->file_count == 1)
@@ -154,20 +168,24 @@ static bool has_link_type(const struct target *target, const struct capture *cap
     return false;
 }
 
-/* Returns why a packet of a pcapng file can't be in a classic file with the link layer of the output, or null. */
+/* Returns why a packet of a pcapng file can't be in an output for several files, or null. */
 static const char *misfit(const struct target *target, const struct capture *capture, const struct packet *packet)
 {
     time_t seconds = time_of(capture, packet).tv_sec;
+    bool has_numbers = target->output.has_numbers;
+    time_t last = has_numbers ? (time_t)(UINT64_MAX / 1000000000 - 1) : (time_t)UINT32_MAX;
     if (packet->link_type != target->link_type) return "its link layer isn't that of the output";
-    if (seconds < 0 || seconds > (time_t)UINT32_MAX) return "the classic pcap format has no such time";
-    if (packet->header.caplen > MOST_SNAP_LEN) return "the classic pcap format has no such length";
+    if (seconds < 0 || seconds > last)
+        return has_numbers ? "the output has no such time" : "the classic pcap format has no such time";
+    if (packet->header.caplen > MOST_SNAP_LEN)
+        return has_numbers ? "the output has no such length" : "the classic pcap format has no such length";
     return NULL;
 }
 
 /* Whether a packet can be written. The first one of a file that can't is reported. */
 static bool does_fit(struct target *target, const struct capture *capture, const struct packet *packet)
 {
-    const char *reason = packet->block && target->output.dumper ? misfit(target, capture, packet) : NULL;
+    const char *reason = packet->block && target->output.is_joint ? misfit(target, capture, packet) : NULL;
     if (reason && !target->has_left_out)
         complain("%s: packet %llu and others like it are left out: %s", capture->name,
                  (unsigned long long)capture->number, reason);
@@ -188,11 +206,15 @@ static bool is_timely(const struct request *request, const struct capture *captu
     return !is_before(&time, &request->since) && is_before(&time, &request->until);
 }
 
-/* Whether a packet meets the condition, and has one of the numbers and times that are asked for. */
-static bool is_chosen(const struct request *request, const struct capture *capture, const struct packet *packet)
+/*
+ * Decides whether a packet meets the condition, and has one of the numbers and times that are asked for. If memory runs out,
+ * reports it and returns false.
+ */
+static bool choose(const struct request *request, struct matcher *matcher, const struct capture *capture,
+                   const struct packet *packet, bool *is_chosen)
 {
-    return capture->number >= request->packets.first && is_timely(request, capture, packet)
-        && does_match(filter_for(request->condition, packet), packet);
+    *is_chosen = capture->number >= request->packets.first && is_timely(request, capture, packet);
+    return !*is_chosen || decide(matcher, packet, is_chosen);
 }
 
 /* Whether packets that aren't read yet may be written. */
@@ -201,23 +223,37 @@ static bool wants_more(const struct request *request, const struct output *outpu
     return !has_output_failed(output) && output->written < request->most && capture->number < request->packets.last;
 }
 
+/* Whether all packets that were written have their numbers. If not, reports that. */
+static bool has_all_numbers(struct output *output, const struct capture *capture)
+{
+    unsigned long long number = output->unnumbered;
+    output->unnumbered = 0;
+    if (number == 0) return true;
+    complain("%s: packet %llu and others like it have no number: with it, their blocks would have more than %d bytes",
+             capture->name, number, MOST_BLOCK);
+    return false;
+}
+
 static bool filter_packets(const struct request *request, struct target *target, struct capture *capture)
 {
     struct output *output = &target->output;
     struct packet packet;
+    bool is_chosen, is_decided = true;
     target->has_left_out = false;
-    while (wants_more(request, output, capture) && read_packet(capture, &packet))
-        if (is_chosen(request, capture, &packet) && does_fit(target, capture, &packet))
-            write_packet(output, capture, &packet);
+    while (is_decided && wants_more(request, output, capture) && read_packet(capture, &packet)) {
+        is_decided = choose(request, &target->matcher, capture, &packet, &is_chosen);
+        if (is_decided && is_chosen && does_fit(target, capture, &packet)) write_packet(output, capture, &packet);
+    }
     errno = 0;
     flush_output(output);
-    return is_written(target) && !target->has_left_out;
+    bool is_numbered = has_all_numbers(output, capture);
+    return is_written(target) && is_decided && is_numbered && !target->has_left_out;
 }
 
 /* Filters a capture with whole packets in place of their fragments. */
 static bool filter_whole_packets(const struct request *request, struct target *target, struct capture *capture)
 {
-    struct defragmenter *defragmenter = begin_defragmenter(DEFAULT_SLOTS, false);
+    struct defragmenter *defragmenter = begin_defragmenter(account_of(capture), slots_within(request->memory), false);
     if (!defragmenter) {
         complain_of_memory();
         return false;
@@ -236,6 +272,35 @@ static bool has_no_link_type(const struct capture *capture)
     return !capture->handle && !capture->blocks.has_interface;
 }
 
+/* Returns the name of a file for comments, with hidden characters escaped, or null if memory runs out. */
+static char *escape_name(const char *name)
+{
+    char *text = NULL;
+    size_t len;
+    FILE *file = open_memstream(&text, &len);
+    if (!file) return NULL;
+    write_escaped(file, name);
+    if (fclose(file) == 0) return text;
+    free(text);
+    return NULL;
+}
+
+/* Filters a capture for which the output is open. Of several files, its name is in the comments with numbers. */
+static bool filter_capture(const struct request *request, struct target *target, struct capture *capture)
+{
+    bool is_named = request->has_numbers && request->file_count > 1;
+    char *name = is_named ? escape_name(capture->name) : NULL;
+    if (is_named && !name) {
+        complain_of_memory();
+        return false;
+    }
+    target->output.numbered.origin = name;
+    bool is_done = (request->has_whole ? filter_whole_packets : filter_packets)(request, target, capture);
+    target->output.numbered.origin = NULL;
+    free(name);
+    return is_done;
+}
+
 /* Filters a file. If it is the first that could be opened, opens the output. */
 static bool filter_file(const struct request *request, struct target *target, const char *path)
 {
@@ -248,7 +313,7 @@ static bool filter_file(const struct request *request, struct target *target, co
         return close_input(&input);
     }
     bool is_open = target->output.file ? has_link_type(target, capture) : open_output(target, request, capture);
-    bool is_done = is_open && (request->has_whole ? filter_whole_packets : filter_packets)(request, target, capture);
+    bool is_done = is_open && filter_capture(request, target, capture);
     return close_input(&input) && is_done;
 }
 
@@ -260,12 +325,14 @@ static bool wants_files(const struct request *request, const struct target *targ
 
 static bool filter_files(const struct request *request)
 {
-    struct target target = {0};
+    struct target target = {.matcher = {.condition = request->condition, .has_tunnels = request->has_tunnels}};
     bool is_done = true;
+    set_budget(request->memory, request->has_whole ? memory_of_slots(slots_within(request->memory), false) : 0);
     for (int i = 0; i < request->file_count && wants_files(request, &target); i++)
         if (!filter_file(request, &target, request->files[i])) is_done = false;
     if (!write_empty_output(&target, request)) is_done = false;
     end_output(&target.output);
+    end_matcher(&target.matcher);
     return is_done;
 }
 
@@ -318,7 +385,7 @@ static int read_operands(struct request *request, int count, char *const *operan
 int run_filter(int count, char **arguments)
 {
     struct condition condition;
-    struct request request = {.condition = &condition, .most = UINT64_MAX, .packets = {1, UINT64_MAX},
+    struct request request = {.condition = &condition, .most = UINT64_MAX, .memory = DEFAULT_MEMORY, .packets = {1, UINT64_MAX},
                               .since = {.tv_sec = INT64_MIN}, .until = {.tv_sec = INT64_MAX}};
     int status = read_options(count, arguments, usage, options, sizeof options / sizeof *options, &request);
     if (status < 0 && request.has_help) return list_terms() ? STATUS_DONE : STATUS_FAILED;

@@ -9,8 +9,9 @@
 /* The largest window, and 16 for the format of gzip instead of zlib's own. */
 enum { WINDOW_BITS = 15 + 16 };
 
-static void *begin(void)
+static void *begin(const struct memory_source *memory)
 {
+    (void)memory; /* it needs less than 64 KB */
     z_stream *stream = calloc(1, sizeof *stream);
     if (stream && inflateInit2(stream, WINDOW_BITS) == Z_OK) return stream;
     free(stream);
@@ -48,7 +49,7 @@ static void end(void *decoder)
     free(decoder);
 }
 
-const struct compression gzip = {"gzip", "zlib", zlibVersion, begin, decode, end};
+const struct compression gzip = {"gzip", "zlib", zlibVersion, begin, decode, end, 0};
 
 #else
 

@@ -93,11 +93,25 @@ static bool report_error(const struct capture *capture)
     return false;
 }
 
-bool begin_input(struct input *input, const char *path)
+struct account *account_of(struct capture *capture)
 {
-    *input = (struct input){0};
+    return ((struct input *)capture)->account;
+}
+
+/* Asks an account for memory for decompression. */
+static bool ask(void *account, uint64_t bytes)
+{
+    return ask_for_memory(account, bytes);
+}
+
+bool begin_input(struct input *input, const char *path, struct account *account)
+{
+    input->account = account;
+    input->memory = (struct memory_source){ask, account};
     look_at_file(input, path);
-    if (!open_capture(&input->capture, path)) return false;
+    if (!open_capture(&input->capture, path, &input->memory)) return false;
+    const struct compression *compression = input->capture.source.compression;
+    limit_asking(account, compression ? compression->most_memory : 0);
     input->capture.stop = &stop_signal;
     input->capture.source.wait = wait_for_bytes;
     begin_stopping();
@@ -114,11 +128,16 @@ void end_input(struct input *input)
 
 bool open_input(struct input *input, const char *path)
 {
-    return begin_input(input, path) || report_error(&input->capture);
+    *input = (struct input){0};
+    open_next_account(&input->own);
+    if (begin_input(input, path, &input->own)) return true;
+    close_account(&input->own);
+    return report_error(&input->capture);
 }
 
 bool close_input(struct input *input)
 {
     end_input(input);
+    close_account(&input->own);
     return report_error(&input->capture);
 }

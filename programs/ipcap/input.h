@@ -6,6 +6,7 @@
 #include <sys/types.h>
 #include <time.h>
 
+#include "budget.h"
 #include "capture.h"
 
 struct input {
@@ -13,7 +14,13 @@ struct input {
     bool is_progress_shown; /* there is a progress line on the terminal */
     off_t len;              /* length of the file in bytes, or 0 if unknown */
     struct timespec shown;  /* when the progress line was last updated */
+    struct account own;     /* that of `open_input` */
+    struct account *account; /* from which memory for the file is taken */
+    struct memory_source memory; /* that account for decompression */
 };
+
+/* Returns the account of an input by its capture. */
+struct account *account_of(struct capture *capture);
 
 /* The progress of reading several files. */
 struct files_progress {
@@ -31,13 +38,16 @@ void show_files_progress(struct files_progress *progress, size_t done, size_t co
 /* Erases the progress line, if there is one. */
 void clear_files_progress(struct files_progress *progress);
 
-/* Opens a file or standard input. On failure, sets the error of the capture and returns false. Reports nothing. */
-bool begin_input(struct input *input, const char *path);
+/*
+ * Opens a file or standard input. The input must be all zeros. On failure, sets the error of the capture and returns false.
+ * Reports nothing.
+ */
+bool begin_input(struct input *input, const char *path, struct account *account);
 
 /* Closes an input. Reports nothing. */
 void end_input(struct input *input);
 
-/* Opens a file or standard input. On failure, reports why and returns false. */
+/* Opens a file or standard input, with an account of its own. On failure, reports why and returns false. */
 bool open_input(struct input *input, const char *path);
 
 /* Shows progress even if standard output is a terminal. For commands that write nothing to standard output. */

@@ -8,19 +8,11 @@
 /* The types of blocks that describe a section. */
 enum { SECTION_HEADER = 0x0a0d0d0a, INTERFACE_DESCRIPTION = 1 };
 
-/* Takes bytes of the room for fragments and sections. Returns false if there are too few. */
-static bool take_room(struct keeper *keeper, size_t len)
-{
-    if (len > MOST_KEPT - keeper->used) return false;
-    keeper->used += len;
-    return true;
-}
-
 /* Frees a section that has no user any more. Does nothing if it is null. */
 static void leave_section(struct keeper *keeper, struct section *section)
 {
     if (!section || --section->users > 0) return;
-    keeper->used -= section->room;
+    give_memory_back(keeper->account, section->room);
     free(section->blocks);
     free(section);
 }
@@ -37,13 +29,13 @@ static bool make_room(struct keeper *keeper, size_t len)
     struct section *section = keeper->section;
     if (section->len + len <= section->room) return true;
     size_t more = 2 * (section->len + len) - section->room;
-    if (!take_room(keeper, more)) return false;
+    if (!ask_for_memory(keeper->account, more)) return false;
     uint8_t *blocks = realloc(section->blocks, section->room + more);
     if (blocks) {
         section->blocks = blocks;
         section->room += more;
     } else {
-        keeper->used -= more;
+        give_memory_back(keeper->account, more);
     }
     return blocks;
 }
@@ -71,10 +63,10 @@ static struct kept *copy_of(struct keeper *keeper, const struct packet *packet)
 {
     const uint8_t *bytes = packet->block ? packet->block : packet->frame;
     size_t len = packet->block ? packet->block_len : packet->header.caplen;
-    if (!take_room(keeper, sizeof(struct kept) + len)) return NULL;
+    if (!ask_for_memory(keeper->account, sizeof(struct kept) + len)) return NULL;
     struct kept *kept = malloc(sizeof *kept + len);
     if (!kept) {
-        keeper->used -= sizeof *kept + len;
+        give_memory_back(keeper->account, sizeof *kept + len);
         return NULL;
     }
     uint8_t *copy = memcpy(kept + 1, bytes, len);
@@ -100,7 +92,7 @@ void free_kept(struct keeper *keeper, struct kept *list)
     while (list) {
         struct kept *next = list->next;
         leave_section(keeper, list->section);
-        keeper->used -= list->len;
+        give_memory_back(keeper->account, list->len);
         free(list);
         list = next;
     }

@@ -6,10 +6,8 @@
 #include <stddef.h>
 #include <stdint.h>
 
+#include "budget.h"
 #include "capture.h"
-
-/* How many bytes the fragments and the sections of a capture have at most. */
-enum { MOST_KEPT = 256 << 20 };
 
 /* The section header and the interfaces of a section. */
 struct section {
@@ -28,11 +26,11 @@ struct kept {
     struct packet packet;    /* with a frame and a block of its own, after this struct */
 };
 
-/* What all fragments of a capture have in common. All zeros are one for a classic file. */
+/* What all fragments of a capture have in common. All but the account are zeros at first. */
 struct keeper {
     bool has_sections;
     struct section *section; /* the one that is read, or null if memory ran out */
-    size_t used;             /* number of bytes of all fragments and sections */
+    struct account *account; /* from which the memory for fragments and sections is taken */
 };
 
 /* Notes a block that is no packet and that was read. All of them have to be noted, in their order. */

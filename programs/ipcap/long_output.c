@@ -1,6 +1,5 @@
 #include "long_output.h"
 
-#include <errno.h>
 #include <string.h>
 
 #include "blocks.h"
@@ -26,22 +25,17 @@ static bool copy_long_block(struct capture *capture, const uint8_t *block, size_
     return copy_block(capture, block, len);
 }
 
-/* Begins a classic file with the link layer and the timestamp precision of the capture. */
+/* Begins a classic file, or with numbers a pcapng file, with the link layer and the timestamp precision of the capture. */
 static bool begin_long_classic(struct output *output, struct capture *capture, FILE *file)
 {
     int precision = has_nanoseconds(capture) ? PCAP_TSTAMP_PRECISION_NANO : PCAP_TSTAMP_PRECISION_MICRO;
     int snap_len = pcap_snapshot(capture->handle) > MOST_SNAP_LEN ? pcap_snapshot(capture->handle) : MOST_SNAP_LEN;
     pcap_t *handle = pcap_open_dead_with_tstamp_precision(capture->link_type, snap_len, (u_int)precision);
-    errno = 0;
-    output->dumper = handle ? pcap_dump_fopen(handle, file) : NULL;
-    output->file = output->dumper ? file : NULL;
-    if (!output->dumper) {
-        output->system_error = errno;
-        snprintf(output->error, sizeof output->error, "%s", handle ? pcap_geterr(handle) : "out of memory");
-    }
+    bool is_begun = handle && begin_like_handle(output, handle, file);
+    if (!handle) snprintf(output->error, sizeof output->error, "out of memory");
     if (!handle && file != stdout) fclose(file);
     if (handle) pcap_close(handle);
-    return output->dumper && (!capture->is_live || flush_output(output));
+    return is_begun && (!capture->is_live || flush_output(output));
 }
 
 bool begin_long_output(struct output *output, struct capture *capture, FILE *file)

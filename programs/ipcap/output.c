@@ -23,9 +23,22 @@ bool flush_output(struct output *output)
     return fflush(output->file) == 0 && !ferror(output->file) ? true : fail(output, "write failed");
 }
 
-/* Writes the head of a classic file in the form of `handle`. If that fails, libpcap has closed the file. */
-static bool begin_classic(struct output *output, pcap_t *handle, FILE *file)
+/* Writes the head of a pcapng file in the form of `handle`. */
+static bool begin_numbered(struct output *output, pcap_t *handle, FILE *file)
 {
+    uint8_t head[NUMBERED_HEAD];
+    int snap_len = pcap_snapshot(handle);
+    output->file = file;
+    output->is_fine = pcap_get_tstamp_precision(handle) == PCAP_TSTAMP_PRECISION_NANO;
+    size_t len = write_numbered_head(head, pcap_datalink(handle), snap_len > 0 ? (uint32_t)snap_len : 0, output->is_fine);
+    errno = 0;
+    return fwrite(head, 1, len, file) == len || flush_output(output);
+}
+
+/* Writes the head of a classic file. If that fails, libpcap has closed the file. */
+bool begin_like_handle(struct output *output, pcap_t *handle, FILE *file)
+{
+    if (output->has_numbers) return begin_numbered(output, handle, file);
     errno = 0;
     output->dumper = pcap_dump_fopen(handle, file);
     output->file = output->dumper ? file : NULL;
@@ -41,7 +54,7 @@ bool begin_joint_output(struct output *output, int link_type, FILE *file)
         return fail(output, "out of memory");
     }
     output->is_joint = true;
-    bool is_begun = begin_classic(output, handle, file);
+    bool is_begun = begin_like_handle(output, handle, file);
     pcap_close(handle);
     return is_begun;
 }
@@ -79,14 +92,34 @@ bool begin_empty_output(struct output *output, FILE *file)
 bool begin_output(struct output *output, struct capture *capture, FILE *file)
 {
     pcap_t *handle = capture->handle;
-    bool is_begun = handle ? begin_classic(output, handle, file) : begin_blocks(output, capture, file);
+    bool is_begun = handle ? begin_like_handle(output, handle, file) : begin_blocks(output, capture, file);
     return is_begun && (!capture->is_live || flush_output(output));
+}
+
+/* Writes a packet with its number. */
+static void write_numbered(struct output *output, const struct capture *capture, const struct packet *packet)
+{
+    struct numbered *numbered = &output->numbered;
+    bool is_numbered = true;
+    bool is_copied = packet->block && !output->is_joint;
+    bool is_made = is_copied ? copy_numbered(numbered, capture, packet, &is_numbered)
+                             : make_numbered(numbered, capture, packet, output->is_fine);
+    errno = 0;
+    if (!is_made)
+        fail(output, "out of memory");
+    else
+        write_blocks(output, capture, numbered->block, numbered->len);
+    if (!is_numbered && output->unnumbered == 0) output->unnumbered = capture->number;
 }
 
 void write_packet(struct output *output, const struct capture *capture, const struct packet *packet)
 {
     struct pcap_pkthdr header = packet->header;
     output->written++;
+    if (output->has_numbers) {
+        write_numbered(output, capture, packet);
+        return;
+    }
     if (!output->dumper) {
         write_blocks(output, capture, packet->block, packet->block_len);
         return;
@@ -99,6 +132,7 @@ void write_packet(struct output *output, const struct capture *capture, const st
 
 void end_output(struct output *output)
 {
+    end_numbered(&output->numbered);
     if (output->dumper)
         pcap_dump_close(output->dumper);
     else if (output->file && output->file != stdout)

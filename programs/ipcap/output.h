@@ -9,16 +9,21 @@
 #include <stdio.h>
 
 #include "capture.h"
+#include "numbered.h"
 #include "wolfaren.h"
 
 /* The snap length of an output for several files: libpcap's greatest one for the link layers that are supported. */
 enum { MOST_SNAP_LEN = 262144 };
 
-/* A capture that is written. All zeros are one that isn't begun. */
+/* A capture that is written. All zeros are one that isn't begun. `has_numbers` is set before that. */
 struct output {
     FILE *file;            /* null until the output is begun */
     pcap_dumper_t *dumper; /* writes to `file`, or null for a pcapng file */
     bool is_joint;         /* it is for several files, so its timestamps are in nanoseconds */
+    bool has_numbers;      /* it is a pcapng file, in which each packet has its number in a comment */
+    bool is_fine;          /* with numbers, whether its timestamps are in nanoseconds */
+    struct numbered numbered;
+    uint64_t unnumbered;   /* the first packet whose block would be too long with its number, or 0 */
     uint64_t written;      /* number of packets */
     char error[CAPTURE_ERROR_ROOM]; /* why writing failed, otherwise empty */
     int system_error;               /* the `errno` of that if the system refused it, otherwise 0 */
@@ -26,7 +31,7 @@ struct output {
 
 /*
  * Begins an output in the format of an open capture. Of a classic file, it has the link layer, the snap length and the
- * timestamp precision. Of a pcapng file, it has the blocks before the first packet, and later ones that aren't packets
+ * timestamp precision, with numbers in a pcapng file. Of a pcapng file, it has the blocks before the first packet, and later ones that aren't packets
  * are copied while the capture is read. On failure, sets `error` and returns false. The file is then closed, here or by
  * `end_output`, unless it is standard output.
  */
@@ -37,6 +42,12 @@ bool begin_output(struct output *output, struct capture *capture, FILE *file);
  * type is one of libpcap's DLT_ values. Errors are as for `begin_output`.
  */
 bool begin_joint_output(struct output *output, int link_type, FILE *file);
+
+/*
+ * Begins a classic file with the link layer, the snap length and the timestamp precision of a handle, or with numbers a pcapng
+ * file. Errors are as for `begin_output`.
+ */
+bool begin_like_handle(struct output *output, pcap_t *handle, FILE *file);
 
 /* Begins a pcapng file without interfaces, which has no packets. Errors are as for `begin_output`. */
 bool begin_empty_output(struct output *output, FILE *file);

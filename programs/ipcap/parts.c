@@ -46,6 +46,20 @@ bool is_fragment(const struct parts *parts)
     return parts->packet.fragment != WOLFAREN_NOT_FRAGMENTED && parts->packet.fragment != WOLFAREN_ATOMIC_FRAGMENT;
 }
 
+const struct wolfaren_header *fragment_header(const struct parts *parts)
+{
+    enum { FIELDS_AT = 2, NOT_ATOMIC = 0xfff9 };
+    const struct wolfaren_header *atomic = NULL;
+    for (size_t i = 0; i < parts->packet.headers; i++) {
+        const struct wolfaren_header *header = &parts->headers[i];
+        const uint8_t *fields = parts->bytes + header->offset + FIELDS_AT;
+        if (header->number != WOLFAREN_FRAGMENT) continue;
+        if ((fields[0] << 8 | fields[1]) & NOT_ATOMIC) return header;
+        if (!atomic) atomic = header;
+    }
+    return atomic;
+}
+
 size_t fault_offset(const struct parts *parts)
 {
     const struct wolfaren_fault *fault = &parts->packet.fault;

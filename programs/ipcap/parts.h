@@ -39,6 +39,12 @@ bool has_fault(const struct parts *parts);
 /* Whether the payload is a fragment. A fragment header that leaves the payload whole doesn't make it one. */
 bool is_fragment(const struct parts *parts);
 
+/*
+ * Returns the fragment header of an IPv6 packet that makes the payload a fragment, or else that of an atomic fragment, or null
+ * if there is none.
+ */
+const struct wolfaren_header *fragment_header(const struct parts *parts);
+
 /* Returns where the faulty or truncated header begins, or the packet that has the error. */
 size_t fault_offset(const struct parts *parts);
 

@@ -142,6 +142,29 @@ static bool read_length(struct pcapng *pcapng)
                 MOST_BLOCK);
 }
 
+/* The link types in files that differ from libpcap's DLT_ values. They are the same on each system. */
+static const struct {
+    unsigned number;
+    int link_type;
+} link_types[] = {{100, DLT_ATM_RFC1483}, {101, DLT_RAW}, {102, DLT_SLIP_BSDOS}, {103, DLT_PPP_BSDOS}};
+
+enum { LINK_TYPES = sizeof link_types / sizeof *link_types };
+
+/* Returns libpcap's DLT_ value for a link type in a file. */
+static int link_type_of(unsigned number)
+{
+    for (size_t i = 0; i < LINK_TYPES; i++)
+        if (link_types[i].number == number) return link_types[i].link_type;
+    return (int)number;
+}
+
+unsigned file_link_type(int link_type)
+{
+    for (size_t i = 0; i < LINK_TYPES; i++)
+        if (link_types[i].link_type == link_type) return link_types[i].number;
+    return (unsigned)link_type;
+}
+
 /* Reads a resolution: a power of 10, or of 2 if the first bit is set. */
 static bool read_resolution(struct pcapng *pcapng, uint8_t resolution, struct interface *interface)
 {
@@ -193,18 +216,6 @@ static bool read_section(struct pcapng *pcapng)
     pcapng->interface_count = 0;
     memset(pcapng->block + SECTION_LENGTH_AT, 0xff, 8);
     return read_options(pcapng, "section header", SECTION_OPTIONS_AT, NULL);
-}
-
-/* Returns libpcap's DLT_ value for a link type in a file. Those that differ are the same on each system. */
-static int link_type_of(unsigned number)
-{
-    static const struct {
-        unsigned number;
-        int link_type;
-    } types[] = {{100, DLT_ATM_RFC1483}, {101, DLT_RAW}, {102, DLT_SLIP_BSDOS}, {103, DLT_PPP_BSDOS}};
-    for (size_t i = 0; i < sizeof types / sizeof *types; i++)
-        if (types[i].number == number) return types[i].link_type;
-    return (int)number;
 }
 
 static bool make_interface_room(struct pcapng *pcapng)

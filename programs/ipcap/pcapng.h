@@ -59,6 +59,9 @@ struct block_packet {
     struct timespec time;
 };
 
+/* Returns the link type in files for one of libpcap's DLT_ values. */
+unsigned file_link_type(int link_type);
+
 /* Whether these are the first four bytes of a pcapng file. */
 bool is_pcapng_magic(const uint8_t bytes[4]);
 

@@ -66,7 +66,7 @@ static void put_dissection(struct writer *writer, const struct parts *parts)
 }
 
 void put_object(struct writer *writer, const struct capture *capture, const struct packet *packet,
-                const struct parts *parts)
+                const struct parts *parts, const struct path *path)
 {
     put_member(writer, "{\"packet\":", capture->number);
     if (packet->has_time) {
@@ -84,16 +84,18 @@ void put_object(struct writer *writer, const struct capture *capture, const stru
         }
         put_dissection(writer, parts);
     }
+    if (path) put_member(writer, ",\"tunnels\":", path->tunnels);
     put_text(writer, "}\n");
 }
 
-void put_names(struct writer *writer)
+void put_names(struct writer *writer, bool has_tunnels)
 {
     put_text(writer,
              "packet,time,frame_len,captured_len,ip_offset,src,dst,version,base_len,stated_len,headers,payload_number,"
              "payload_offset,payload_len,missing,padding,fragment,identification,fragment_offset,end,"
              "fault_required_len,fault_len,fault_offset,fault_kind,fault_header,fault_layer,fault_len_source,"
-             "fault_value\n");
+             "fault_value");
+    put_text(writer, has_tunnels ? ",tunnels\n" : "\n");
 }
 
 /* Writes a value that isn't the first one of its row. */
@@ -129,12 +131,19 @@ static void put_values(struct writer *writer, const struct parts *parts)
     for (size_t i = 0; i < sizeof after / sizeof *after; i++) put_value(writer, after[i]);
 }
 
+/* Ends a row, with the number of the tunnels if they are followed. */
+static void end_row(struct writer *writer, const struct path *path)
+{
+    if (path) put_value(writer, path->tunnels);
+    put_byte(writer, '\n');
+}
+
 /* Commas before the values that a frame without an IP packet doesn't have, and before the addresses alone. */
 #define NO_PACKET ",,,,,,,,,,,,,,,,,,,,,,,,"
 #define NO_ADDRESSES ",,"
 
 void put_row(struct writer *writer, const struct capture *capture, const struct packet *packet,
-             const struct parts *parts)
+             const struct parts *parts, const struct path *path)
 {
     put_number(writer, capture->number);
     put_byte(writer, ',');
@@ -142,7 +151,8 @@ void put_row(struct writer *writer, const struct capture *capture, const struct 
     put_value(writer, frame_len(packet));
     put_value(writer, packet->header.caplen);
     if (!packet->is_ip) {
-        put_text(writer, NO_PACKET "\n");
+        put_text(writer, NO_PACKET);
+        end_row(writer, path);
         return;
     }
     put_value(writer, packet->ip_offset);
@@ -155,5 +165,5 @@ void put_row(struct writer *writer, const struct capture *capture, const struct 
         put_address(writer, parts, true);
     }
     put_values(writer, parts);
-    put_byte(writer, '\n');
+    end_row(writer, path);
 }

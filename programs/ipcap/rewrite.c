@@ -12,12 +12,13 @@
 #include "rewriter.h"
 
 static const char usage[] =
-    "usage: ipcap rewrite [--without HEADER] [--clear] [--in-order] [--break-authentication] [-w OUTPUT] [FILE]\n"
+    "usage: ipcap rewrite [--without HEADER] [--clear] [--in-order] [--break-authentication] [--memory SIZE] [-w OUTPUT] [FILE]\n"
     "Writes the packets of FILE, or standard input, with changed extension headers. The first three options say how.\n"
     "  --without HEADER        leave out this header, such as `hop-by-hop` or 0; can be given several times\n"
     "  --clear                 set the reserved bits of fragment and authentication headers to zero\n"
     "  --in-order              put headers in the order that RFC 8200, section 4.1, recommends\n"
     "  --break-authentication  also change packets that keep an authentication header: its integrity check then fails\n"
+    "  --memory SIZE           use at most so much memory, such as 2G (default: 512M)\n"
     "  -w OUTPUT               write to this file instead of standard output\n"
     "  --help                  print this help\n"
     "  --version               print the version\n";
@@ -26,6 +27,7 @@ static const char usage[] =
 struct request {
     const char *output;
     uint64_t without;
+    uint64_t memory;
     bool clears;
     bool orders;
     bool breaks_authentication;
@@ -36,6 +38,7 @@ static const struct option_row options[] = {
     {"without", read_header_argument, offsetof(struct request, without), "an extension header, such as hop-by-hop or 0"},
     {"clear", set_flag, offsetof(struct request, clears), NULL},
     {"in-order", set_flag, offsetof(struct request, orders), NULL},
+    {"memory", read_memory_argument, offsetof(struct request, memory), MEMORY_WORDS},
     {"break-authentication", set_flag, offsetof(struct request, breaks_authentication), NULL},
 };
 
@@ -63,6 +66,7 @@ static bool rewrite_file(const struct request *request, const char *path)
         .orders = request->orders,
         .breaks_authentication = request->breaks_authentication,
     };
+    set_budget(request->memory, 0);
     if (!open_input(&input, path)) return false;
     if (!is_standard_stream(request->output)) allow_progress(&input);
     bool is_done = open_copy(&output, request->output, &input.capture, path, begin_output)
@@ -74,7 +78,7 @@ static bool rewrite_file(const struct request *request, const char *path)
 
 int run_rewrite(int count, char **arguments)
 {
-    struct request request = {0};
+    struct request request = {.memory = DEFAULT_MEMORY};
     int status = read_options(count, arguments, usage, options, sizeof options / sizeof *options, &request);
     if (status >= 0) return status;
     if (request.without == 0 && !request.clears && !request.orders)

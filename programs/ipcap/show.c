@@ -12,6 +12,7 @@
 #include "defragment.h"
 #include "drawing.h"
 #include "input.h"
+#include "matching.h"
 #include "options.h"
 #include "record.h"
 #include "report.h"
@@ -19,10 +20,13 @@
 #include "writer.h"
 
 static const char usage[] =
-    "usage: ipcap show [-c N] [--defrag] [--color=WHEN | --one-line | --json | --csv] [FILE]\n"
+    "usage: ipcap show [-c N] [--defrag] [--tunnels] [--memory SIZE] [--color=WHEN | --one-line | --json | --csv] [[COND] FILE]\n"
     "Draws each IP packet of FILE, or standard input, with its chain of extension headers.\n"
+    "  COND          draw only packets that meet a condition, as `ipcap filter` reads it\n"
     "  -c N          stop after N packets\n"
     "  --defrag      show whole packets in place of their fragments\n"
+    "  --memory SIZE use at most so much memory, such as 2G (default: 512M)\n"
+    "  --tunnels     also show the packets in tunnels, each after the one that carries it\n"
     "  --color=WHEN  use colours `always`, `never`, or `auto`: only on a terminal (default)\n"
     "  --one-line    print only the first line of each packet\n"
     "  --json        print each packet as a line with a JSON object\n"
@@ -52,54 +56,75 @@ static bool read_color(const char *when, void *place)
     return true;
 }
 
-/* Dissects the IP packet of a captured packet. If memory runs out, reports it and returns false. */
-static bool parse_captured(struct parts *parts, const struct packet *packet)
-{
-    size_t len = packet->header.caplen - packet->ip_offset;
-    if (parse_packet(parts, packet->frame + packet->ip_offset, len, NULL)) return true;
-    complain_of_memory();
-    return false;
-}
-
 /* The values of the options. */
 struct request {
     bool in_color;
     bool is_one_line;
     bool json;
     bool csv;
-    bool has_whole; /* whole packets are shown in place of their fragments */
-    uint64_t most;  /* how many packets are shown at most */
+    bool has_whole;   /* whole packets are shown in place of their fragments */
+    bool has_tunnels; /* packets in tunnels are shown, too */
+    uint64_t most;    /* how many packets are shown at most, besides those in tunnels */
+    uint64_t memory;
+    const char *path; /* the file to read, or null */
+    struct condition *condition; /* null if all packets are shown */
 };
 
 /* The state of showing a capture. */
 struct showing {
     const struct request *request;
     struct parts parts;
+    struct path path; /* that of the packet, in tunnels */
+    struct matcher matcher;
     struct writer writer;
-    uint64_t shown; /* number of packets that were written */
+    uint64_t shown; /* number of packets that were written, besides those in tunnels */
 };
 
-/* Writes a packet in the form that the options ask for. */
-static void put_packet(struct showing *showing, const struct capture *capture, const struct packet *packet)
+/* Writes a packet in the form that the options ask for. `frame` is the packet in no tunnel. */
+static void put_packet(struct showing *showing, const struct capture *capture, const struct packet *packet,
+                       const struct packet *frame)
 {
     const struct request *request = showing->request;
     struct writer *writer = &showing->writer;
     if (request->json || request->csv) {
-        (request->json ? put_object : put_row)(writer, capture, packet, &showing->parts);
+        struct packet in_frame = *packet;
+        in_frame.header = frame->header;
+        (request->json ? put_object : put_row)(writer, capture, &in_frame, &showing->parts,
+                                               request->has_tunnels ? &showing->path : NULL);
         return;
     }
-    if (showing->shown > 0 && !request->is_one_line) put_byte(writer, '\n');
-    put_title(writer, capture, packet, &showing->parts);
+    if ((showing->shown > 0 || showing->path.tunnels > 0) && !request->is_one_line) put_byte(writer, '\n');
+    put_title(writer, capture, packet, &showing->parts, &showing->path);
     if (packet->is_ip && !request->is_one_line) put_drawing(writer, &showing->parts, request->in_color);
 }
 
-/* Shows a packet. A live capture is shown as it arrives. Returns false if it can't be shown, and reports why. */
+/* Writes a packet and those in its tunnels, if these are asked for. If memory runs out, reports it and returns false. */
+static bool put_packets(struct showing *showing, const struct capture *capture, const struct packet *frame)
+{
+    struct packet packet = *frame;
+    struct inner inner;
+    begin_path(&showing->path);
+    for (;;) {
+        if (packet.is_ip && !parse_captured(&showing->parts, &packet)) return false;
+        put_packet(showing, capture, &packet, frame);
+        if (!showing->request->has_tunnels || !packet.is_ip || showing->path.tunnels == PATH_TUNNELS) return true;
+        if (!find_inner(&showing->parts, &inner)) return true;
+        extend_path(&showing->path, &showing->parts, inner.tunnel);
+        enter_tunnel(&packet, &inner);
+    }
+}
+
+/*
+ * Shows a packet, if it meets the condition. A live capture is shown as it arrives. Returns false if it can't be shown, and
+ * reports why.
+ */
 static bool show_packet(struct showing *showing, const struct capture *capture, const struct packet *packet)
 {
-    if (packet->is_left_out) return true;
-    if (packet->is_ip && !parse_captured(&showing->parts, packet)) return false;
+    bool is_met;
+    if (!decide(&showing->matcher, packet, &is_met)) return false;
+    if (!is_met) return true;
     errno = 0;
-    put_packet(showing, capture, packet);
+    if (!put_packets(showing, capture, packet)) return false;
     showing->shown++;
     if (capture->is_live) end_text(&showing->writer);
     return capture->is_live || ferror(stdout) ? finish_output() : true;
@@ -117,12 +142,16 @@ static bool finish_text(struct writer *writer)
 static bool show_packets(const struct request *request, struct capture *capture)
 {
     struct packet packet;
-    struct showing showing = {.request = request};
+    struct showing showing = {
+        .request = request,
+        .matcher = {.condition = request->condition, .has_tunnels = request->condition && request->has_tunnels},
+    };
     bool is_shown = true;
-    if (request->csv) put_names(&showing.writer);
+    if (request->csv) put_names(&showing.writer, request->has_tunnels);
     while (is_shown && showing.shown < request->most && read_packet(capture, &packet))
         is_shown = show_packet(&showing, capture, &packet);
     free_parts(&showing.parts);
+    end_matcher(&showing.matcher);
     bool is_written = ferror(stdout) || finish_text(&showing.writer);
     return is_shown && is_written;
 }
@@ -130,7 +159,7 @@ static bool show_packets(const struct request *request, struct capture *capture)
 /* Shows the packets of an open capture, with whole packets in place of their fragments. */
 static bool show_whole_packets(const struct request *request, struct capture *capture)
 {
-    struct defragmenter *defragmenter = begin_defragmenter(DEFAULT_SLOTS, false);
+    struct defragmenter *defragmenter = begin_defragmenter(account_of(capture), slots_within(request->memory), false);
     if (!defragmenter) {
         complain_of_memory();
         return false;
@@ -143,10 +172,11 @@ static bool show_whole_packets(const struct request *request, struct capture *ca
     return is_shown;
 }
 
-static bool show_capture(const struct request *request, const char *path)
+static bool show_capture(const struct request *request)
 {
     struct input input;
-    if (!open_input(&input, path)) return false;
+    set_budget(request->memory, request->has_whole ? memory_of_slots(slots_within(request->memory), false) : 0);
+    if (!open_input(&input, request->path)) return false;
     bool is_shown = (request->has_whole ? show_whole_packets : show_packets)(request, &input.capture);
     bool is_read = close_input(&input);
     return is_shown && is_read;
@@ -159,23 +189,39 @@ static const struct option_row options[] = {
     {"json", set_flag, offsetof(struct request, json), NULL},
     {"csv", set_flag, offsetof(struct request, csv), NULL},
     {"defrag", set_flag, offsetof(struct request, has_whole), NULL},
+    {"memory", read_memory_argument, offsetof(struct request, memory), MEMORY_WORDS},
+    {"tunnels", set_flag, offsetof(struct request, has_tunnels), NULL},
 };
 
-/* Refuses several operands. They are likely a condition and a file, as for `ipcap filter`, if the first one is no file. */
-static int refuse_files(int count, char *const *operands)
+/* Whether a path is that of a file, or stands for standard input. */
+static bool is_file(const char *path)
 {
-    const char *file = operands[count - 1];
-    if (access(operands[0], F_OK) == 0) return refuse_usage("ipcap show", "show reads a single file");
-    return refuse_usage("ipcap show", "show takes a single file and no condition: use `ipcap filter COND %s | ipcap show`", file);
+    return is_standard_stream(path) || access(path, F_OK) == 0;
+}
+
+/* Reads the operands: the file, which is the last one, and before it the condition. Returns -1, or the exit status on an error. */
+static int read_operands(struct request *request, struct condition *condition, int count, char *const *operands)
+{
+    int taken;
+    if (count == 0) return -1;
+    request->path = operands[count - 1];
+    if (!is_file(request->path) && is_condition(count, operands))
+        return refuse_usage("ipcap show", "after a condition, show needs a file, or `-` for standard input");
+    if (count == 1) return -1;
+    if (is_file(operands[0]) && !is_condition(count - 1, operands)) return refuse_usage("ipcap show", "show reads a single file");
+    request->condition = condition;
+    return read_condition(condition, count - 1, operands, true, &taken);
 }
 
 int run_show(int count, char **arguments)
 {
-    struct request request = {.in_color = is_color_terminal(), .most = UINT64_MAX};
+    struct condition condition;
+    struct request request = {.in_color = is_color_terminal(), .most = UINT64_MAX, .memory = DEFAULT_MEMORY};
     int status = read_options(count, arguments, usage, options, sizeof options / sizeof *options, &request);
     if (status >= 0) return status;
-    if (count - optind > 1) return refuse_files(count - optind, arguments + optind);
     if (request.json + request.csv + request.is_one_line > 1)
         return refuse_usage("ipcap show", "--one-line, --json and --csv exclude each other");
-    return show_capture(&request, optind < count ? arguments[optind] : NULL) ? STATUS_DONE : STATUS_FAILED;
+    status = read_operands(&request, &condition, count - optind, arguments + optind);
+    if (status >= 0) return status;
+    return show_capture(&request) ? STATUS_DONE : STATUS_FAILED;
 }

@@ -155,7 +155,7 @@ bool is_live(const struct source *source)
 }
 
 /* Determines whether the file is compressed, and makes the decoder. Returns false on failure. */
-static bool begin(struct source *source)
+static bool begin(struct source *source, const struct memory_source *memory)
 {
     while (source->end < COMPRESSION_MAGIC && !source->is_ended)
         if (!fill(source)) return false;
@@ -166,7 +166,7 @@ static bool begin(struct source *source)
              source->compression->library);
         return false;
     }
-    source->decoder = source->compression->begin();
+    source->decoder = source->compression->begin(memory);
     if (!source->decoder) fail(source, "out of memory");
     return source->decoder;
 }
@@ -203,7 +203,7 @@ static int open_file(const char *path)
     return descriptor;
 }
 
-FILE *open_source(struct source *source, const char *path)
+FILE *open_source(struct source *source, const char *path, const struct memory_source *memory)
 {
     *source = (struct source){.descriptor = STDIN_FILENO};
     if (!is_standard_stream(path)) source->descriptor = open_file(path);
@@ -211,7 +211,7 @@ FILE *open_source(struct source *source, const char *path)
         fail_as_system(source);
         return NULL;
     }
-    FILE *stream = begin(source) ? open_stream(source) : NULL;
+    FILE *stream = begin(source, memory) ? open_stream(source) : NULL;
     if (!stream && !*source->error) fail(source, "out of memory");
     if (!stream) close_source(source);
     return stream;

@@ -41,10 +41,11 @@ bool is_standard_stream(const char *path);
 
 /*
  * Opens a file or standard input. Returns a stream of its bytes, decompressed if the first ones are those of a known
- * format. Closing the stream also closes the file. The stream has each byte as soon as it has arrived. On failure, sets
- * `error` and returns null. If reading from the stream fails later, `error` says why.
+ * format. Closing the stream also closes the file. The stream has each byte as soon as it has arrived. Decompression asks
+ * `memory`, or takes what it needs if that is null. On failure, sets `error` and returns null. If reading from the stream fails
+ * later, `error` says why.
  */
-FILE *open_source(struct source *source, const char *path);
+FILE *open_source(struct source *source, const char *path, const struct memory_source *memory);
 
 /* Returns how many bytes of the file were read for the stream. */
 uint64_t source_position(const struct source *source, FILE *stream);

@@ -18,16 +18,17 @@
 #include "report.h"
 
 static const char stat_usage[] =
-    "usage: ipcap stat [-j N] [--defrag] [--json] [--per-file] [--top N] [--tunnels] [FILE..]\n"
+    "usage: ipcap stat [-j N] [--defrag] [--json] [--memory SIZE] [--per-file] [--top N] [--tunnels] [FILE..]\n"
     "Counts the packets of each FILE, or standard input, by their IP extension headers.\n"
-    "  -j N        count at most N files side by side; without it, as many as there are processors\n"
-    "  --defrag    count whole packets in place of their fragments\n"
-    "  --json      print a JSON object of counts, which `ipcap sum` reads, instead of tables\n"
-    "  --per-file  print the counts of each file, with its name, instead of their sum\n"
-    "  --top N     print at most N rows of each table, and the sum of the others; JSON has all rows\n"
-    "  --tunnels   also count the packets in tunnels: IP in IP, GRE, GTP-U, VXLAN and Geneve\n"
-    "  --help      print this help\n"
-    "  --version   print the version\n";
+    "  -j N           count at most N files side by side; without it, as many as there are processors\n"
+    "  --defrag       count whole packets in place of their fragments\n"
+    "  --json         print a JSON object of counts, which `ipcap sum` reads, instead of tables\n"
+    "  --memory SIZE  use at most so much memory, such as 2G (default: 512M)\n"
+    "  --per-file     print the counts of each file, with its name, instead of their sum\n"
+    "  --top N        print at most N rows of each table, and the sum of the others; JSON has all rows\n"
+    "  --tunnels      also count the packets in tunnels: IP in IP, GRE, GTP-U, VXLAN and Geneve\n"
+    "  --help         print this help\n"
+    "  --version      print the version\n";
 
 static const char sum_usage[] =
     "usage: ipcap sum [--json] [--top N]\n"
@@ -45,6 +46,7 @@ struct request {
     bool has_whole; /* whole packets are counted in place of their fragments */
     uint64_t top;
     uint64_t jobs; /* 0 if not given */
+    uint64_t memory;
 };
 
 static const struct option_row options[] = {
@@ -55,9 +57,10 @@ static const struct option_row options[] = {
     {"tunnels", set_flag, offsetof(struct request, has_tunnels), NULL},
     {"j", read_count_argument, offsetof(struct request, jobs), "a number above 0"},
     {"defrag", set_flag, offsetof(struct request, has_whole), NULL},
+    {"memory", read_memory_argument, offsetof(struct request, memory), MEMORY_WORDS},
 };
 
-enum { STAT_OPTIONS = sizeof options / sizeof *options, SUM_OPTIONS = STAT_OPTIONS - 4 };
+enum { STAT_OPTIONS = sizeof options / sizeof *options, SUM_OPTIONS = STAT_OPTIONS - 5 };
 
 /* Writes statistics, with the name of their file unless it is null. Returns false if writing fails. */
 static bool write_counts(const struct request *request, struct counts *counts, const char *file)
@@ -118,7 +121,8 @@ static size_t choose_jobs(const struct request *request, const char *const *path
 static bool run_request(const struct request *request, const char *const *paths, size_t count)
 {
     struct summary summary = {.request = request, .is_done = true};
-    struct files files = {paths, count, request->has_tunnels, request->has_whole};
+    struct files files = {paths, count, request->has_tunnels, request->has_whole, slots_within(request->memory)};
+    set_budget(request->memory, request->has_whole ? memory_of_slots(files.slots, false) : 0);
     init_counts(&summary.total, request->has_tunnels);
     size_t jobs = choose_jobs(request, paths, count);
     count_files(&files, jobs, request->is_per_file ? write_file : add_file, &summary);
@@ -130,7 +134,7 @@ static bool run_request(const struct request *request, const char *const *paths,
 int run_stat(int count, char **arguments)
 {
     static const char *const standard_input[] = {"-"};
-    struct request request = {0};
+    struct request request = {.memory = DEFAULT_MEMORY};
     int status = read_options(count, arguments, stat_usage, options, STAT_OPTIONS, &request);
     if (status >= 0) return status;
     bool is_standard = optind == count;

@@ -4,6 +4,7 @@
 
 #include "address.h"
 #include "chain_key.h"
+#include "details.h"
 
 /* The year from which those of `struct tm` count. */
 enum { EPOCH = 1900 };
@@ -63,8 +64,10 @@ static void put_addresses(struct writer *writer, const struct parts *parts)
 {
     put_text(writer, ", ");
     put_address(writer, parts, false);
+    put_port(writer, parts, false);
     put_text(writer, " > ");
     put_address(writer, parts, true);
+    put_port(writer, parts, true);
 }
 
 /* Writes the chain of a packet that has more headers than a key. */
@@ -76,14 +79,13 @@ static void put_long_chain(struct writer *writer, const struct parts *parts)
     put_number(writer, parts->packet.payload_number);
 }
 
-static void put_chain(struct writer *writer, const struct parts *parts)
+static void put_chain(struct writer *writer, const struct parts *parts, const struct path *path)
 {
-    static const struct path no_tunnel;
     struct key key;
     char text[CHAIN_TEXT_ROOM];
     if (parts->packet.version == 0) {
         put_text(writer, "unread base header");
-    } else if (chain_key(&no_tunnel, parts, &key)) {
+    } else if (chain_key(path, parts, &key)) {
         write_chain(&key, text);
         put_text(writer, text);
     } else {
@@ -91,37 +93,44 @@ static void put_chain(struct writer *writer, const struct parts *parts)
     }
 }
 
-/* Writes how many bytes the frame has, and of a truncated one before that how many are there. */
-static void put_lengths(struct writer *writer, const struct packet *packet)
+/*
+ * Writes how many bytes the frame has, and of a truncated one before that how many are there. In a tunnel, writes how many bytes
+ * the tunnel carries.
+ */
+static void put_lengths(struct writer *writer, const struct packet *packet, bool is_inner)
 {
     put_text(writer, ", ");
-    if (packet->is_short) {
+    if (packet->is_short && !is_inner) {
         put_number(writer, packet->header.caplen);
         put_text(writer, " of ");
     }
-    put_number(writer, frame_len(packet));
+    put_number(writer, is_inner ? packet->header.caplen - packet->ip_offset : frame_len(packet));
     put_text(writer, " bytes");
 }
 
 void put_title(struct writer *writer, const struct capture *capture, const struct packet *packet,
-               const struct parts *parts)
+               const struct parts *parts, const struct path *path)
 {
     put_text(writer, "packet ");
     put_number(writer, capture->number);
+    if (path->tunnels > 0) put_text(writer, ", tunnel ");
+    if (path->tunnels > 0) put_number(writer, path->tunnels);
     put_text(writer, ": ");
     if (packet->has_time)
         put_time(writer, capture, packet);
     else
         put_text(writer, "no time");
     if (packet->is_ip && parts->packet.version != 0) put_addresses(writer, parts);
-    put_lengths(writer, packet);
+    put_lengths(writer, packet, path->tunnels > 0);
     if (packet->is_ip) {
         put_text(writer, ", IP at ");
         put_number(writer, packet->ip_offset);
         put_text(writer, ": ");
-        put_chain(writer, parts);
+        put_chain(writer, parts, path);
+        put_details(writer, parts);
     } else {
         put_text(writer, ", not IP");
+        put_protocol(writer, &packet->protocol);
     }
     put_byte(writer, '\n');
 }

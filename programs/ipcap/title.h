@@ -5,6 +5,7 @@
 #include <stdint.h>
 
 #include "capture.h"
+#include "chain_key.h"
 #include "parts.h"
 #include "writer.h"
 
@@ -17,8 +18,11 @@ void put_time(struct writer *writer, const struct capture *capture, const struct
 /* Returns the length of a frame before the snap length truncated it. */
 uint32_t frame_len(const struct packet *packet);
 
-/* Writes a line with the number, the time, the addresses, the lengths and the chain of a packet. */
+/*
+ * Writes a line with the number, the time, the addresses, the lengths, the chain and the details of a packet, or of one in its
+ * tunnels, whose path it then has.
+ */
 void put_title(struct writer *writer, const struct capture *capture, const struct packet *packet,
-               const struct parts *parts);
+               const struct parts *parts, const struct path *path);
 
 #endif

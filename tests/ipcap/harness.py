@@ -9,24 +9,16 @@ import sys
 import tempfile
 
 
+# Runs a command in a process of its own, since a process has at least the peak memory of the one that started it, and prints
+# its peak memory in kilobytes to standard error.
+MEASURE = """import resource, subprocess, sys
+status = subprocess.call(sys.argv[1:])
+sys.stderr.write("peak %d\\n" % resource.getrusage(resource.RUSAGE_CHILDREN).ru_maxrss)
+sys.exit(status)"""
+
+
 class Failure(Exception):
     pass
-
-
-# A process starts with the peak memory of the one that started it, so a small one starts the command.
-MEASURE = """import os, subprocess, sys
-process = subprocess.Popen(sys.argv[1:], stdout=subprocess.DEVNULL)
-_, status, usage = os.wait4(process.pid, 0)
-print(os.waitstatus_to_exitcode(status), usage.ru_maxrss)
-"""
-
-
-def memory_used(command):
-    """Runs a command, and drops its standard output. Returns its status, its peak memory in kilobytes, and its standard
-    error."""
-    found = subprocess.run([sys.executable, "-I", "-S", "-c", MEASURE, *command], stdout=subprocess.PIPE, stderr=subprocess.PIPE, check=True)
-    status, peak = found.stdout.split()
-    return int(status), int(peak), found.stderr.decode()
 
 
 class Harness:
@@ -39,7 +31,7 @@ class Harness:
         self.passed = 0
         self.files = itertools.count()
         self.pending = []
-        self.pool = concurrent.futures.ThreadPoolExecutor(os.cpu_count() or 1)
+        self.pool = concurrent.futures.ThreadPoolExecutor(len(os.sched_getaffinity(0)))
         self.environment = dict(os.environ, ASAN_OPTIONS="exitcode=98", UBSAN_OPTIONS="halt_on_error=1:exitcode=98")
         self.environment.pop("NO_COLOR", None)
 
@@ -89,6 +81,13 @@ class Harness:
         self.equal(sanitized.result(), answer, "different result with sanitizers of", arguments)
         self.pending.append((checked, answer, arguments))
         return answer
+
+    def measure(self, *arguments, output=None, timeout=300):
+        """Runs the plain build. Returns its status, output and messages, and its peak memory in bytes."""
+        command = [sys.executable, "-S", "-E", "-c", MEASURE, *self.plain, *arguments]
+        found = subprocess.run(command, stdout=output or subprocess.PIPE, stderr=subprocess.PIPE, env=self.environment, timeout=timeout)
+        errors, _, peak = found.stderr.decode().rpartition("peak ")
+        return found.returncode, found.stdout, errors, int(peak) << 10
 
     def settle(self):
         """Waits for the runs under valgrind, and compares their results with those of the plain build."""

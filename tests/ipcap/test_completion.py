@@ -43,6 +43,8 @@ def completions(harness):
                           (["show", "--color", "="], ["always", "never", "auto"]),
                           (["show", "--c"], ["--color=", "--csv"]), (["rewrite", "--without", "h"], ["hop-by-hop"]), (["filter", "-w", "a"], []), (["filter", "--since", "1"], []),
                           (["filter", "fragment", "an"], ["and"]), (["filter", "trunc"], ["truncated"]),
+                          (["show", "fragment", "an"], ["and"]), (["show", "/dev/nul"], ["/dev/null"]), (["show", "fault", "/dev/nul"], ["/dev/null"]),
+                          (["defrag", "--report", "a"], []), (["stat", "frag"], []),
                           (["filter", "header", "44", "and", "first"], ["first-fragment"])]:
         harness.equal(completed(harness, *words), wanted, words)
     rows = harness.run("filter", "--help-terms")[1].decode().partition("\n\n")[0].split("\n")[1:]

@@ -1,12 +1,15 @@
 """Tests of `ipcap defrag`. A plain, slow program makes packets whole in its own way."""
 
 import itertools
+import os
 import random
+import re
 import struct
 import subprocess
 
 from blocks import interface, obsolete, packet, section, simple
 from captures import *
+from test_use import refuse_each
 
 MORE = 0x2000
 FIRST_LINK, LINK = b"\2\0\0\0\0\1\2\0\0\0\0\7", b"\2\0\0\0\0\1\2\0\0\0\0\2"
@@ -464,3 +467,115 @@ def wrong_usage(harness):
     harness.equal(harness.run("defrag", "-w", "/nonexistent/x", path)[0], 1, "an output that can't be opened")
     harness.equal(harness.run("defrag", "/nonexistent/x")[0], 1, "an input that can't be opened")
     harness.equal(harness.run("defrag", path)[1][16:24], struct.pack("<II", 262144, ETHERNET), "an empty capture")
+
+
+def reported(harness, frames, *arguments, times=None, status=0):
+    """Runs `defrag --report` on frames. Returns the lines of the report, and checks that no other output depends on it."""
+    path = harness.file(timed(times or [1000 + i for i in range(len(frames))], frames))
+    found = harness.run("defrag", "--report", "{}", *arguments, path)
+    plain = harness.run("defrag", *arguments, path)
+    harness.equal(found[:3], plain[:3], "the output with a report")
+    harness.equal(found[0], status, "status", found[2])
+    return found[3].decode().splitlines()
+
+
+V4_KEY, V6_KEY = "192.0.2.1 > 192.0.2.2, protocol 17, id %d", "2001:db8::1 > 2001:db8::2, protocol 17, id 0x%08x"
+IN_TIME, NOT_WHOLE = "timed out: not whole after 60 seconds", "not whole at the end"
+
+
+def reports(harness):
+    """--report has a line for each packet that was given up or dropped: its fragments, its key, and why."""
+    data = payload(2, 64)
+    a, b, c = [(0, True, data[:24]), (3, True, data[24:48]), (6, False, data[48:])]
+    other = ethernet(ipv6_chain([0]))
+    for part, key in [(ipv4_part, V4_KEY), (ipv6_part, V6_KEY)]:
+        made = lambda number, *parts: [frame(part(number, *it)) for it in parts]
+        found = reported(harness, made(3, a, b) + [other] + made(4, a) + made(5, a, b, c) + made(4, c))
+        harness.equal(found, ["packets 1, 2: %s: %s" % (key % 3, NOT_WHOLE), "packets 4, 8: %s: %s" % (key % 4, NOT_WHOLE)], "at the end")
+        found = reported(harness, made(3, a, (1, True, data[8:24]), b, c) + made(4, b))
+        harness.equal(found, ["packets 1, 2, 3, 4: %s: refused: a fragment overlaps others" % (key % 3), "packet 5: %s: %s" % (key % 4, NOT_WHOLE)], "an overlap")
+        found = reported(harness, made(3, c, (9, True, data[:8]), a))
+        harness.equal(found, ["packets 1, 2, 3: %s: refused: a fragment contradicts the end of the packet" % (key % 3)], "two ends")
+        found = reported(harness, made(3, a, b, c, a), times=[1000, 1001, 1061, 1062])
+        harness.equal(found, ["packets 1, 2: %s: %s" % (key % 3, IN_TIME), "packets 3, 4: %s: %s" % (key % 3, NOT_WHOLE)], "a timeout")
+        found = reported(harness, made(1, a) + made(2, a) + made(3, a), "--slots", "2")
+        harness.equal(found, ["packet 1: %s: displaced: given up for another packet, since all slots were in use" % (key % 1),
+                              "packet 2: %s: %s" % (key % 2, NOT_WHOLE), "packet 3: %s: %s" % (key % 3, NOT_WHOLE)], "displaced")
+        found = reported(harness, made(3, (0, True, data[:20])) + made(4, a))
+        harness.equal(found, ["packet 1: %s: refused: its length isn't a positive multiple of 8, though more follow" % (key % 3),
+                              "packet 2: %s: %s" % (key % 4, NOT_WHOLE)], "a length")
+        harness.equal(reported(harness, made(3, a, b, c, a)), ["packet 4: %s: %s" % (key % 3, NOT_WHOLE)], "after a whole packet")
+        harness.equal(reported(harness, made(3, a, a, a)), ["packets 1, 2, 3: %s: %s" % (key % 3, NOT_WHOLE)], "repeated")
+        harness.equal(reported(harness, made(3, a, b, c) + [other]), [], "nothing lost")
+        found = reported(harness, made(3, a, *[b] * 3000), times=[1000] * 3001)
+        numbers = ", ".join(map(str, range(1, 1025)))
+        harness.equal(found, ["packets %s and 1977 more: %s: %s" % (numbers, key % 3, NOT_WHOLE)], "many")
+    for part, key, at in [(ipv4_part, V4_KEY, 8188), (ipv6_part, V6_KEY, 8190)]:
+        found = reported(harness, [frame(part(3, at, False, data[:8])), frame(part(3, at, False, data[:7]))])
+        harness.equal(found, ["packet 1: %s: refused: it makes its packet too long for its length field" % (key % 3), "packet 2: %s: %s" % (key % 3, NOT_WHOLE)], "too long")
+    faulty = frame(ipv6(44, fragment(60, 0, 1) + b"\x11\x04" + bytes(6)))
+    key = V6_KEY % 7
+    found = reported(harness, [faulty, frame(ipv6(44, fragment(17, 0, 1) + bytes(8), 0)), frame(ipv6(44, fragment(17, 0, 1) + bytes(8), 24)),
+                               frame(ipv6_chain([60] * 600 + [44], 17, bytes(8)).replace(fragment(17), fragment(17, 0, 1)))])
+    harness.equal(found, ["packet 1: %s: refused: its headers are truncated or faulty" % key.replace("protocol 17", "protocol 60"),
+                          "packet 2: %s: refused: it states no length" % key, "packet 3: %s: refused: bytes of it are missing" % key,
+                          "packet 4: %s: refused: it has more than 4,096 bytes of headers" % key], "refused by themselves")
+    marked = [bytearray(ipv4_part(3, *it)) for it in (a, b, c)]
+    marked[1][1] = 2
+    for one in marked:
+        one[10:12] = bytes(2)
+        one[10:12] = struct.pack(">H", checksum(bytes(one[:24])))
+    found = reported(harness, [frame(bytes(it)) for it in marked])
+    harness.equal(found, ["packets 1, 2, 3: %s: refused: some fragments are ECN-capable, others aren't" % (V4_KEY % 3)], "mixed ECN")
+    tags = LINK + struct.pack(">HH", 0x8100, 5) * 61
+    found = reported(harness, [tags + frame(ipv6_part(9, *it), b"") for it in pieces(data, [24])])
+    harness.equal(found, ["packets 1, 2: %s: refused: more than 256 bytes of link-layer headers" % (V6_KEY % 9)], "link-layer headers")
+    for seed in range(3):
+        content, wanted = random_capture(seed, 250)
+        path = harness.file(content)
+        found = harness.run("defrag", "--report", "{}", path)
+        lost = [int(it) for line in found[3].decode().splitlines() for it in line.partition(":")[0].split(" ", 1)[1].split(", ")]
+        harness.equal(len(lost), len(set(lost)), "no fragment is reported twice")
+        counts = [int(it) for it in re.findall(r": (\d+) fragments? ", found[2])]
+        harness.equal(len(lost), sum(counts), "as many as the messages say", seed, found[2])
+
+
+def files_of_reports(harness):
+    """A report goes to a file of its own, whatever fails."""
+    data = payload(2, 64)
+    frames = [frame(ipv6_part(number, 0, True, data)) for number in range(300)]
+    path = harness.file(capture(frames))
+    wanted = harness.run("defrag", "--report", "{}", path)
+    harness.equal(wanted[3].count(b"\n"), 300, "lines")
+    found = harness.run("defrag", "--report", "-", "-w", "{}", path)
+    harness.equal((found[0], found[1], found[3]), (0, wanted[3], wanted[1]), "standard output")
+    found = harness.run("defrag", "--report", "-", path)
+    harness.equal(found[:3], (2, b"", "ipcap: the capture and the report can't both be written to standard output: use -w; see `ipcap defrag --help`\n"), "both")
+    found = harness.run("defrag", "--report", path, path)
+    harness.equal(found[:3], (1, b"", "ipcap: %s: input and report are the same file\n" % path), "the input")
+    for command in [harness.plain, harness.sanitized, harness.checked]:
+        folder = harness.path("")
+        os.mkdir(folder)
+        for report, output in [("x", "x"), ("x", "./x"), ("./x", "x")]:
+            found = subprocess.run(command + ["defrag", "--report", report, "-w", output, path], cwd=folder, stderr=subprocess.PIPE, env=harness.environment)
+            words = "ipcap: %s: output and report are the same file\n" % report
+            harness.equal((found.returncode, found.stderr.decode()), (1, words), report, output)
+            if os.path.exists(os.path.join(folder, "x")):
+                os.remove(os.path.join(folder, "x"))
+        with open(os.path.join(folder, "out"), "wb") as output:
+            found = subprocess.run(command + ["defrag", "--report", "out", path], cwd=folder, stdout=output, stderr=subprocess.PIPE, env=harness.environment)
+        harness.equal((found.returncode, found.stderr), (1, b"ipcap: out: output and report are the same file\n"), "standard output")
+        with open(path, "ab") as output:
+            found = subprocess.run(command + ["defrag", "--report", "-", "-w", os.path.join(folder, "out"), path], cwd=folder, stdout=output, stderr=subprocess.PIPE,
+                                   env=harness.environment)
+        harness.equal((found.returncode, found.stderr), (1, b"ipcap: standard output: input and report are the same file\n"), "appended")
+    with open(path, "rb") as file:
+        harness.equal(file.read(), capture(frames), "the input")
+    for report in ("/dev/full", "/nonexistent/x"):
+        found = harness.run("defrag", "--report", report, path)
+        words = "No space left on device" if report == "/dev/full" else "No such file or directory"
+        harness.check(found[0] == 1 and found[2].endswith("ipcap: %s: %s\n" % (report, words)), found[2])
+        harness.equal(found[1], wanted[1] if report == "/dev/full" else b"", "the capture")
+    found = harness.run("defrag", "--report", "/nonexistent/\x1b[31m\u202ex", path)
+    harness.equal(found[2], "ipcap: /nonexistent/\\x1b[31m\\xe2\\x80\\xaex: No such file or directory\n", "hidden characters")
+    refuse_each(harness, ["defrag", "--report", os.devnull, harness.file(capture(frames[:6]))])

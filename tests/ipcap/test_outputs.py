@@ -12,7 +12,6 @@ import time
 
 from blocks import block, interface, option, packet, section, simple
 from captures import *
-from harness import memory_used
 from test_defrag import frame, ipv6_part, ipv6_whole, payload, pieces
 from test_use import refuse_each
 
@@ -163,7 +162,7 @@ def memory_for_kept(harness):
 
 
 def room_for_kept(harness):
-    """Fragments that are kept have at most 256 MiB. Those that would need more are counted, and the status says so."""
+    """Fragments that are kept have a bounded memory. Those that would need more are counted, and the status says so."""
     part = frame(ipv6_part(1, *pieces(payload(13, 60), [24, 16])[1]))
     for head, long_frame in [(section() + interface(), packet(part + bytes(1 << 20))), (file_header(snap_len=262144), record(part + bytes(200000)))]:
         count = (400 << 20) // len(long_frame)
@@ -172,8 +171,9 @@ def room_for_kept(harness):
             file.write(head)
             for _ in range(count):
                 file.write(long_frame)
-        status, peak, errors = memory_used(harness.plain + ["defrag", "--keep", path])
-        harness.check(status == 1 and peak < 300 << 10, "memory", peak, status)
+        with open(os.devnull, "wb") as output:
+            status, _, errors, peak = harness.measure("defrag", "--keep", path, output=output)
+        harness.check(status == 1 and peak < 300 << 20, "memory", peak, status)
         lost = re.search(r"(\d+) of these weren't kept: out of memory\n", errors)
         harness.check(lost and 0 < count - int(lost[1]) <= (256 << 20) // len(long_frame), "lost", errors, count)
 

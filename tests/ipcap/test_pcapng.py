@@ -103,7 +103,7 @@ def times(harness):
     shown = objects(harness, content=content)
     harness.equal(["time" in it for it in shown], [False, True], "a simple packet")
     lines = harness.run("show", "--one-line", content=content)[1]
-    harness.check(lines.startswith(b"packet 1: no time, 2001:db8::1 > "), lines)
+    harness.check(lines.startswith(b"packet 1: no time, 2001:db8::1.1000 > "), lines)
     harness.equal(harness.run("filter", ANY, content=content)[1], content, "without a range of time")
     head = section() + interface()
     for arguments in [["--since", "0"], ["--until", "9999-01-01T00:00:00Z"]]:

@@ -3,12 +3,15 @@
 import csv
 import json
 import random
+import re
 import socket
+import subprocess
 
+from blocks import interface, packet, section
 from captures import *
 from test_stat import random_frames
 
-DRAWN = """packet 1: 1970-01-01T00:16:40.000005Z, 2001:db8::1 > 2001:db8::2, 90 bytes, IP at 14: IPv6 0,43,44 -> 17
+DRAWN = """packet 1: 1970-01-01T00:16:40.000005Z, 2001:db8::1.1000 > 2001:db8::2.2000, 90 bytes, IP at 14: IPv6 0,43,44 -> 17, frag (0x00000007:0|12)
 0000  60 00 00 00 00 24 00 40 20 01 0d b8 00 00 00 00
       [-------------------- IPv6 --------------------
 0010  00 00 00 00 00 00 00 01 20 01 0d b8 00 00 00 00
@@ -20,9 +23,9 @@ DRAWN = """packet 1: 1970-01-01T00:16:40.000005Z, 2001:db8::1 > 2001:db8::2, 90 
 0040  03 e8 07 d0 00 0c 00 00 64 61 74 61
       [-------------- UDP --------------]
 
-packet 2: 1970-01-01T00:16:41.000006Z, 60 bytes, not IP
+packet 2: 1970-01-01T00:16:41.000006Z, 60 bytes, not IP, ethertype ARP (0x0806)
 
-packet 3: 1970-01-01T00:16:42.000007Z, 192.0.2.1 > 192.0.2.2, 46 bytes, IP at 18: IPv4 -> 17
+packet 3: 1970-01-01T00:16:42.000007Z, 192.0.2.1.1000 > 192.0.2.2.2000, 46 bytes, IP at 18: IPv4 -> 17
 0000  45 00 00 1c 00 01 00 00 40 11 f6 cc c0 00 02 01
       [-------------------- IPv4 --------------------
 0010  c0 00 02 02 03 e8 07 d0 00 0c 00 00
@@ -39,7 +42,7 @@ packet 4: 1970-01-01T00:16:40.000005Z, 2001:db8::1 > 2001:db8::2, 62 of 78 bytes
       ^ truncated: not enough bytes for the fragment header at offset 48: 8 needed, 0 there
       16 bytes missing
 
-packet 5: 1970-01-01T00:16:40.000005Z, 2001:db8::1 > 2001:db8::2, 70 bytes, IP at 14: IPv6 44 -> 60
+packet 5: 1970-01-01T00:16:40.000005Z, 2001:db8::1 > 2001:db8::2, 70 bytes, IP at 14: IPv6 44 -> 60, frag (0x00000007:1480|8)
 0000  60 00 00 00 00 10 2c 40 20 01 0d b8 00 00 00 00
       [-------------------- IPv6 --------------------
 0010  00 00 00 00 00 00 00 01 20 01 0d b8 00 00 00 00
@@ -245,13 +248,145 @@ def buffers(harness):
         harness.equal(harness.run("show", *form, content=content), whole, form)
 
 
+def numbers_of(text):
+    """The numbers of the packets in lines."""
+    return [int(line.split()[1].strip(",:")) for line in text.decode().splitlines() if line.startswith("packet ")]
+
+
 def conditions(harness):
-    """A condition is refused, with what can be done instead."""
+    """Packets that meet a condition are shown, with their numbers in the capture."""
+    syn, arp = ipv4(6, TCP), ethernet(bytes(28), (), 0x0806)
+    frames = [ethernet(ipv6_chain([0], 6, TCP)), arp, ethernet(ipv4(17, UDP)), ethernet(syn, (0x8100,)), ethernet(ipv6_chain([44])),
+              ethernet(LATER_FRAGMENT), ethernet(ipv4(6, TCP, 0x2000)), arp, ethernet(syn)]
+    content = capture(frames)
+    path, ng = harness.file(content), harness.file(section() + interface() + b"".join(map(packet, frames)))
+    for words, wanted in [(["tcp"], [1, 4, 7, 9]), (["header", "44"], [5, 6]), (["tcp and not ip6"], [4, 7, 9]),
+                          (["fragment", "or", "udp"], [3, 5, 6, 7]), (["not", "ip", "and", "not", "ip6"], [2, 8]), (["port", "53"], []),
+                          (["any"], list(range(1, 10))), (["mismatched"], [])]:
+        for file in (path, ng):
+            status, found, errors, _ = harness.run("show", "--one-line", *words, file)
+            harness.equal((status, numbers_of(found), errors), (0, wanted, ""), words)
+        found = [json.loads(line)["packet"] for line in harness.run("show", "--json", *words, "-", content=content)[1].splitlines()]
+        harness.equal(found, wanted, words, "--json")
+        found = list(csv.DictReader(harness.run("show", "--csv", " ".join(words), path)[1].decode().splitlines()))
+        harness.equal([int(row["packet"]) for row in found], wanted, words, "--csv")
+        drawn = harness.run("show", *words, path)[1]
+        alone = [harness.run("show", "-c", "1", "--", "any", harness.file(file_header() + record(frames[number - 1], None, 999 + number, 4 + number)))[1]
+                 for number in wanted]
+        alone = [text.replace(b"packet 1:", b"packet %d:" % number, 1) for text, number in zip(alone, wanted)]
+        harness.equal(drawn, b"\n".join(alone), words, "drawings")
+    theirs = harness.tshark(path, "-o", "ip.defragment:FALSE", "-Y", "tcp", "-T", "fields", "-e", "frame.number").split()
+    harness.equal(numbers_of(harness.run("show", "--one-line", "leads-to tcp", path)[1]), list(map(int, theirs)), "as tshark numbers them")
+    harness.equal(numbers_of(harness.run("show", "-c", "2", "--one-line", "tcp", path)[1]), [1, 4], "-c 2")
+    data = udp(53, bytes(300))
+    parts = [ipv6(44, fragment(17, at, at < 24, 5) + data[8 * at:8 * at + 96]) for at in (0, 12, 24, 36)]
+    parts = harness.file(capture([arp, ethernet(parts[0]), ethernet(syn), ethernet(parts[1]), ethernet(parts[2])[:14 + 48 + 96]]))
+    harness.equal(numbers_of(harness.run("show", "--one-line", "port 53", parts)[1]), [2], "the first fragment")
+
+
+def wrong_conditions(harness):
+    """What is no condition, or has no file after it, is refused."""
     path = harness.file(capture([]))
-    for arguments in (["tcp", path], ["header", "44", path], ["-c", "1", "tcp", path], ["tcp", "-"]):
-        words = "show takes a single file and no condition: use `ipcap filter COND %s | ipcap show`; see `ipcap show --help`" % arguments[-1]
-        harness.equal(harness.run("show", *arguments), (2, b"", "ipcap: %s\n" % words, None), arguments)
-    harness.equal(harness.run("show", path, path)[2], "ipcap: show reads a single file; see `ipcap show --help`\n", "two files")
+    for arguments, words in [(["tcp"], "after a condition, show needs a file, or `-` for standard input"),
+                             (["header", "44"], "after a condition, show needs a file, or `-` for standard input"),
+                             ([path, path], "show reads a single file"), ([path, "x", path], "show reads a single file")]:
+        found = harness.run("show", *arguments)
+        harness.equal(found, (2, b"", "ipcap: %s; see `ipcap show --help`\n" % words, None), arguments)
+    found = harness.run("show", "frob", path)
+    harness.check(found[0] == 2 and found[2].startswith("ipcap: condition: expected ") and "'frob' in column 1\n  frob\n  ^\n" in found[2], found[2])
+    found = harness.run("show", "tcp", "and", path)
+    harness.check(found[0] == 2 and "found the end\n  tcp and\n         ^\n" in found[2], found[2])
+    found = harness.run("show", "net", "10.1.2.3/8", path)
+    harness.check(found[0] == 2 and "10.0.0.0/8 is meant" in found[2], found[2])
+    found = harness.run("show", "tcp", "/nonexistent/x")
+    harness.equal(found, (1, b"", "ipcap: /nonexistent/x: No such file or directory\n", None), "no such file")
+
+
+def details(harness):
+    """Ports, flags of TCP, types of ICMP messages, fragments and EtherTypes are those that tcpdump prints."""
+    frames = [ethernet(outer(number, TCP if number == 6 else UDP + bytes(20))) for outer in (ipv4, ipv6) for number in (6, 17, 33, 132)]
+    frames += [ethernet(ipv6_chain([0, 60], 17, UDP)), ethernet(ipv6(44, fragment(17, 0, 1) + UDP + bytes(4))), ethernet(LATER_FRAGMENT)]
+    frames += [ethernet(ipv6(0, options(44) + fragment(60, 0, 1, 0xFEDCBA98) + options(17) + UDP + bytes(4))),
+               ethernet(ipv6(44, fragment(17, 185, 0) + bytes(9))), ethernet(ipv6(44, fragment(17) + UDP))]
+    frames += [ethernet(ipv4(17, UDP + bytes(4), bits)) for bits in (0x2000, 0x2010, 0x6010, 0x0010, 0xE001, 0x4000, 0x8000)]
+    frames += [ethernet(ipv4(6, TCP[:13] + bytes([flags]) + TCP[14:])) for flags in range(256)]
+    path = harness.file(capture(frames))
+    ours = harness.run("show", "--one-line", path)[1].decode().splitlines()
+    theirs = subprocess.run(["tcpdump", "-n", "-t", "-v", "-r", path], stdout=subprocess.PIPE, stderr=subprocess.DEVNULL).stdout.decode()
+    theirs = re.split(r"\n(?=IP)", re.sub(r"\n\s+(?!0x)", " ", theirs))
+    harness.equal(len(ours), len(theirs), "packets")
+    for line, wanted in zip(ours, theirs):
+        ends = re.search(r"([0-9a-f.:]+) > ([0-9a-f.:]+): ", wanted)
+        source, destination = ends[1], ends[2]
+        inner = re.search(r" (?:DSTOPT|RT6|frag|HBH).*? (\d+) > (\d+): ", wanted)
+        if inner:
+            source, destination = "%s.%s" % (source, inner[1]), "%s.%s" % (destination, inner[2])
+        harness.check(", %s > %s, " % (source, destination) in line, "addresses and ports", line, wanted)
+        fragmented = re.search(r"frag \(0x[^)]*\)", wanted)
+        harness.equal(re.findall(r"frag \([^)]*\)", line), [fragmented[0]] if fragmented else [], line, wanted)
+        of_ipv4 = re.search(r"(id \d+, offset (\d+), flags \[([^]]*)\]), proto .*?, (length \d+)\)", wanted)
+        is_part = of_ipv4 and (of_ipv4[2] != "0" or "+" in of_ipv4[3])
+        harness.equal(re.findall(r"id \d+, offset .*?, length \d+", line), ["%s, %s" % (of_ipv4[1], of_ipv4[4])] if is_part else [], line, wanted)
+        flags = re.findall(r"Flags \[[^]]*\]", wanted)
+        harness.equal(re.findall(r"Flags \[[^]]*\]", line), flags, line, wanted)
+    for payload, number, wanted in [(UDP[:1], 17, ("", "")), (UDP[:2], 17, (".1000", "")), (UDP[:3], 17, (".1000", "")), (UDP[:4], 17, (".1000", ".2000")),
+                                    (UDP, 136, (".1000", ".2000")), (UDP, 59, ("", ""))]:
+        line = harness.run("show", "--one-line", content=capture([ethernet(ipv4(number, payload))]))[1].decode()
+        harness.check(", 192.0.2.1%s > 192.0.2.2%s, " % wanted in line, payload, line)
+    for payload, wanted in [(TCP[:13], "-> 6\n"), (TCP[:14], "-> 6, Flags [S]\n")]:
+        line = harness.run("show", "--one-line", content=capture([ethernet(ipv4(6, payload))]))[1].decode()
+        harness.check(line.endswith(wanted), payload, line)
+    faulty = harness.run("show", "--one-line", content=capture([ethernet(ipv6(60, options(17, 3)[:8]))]))[1].decode()
+    harness.check("2001:db8::1 > 2001:db8::2, " in faulty and faulty.endswith("-> 60 fault\n"), faulty)
+
+
+# Types of ICMPv6 that tcpdump names, and that are for private experiments (RFC 4443, section 2.1).
+EXPERIMENTS = {200, 201}
+
+
+def icmp_types(harness):
+    """The name of each type of ICMP messages begins what tcpdump prints of it."""
+    quoted = bytes(4) + ipv4(17, UDP)
+    frames = [ethernet(ipv4(1, bytes([kind, 0, 0, 0]) + quoted)) for kind in range(256)]
+    frames += [ethernet(ipv6(58, bytes([kind, 0, 0, 0]) + bytes(60))) for kind in range(256)]
+    path = harness.file(capture(frames))
+    ours = harness.run("show", "--one-line", path)[1].decode().splitlines()
+    theirs = subprocess.run(["tcpdump", "-n", "-t", "-r", path], stdout=subprocess.PIPE, stderr=subprocess.DEVNULL).stdout.decode()
+    theirs = [line for line in theirs.splitlines() if line.startswith("IP")]
+    harness.equal((len(ours), len(theirs)), (512, 512), "messages")
+    for kind, (line, wanted) in enumerate(zip(ours, theirs)):
+        name = line[line.index("ICMP"):]
+        theirs_name = wanted[wanted.index("ICMP"):]
+        begins = theirs_name.startswith(name)
+        if kind == 3:
+            begins = name == "ICMP unreachable" and " unreachable, " in theirs_name
+        if kind in (256 + 139, 256 + 140):
+            begins = name[len("ICMP6, "):] in theirs_name
+        harness.check(begins or kind - 256 in EXPERIMENTS, "type", kind, name, wanted)
+    line = harness.run("show", "--one-line", content=capture([ethernet(ipv4(1, bytes([3, 4, 0, 0]) + quoted))]))[1]
+    harness.check(line.endswith(b"-> 1, ICMP unreachable, code 4\n"), line)
+    for part, wanted in [(b"", b"-> 58\n"), (b"\x80", b"-> 58, ICMP6, echo request\n"), (b"\xc8\3", b", ICMP6, unknown icmp6 type (200), code 3\n")]:
+        line = harness.run("show", "--one-line", content=capture([ethernet(ipv6(58, part))]))[1]
+        harness.check(line.endswith(wanted), line)
+
+
+def names_of_ethertypes(harness):
+    """What isn't IP is named by its EtherType as tcpdump names it, or by another number."""
+    types = [it for it in range(0x600, 0x10000) if it not in (0x0800, 0x86DD, 0x8100, 0x88A8, 0x9100, 0x9200, 0x8847, 0x8848, 0x8864, 0x8870)]
+    path = harness.file(capture([ethernet(bytes(46), (), it) for it in types]))
+    ours = harness.run("show", "--one-line", path)[1].decode().splitlines()
+    theirs = subprocess.run(["tcpdump", "-n", "-t", "-e", "-q", "-r", path], stdout=subprocess.PIPE, stderr=subprocess.DEVNULL).stdout.decode()
+    theirs = [line for line in theirs.splitlines() if " > " in line and "length 60" in line]
+    harness.equal((len(ours), len(theirs)), (len(types), len(types)), "frames")
+    for number, line, wanted in zip(types, ours, theirs):
+        name = re.search(r"02:00:00:00:00:01, (.*?), length 60", wanted)[1]
+        name = "Unknown" if name.startswith("Unknown Ethertype") else name
+        harness.check(line.endswith(", 60 bytes, not IP, ethertype %s (0x%04x)" % (name, number)), number, line, wanted)
+    for frame, wanted in [(ethernet(b"\x42\x42\x03", (), 38), "not IP, LLC 0x42"), (ethernet(bytes(28), (0x8100,), 0x0806), "not IP, ethertype ARP (0x0806)"),
+                          (ethernet(b"\0\1\1\x40\0", (), 0x8847), "not IP, ethertype MPLS unicast (0x8847)"),
+                          (ethernet(b"\0\1\1\x40\0", (), 0x8848), "not IP, ethertype MPLS multicast (0x8848)"), (ethernet(b"")[:13], "not IP")]:
+        line = harness.run("show", "--one-line", content=capture([frame]))[1].decode()
+        harness.check(line.endswith(" bytes, %s\n" % wanted), wanted, line)
 
 
 def colors(harness):

@@ -9,6 +9,7 @@ from captures import *
 from harness import COUNTS, TABLES, statistics
 from test_stat import chain_in, random_frames
 from test_sum import refuse
+from test_use import refuse_each
 
 SIX, FOUR = ipv6_chain([0, 43], 6, TCP), ipv4(51, authentication(17) + UDP)
 IN_SIX, IN_FOUR = "IPv6 0,43 -> 6", "IPv4 51 -> 17"
@@ -483,3 +484,91 @@ def malformed(harness):
     found = json.loads(harness.run("sum", "--json", content=content + content)[1])
     harness.equal([found[name] for name in [*half, *tables]], [most] * 3 + [{key: most} for key in tables.values()],
                   "largest counts")
+
+
+# Frames with tunnels and without, by name.
+CARRIERS = {
+    "gre": ethernet(ipv4(47, gre(0x86DD, SIX))),
+    "vxlan": ethernet(over_udp("VXLAN", vxlan(ethernet(FOUR, (0x8100,))))),
+    "vxlan arp": ethernet(over_udp("VXLAN", vxlan(ARP), ipv6)),
+    "six": ethernet(SIX),
+    "mismatched": ethernet(ipv4(41, FOUR)),
+    "deep": ethernet(over_udp("VXLAN", vxlan(ethernet(ipv6(60, options(47) + gre(0x0800, ipv4(1, bytes([8, 0, 0, 0]) + bytes(8)))))))),
+    "arp": ARP,
+    "four": ethernet(ipv4(17, UDP)),
+    "fragment": ethernet(ipv4(4, ipv6(44, fragment(17, 5, 1) + UDP))),
+    "truncated": ethernet(over_udp("GTP-U", gtp_u(ipv6(0, options(60) + b"\x11\0"[:1], payload_len=24)))),
+}
+
+# Conditions, and the frames that meet them by what is in their tunnels, and by themselves.
+INNER_CONDITIONS = {
+    "tcp": ("gre", "six"), "header 51": ("vxlan, mismatched", ""), "header 43": ("gre", "six"), "mismatched": ("mismatched, fragment", ""),
+    "ip6 and header 60": ("deep", ""), "icmp-type 8": ("deep", ""), "fragment": ("fragment", ""), "truncated": ("truncated", ""),
+    "not ip and not ip6": ("vxlan arp", "arp"), "not udp": ("vxlan arp, deep, truncated", "gre, six, mismatched, arp, fragment"),
+    "port 1000": ("gre, vxlan, mismatched", "six, four"), "port 1000 and not tcp": ("vxlan, mismatched", "four"), "any": ("", ", ".join(CARRIERS)),
+}
+
+
+def conditions(harness):
+    """With --tunnels, a packet meets a condition if it or one in its tunnels does."""
+    frames = list(CARRIERS.values())
+    path = harness.file(capture(frames))
+    for condition, (inner, own) in INNER_CONDITIONS.items():
+        for wanted, arguments in [(own, []), (own + ", " + inner, ["--tunnels"])]:
+            numbers = [i + 1 for i, name in enumerate(CARRIERS) if name in wanted.split(", ")]
+            content = harness.run("filter", *arguments, condition, path)
+            kept = b"".join(record(frames[it - 1], None, 999 + it, 4 + it) for it in numbers)
+            harness.equal(content, (0, file_header() + kept, "", None), condition, arguments)
+            found = harness.run("show", "--json", *arguments, condition, path)[1].splitlines()
+            harness.equal(sorted({json.loads(it)["packet"] for it in found}), numbers, condition, "show", arguments)
+    mismatched = {5, 9} # tshark reads these by the number, not by the version
+    for ours, theirs in [("tcp", "tcp"), ("header 51", "ah"), ("header 43", "ipv6.routing"), ("icmp", "icmp"), ("ip6", "ipv6"), ("ip", "ip")]:
+        wanted = harness.tshark(path, "-Y", theirs, "-T", "fields", "-e", "frame.number").split()
+        found = harness.run("filter", "--tunnels", ours, path)[1]
+        times = [it.split(b".")[0] for it in harness.tshark(harness.file(found), "-T", "fields", "-e", "frame.time_epoch").split()]
+        harness.equal({int(it) - 999 for it in times} - mismatched, set(map(int, wanted)) - mismatched, "as tshark finds them", ours)
+    for depth in (7, 8):
+        nested_in = capture([nested(*[lambda it: ipv4(41, it)] * depth)], RAW)
+        found = harness.run("filter", "--tunnels", "tcp", content=nested_in)[1]
+        harness.equal(len(found) > 24, depth == 7, "depth", depth)
+
+
+def shown(harness):
+    """With --tunnels, each packet in a tunnel is shown after the one that carries it."""
+    packets, wanted = zip(*followed_packets())
+    path = harness.file(capture(packets, RAW))
+    plain, lines = [harness.run("show", "--one-line", *it, path)[1].decode().splitlines() for it in ([], ["--tunnels"])]
+    found = iter(lines)
+    for number, (packet, texts) in enumerate(zip(packets, wanted), 1):
+        harness.equal(next(found), plain[number - 1], "the outer packet", number)
+        for depth, text in enumerate(texts, 1):
+            line = next(found)
+            harness.check(line.startswith("packet %d, tunnel %d: " % (number, depth)), text, line)
+            if text.startswith("IPv"):
+                chain = line.partition(": IPv")[2]
+                harness.check((chain + ",").startswith(text[3:] + ","), "chain", text, line)
+            elif text == "no header":
+                harness.check(": unread base header" in line, text, line)
+            elif text == "other":
+                harness.check(", not IP" in line and "0x" not in line, text, line)
+            else:
+                harness.check(", not IP, " in line and "0x" + text.split("0x")[1] in line, text, line)
+    harness.equal(list(found), [], "nothing else")
+    objects = [json.loads(it) for it in harness.run("show", "--json", "--tunnels", path)[1].splitlines()]
+    harness.equal([(it["packet"], it["tunnels"]) for it in objects], [(i, depth) for i, texts in enumerate(wanted, 1) for depth in range(len(texts) + 1)], "--json")
+    for one in objects:
+        packet = packets[one["packet"] - 1]
+        harness.check((one["frame_len"], one["captured_len"]) == (len(packet), len(packet)), "lengths of the frame", one)
+        harness.check(one.get("version", 0) == 0 or packet[one["ip_offset"]] >> 4 == one["version"], "place", one)
+    names, *rows = [it.split(",") for it in harness.run("show", "--csv", "--tunnels", path)[1].decode().splitlines()]
+    harness.equal([{name: int(value) for name, value in zip(names, row) if name in ("packet", "tunnels")} for row in rows],
+                  [{"packet": it["packet"], "tunnels": it["tunnels"]} for it in objects], "--csv")
+    harness.check("tunnels" not in harness.run("show", "--csv", path)[1].decode(), "without --tunnels")
+    drawn = harness.run("show", "-c", "1", "--tunnels", content=capture(list(CARRIERS.values())))[1].decode()
+    first, second = drawn.split("\n\n")
+    harness.equal(second.rstrip("\n").split("\n", 1)[1], harness.run("show", content=capture([SIX], RAW))[1].decode().rstrip("\n").split("\n", 1)[1], "the drawing")
+    harness.equal(second.split("\n")[0], "packet 1, tunnel 1: 1970-01-01T00:16:40.000005Z, 2001:db8::1.1000 > 2001:db8::2.2000, 76 bytes, IP at 38: "
+                  "IPv4 GRE > IPv6 0,43 -> 6, Flags [S]", "the first line")
+    harness.equal(first, harness.run("show", "-c", "1", content=capture(list(CARRIERS.values())))[1].decode().rstrip("\n"), "the outer packet")
+    refuse_each(harness, ["show", "--tunnels", "tcp", harness.file(capture(list(CARRIERS.values())))])
+    refuse_each(harness, ["filter", "--tunnels", "tcp", harness.file(capture(list(CARRIERS.values())))])

@@ -11,7 +11,6 @@ import signal
 import subprocess
 
 from captures import *
-from harness import memory_used
 
 STACK = 160 << 10
 COMMANDS = ["stat", "sum", "filter", "show", "defrag", "rewrite"]
@@ -41,13 +40,12 @@ def wrong_usage(harness):
     harness.equal((found[0], found[1], found[2].encode()), (2, b"", harness.run("--help")[1]), "no argument")
     for arguments in [["frob"], ["--frob"], ["x" * 500], ["help", "frob"], ["help", "stat", "sum"],
                       ["stat", "--frob"], ["sum", "file"], ["sum", "--frob"],
-                      ["show", "a", "b"],
                       ["show", "--color"], ["show", "--color=red"], ["show", "-w", "x"], ["show", "-c", "0"],
                       ["show", "--json", "--one-line"], ["show", "--csv", "--json"],
                       ["stat", "--json=1"], ["stat", "-j", "0"], ["stat", "-j"],
                       ["stat", "-j", "x"], ["sum", "-j", "2"],
                       ["stat", "--top", "0"], ["stat", "--top"], ["sum", "--top", "x"], ["sum", "--per-file"],
-                      ["stat", "--tunnels=1"], ["sum", "--tunnels"], ["show", "--tunnels"]]:
+                      ["stat", "--tunnels=1"], ["sum", "--tunnels"], ["defrag", "--tunnels"], ["rewrite", "--clear", "--tunnels"]]:
         status, found, errors, _ = harness.run(*arguments)
         harness.equal((status, found), (2, b""), arguments)
         name = "ipcap " + arguments[0] if arguments[0] in COMMANDS else "ipcap"
@@ -258,8 +256,8 @@ def bounded_memory(harness):
     frames = [record(ethernet(ipv6_chain(numbers))) for numbers in [[0], [0, 43], [60, 44], [51]]]
     short, long = [harness.file(file_header() + b"".join(frames) * count) for count in [50, 50000]]
     for command in [["stat"], ["filter", "header 44", "-w", "/dev/null"], ["show"], ["rewrite", "--without", "0", "-w", "/dev/null"]]:
-        few, many = [memory_used(harness.plain + command + [path]) for path in (short, long)]
-        harness.check(few[0] == many[0] == 0 and many[1] < few[1] + 500, command, few, many)
+        few, many = [harness.measure(*command, path, output=subprocess.DEVNULL) for path in (short, long)]
+        harness.check(few[0] == many[0] == 0 and many[3] < few[3] + (500 << 10), command, few, many)
 
 
 def refuse_each(harness, arguments, given=b""):

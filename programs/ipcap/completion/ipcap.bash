@@ -15,11 +15,17 @@ _ipcap_words() {
     COMPREPLY=($(compgen -W "$1" -- "$2"))
 }
 
+# Adds the names of files.
+_ipcap_files() {
+    compopt -o filenames 2>/dev/null
+    mapfile -t -O "${#COMPREPLY[@]}" COMPREPLY < <(compgen -f -- "$1")
+}
+
 # Completes the argument of the option before the word. Returns 1 if that option has none.
 _ipcap_argument() {
     case $1 in
-        -r | -w) ;;
-        -c | -j | --packets | --since | --slots | --top | --until) compopt +o default 2>/dev/null ;;
+        -r | -w | --report) ;;
+        -c | -j | --memory | --packets | --since | --slots | --top | --until) compopt +o default 2>/dev/null ;;
         --without) _ipcap_words 'hop-by-hop routing fragment authentication destination-options' "$2" ;;
         --color | =) _ipcap_words 'always never auto' "${2#=}" ;;
         *) return 1 ;;
@@ -34,18 +40,23 @@ _ipcap() {
         return
     fi
     case ${COMP_WORDS[1]} in
-        stat) options='-j --defrag --json --per-file --top --tunnels' ;;
+        stat) options='-j --defrag --json --memory --per-file --top --tunnels' ;;
         sum) options='--json --top' ;;
-        filter) options='-c -n -r -w --since --until --packets --defrag --show --help-terms' ;;
-        show) options='-c --defrag --color= --one-line --json --csv' ;;
-        defrag) options='-w --keep --slots' ;;
-        rewrite) options='-w --without --clear --in-order --break-authentication' ;;
+        filter) options='-c -n -r -w --since --until --packets --defrag --tunnels --memory --number --show --help-terms' ;;
+        show) options='-c --defrag --tunnels --memory --color= --one-line --json --csv' ;;
+        defrag) options='-w --keep --memory --report --slots' ;;
+        rewrite) options='-w --without --clear --in-order --break-authentication --memory' ;;
         *) return ;;
     esac
     _ipcap_argument "${COMP_WORDS[COMP_CWORD-1]}" "$word" && return
     case $word in
         -*) _ipcap_words "$options --help --version" "$word" ;;
-        *) [ "${COMP_WORDS[1]}" != filter ] || _ipcap_words "and or not $(_ipcap_terms "${COMP_WORDS[0]}")" "$word" ;;
+        *)
+            case ${COMP_WORDS[1]} in
+                filter | show) _ipcap_words "and or not $(_ipcap_terms "${COMP_WORDS[0]}")" "$word" ;;
+            esac
+            [ "${COMP_WORDS[1]}" != show ] || _ipcap_files "$word"
+            ;;
     esac
     # an equals sign is followed by the value
     [ "${COMPREPLY[0]:-}" != --color= ] || compopt -o nospace 2>/dev/null

@@ -1,0 +1,150 @@
+"""Tests of the budget of memory."""
+
+import gzip
+import json
+import lzma
+import os
+import re
+import struct
+import subprocess
+
+from captures import *
+from test_compression import formats
+from test_defrag import frame, ipv4_part, ipv6_part
+
+def spread(first, count):
+    """A capture of `count` packets that aren't whole: their fragments of 8 bytes are in each page of the payload."""
+    parts = [frame(ipv4_part(first + number, at // 8, True, bytes(8))) for number in range(count) for at in range(0, 65000, 4096)]
+    return file_header() + b"".join(record(it) for it in parts)
+
+
+def lost_in(errors):
+    """The number of fragments that messages are about."""
+    return sum(int(it) for it in re.findall(r": (\d+) fragments? ", errors))
+
+
+def budget_of_jobs(harness):
+    """Files that are counted side by side have one budget, and their counts don't depend on it."""
+    paths = [harness.file(spread(1, 3000)) for _ in range(4)]
+    counts = 4 * 3000 * 16
+    wanted = harness.measure("stat", "--defrag", "--json", "-j1", *paths)
+    harness.equal((wanted[0], lost_in(wanted[2])), (0, counts), "one after another")
+    for memory, jobs in [("512M", 4), ("512M", 64), ("300M", 4), ("128M", 4), ("64M", 64)]:
+        status, found, errors, peak = harness.measure("stat", "--defrag", "--json", "--memory", memory, "-j%d" % jobs, *paths)
+        harness.equal((status, found, lost_in(errors)), (0, wanted[1], counts), memory, jobs)
+        harness.check(peak <= int(memory[:-1]) << 20, "peak", peak >> 20, memory, jobs)
+    status, found, errors, peak = harness.measure("stat", "--defrag", "--json", "-j4", *paths)
+    harness.check(found == wanted[1] and peak <= 512 << 20, "the default", peak >> 20)
+    status, found, errors, large = harness.measure("stat", "--defrag", "--json", "--memory", "4G", "-j4", *paths)
+    harness.check(found == wanted[1] and large > 512 << 20, "a large budget is used", large >> 20)
+    few = [harness.file(capture([frame(ipv6_part(number, 0, True, bytes(8)))])) for number in range(40)]
+    plain = harness.run("stat", "--defrag", "--json", "-j1", *few)
+    for memory in ("64M", "512M"):
+        harness.equal(harness.run("stat", "--defrag", "--json", "-j40", "--memory", memory, *few), plain, "many files", memory)
+
+
+def budget_of_slots(harness):
+    """A small budget has room for fewer packets, and one that is too small for a number of slots is refused."""
+    path = harness.file(spread(1, 3000))
+    for command in (["defrag"], ["show", "--defrag"], ["filter", "--defrag", "any"], ["stat", "--defrag"]):
+        for memory in (64, 100, 512):
+            status, _, errors, peak = harness.measure(*command, "--memory", "%dM" % memory, path)
+            harness.check(status == 0 and peak <= memory << 20, command, memory, peak >> 20)
+            harness.equal(lost_in(errors), 3000 * 16, command, memory)
+            is_full = "since all slots were in use" in errors
+            harness.check(is_full or memory == 512, command, memory, errors)
+    found = harness.run("defrag", "--slots", "100000", path)
+    least = re.search(r"--slots 100000 needs --memory (\d+)M or more; see `ipcap defrag --help`\n", found[2])
+    harness.check(found[0] == 2 and least, found[2])
+    least = int(least[1])
+    harness.equal(harness.answer(harness.plain, ["defrag", "--slots", "100000", "--memory", "%dM" % least, "-w", "/dev/null", path], b"", None)[0], 0, "enough")
+    harness.equal(harness.run("defrag", "--slots", "100000", "--memory", "%dM" % (least - 2), path)[0], 2, "too little")
+    found = harness.run("defrag", "--slots", "18446744073709551615", path)
+    harness.equal((found[0], found[2]), (2, "ipcap: --slots 18446744073709551615 needs more memory than there is; see `ipcap defrag --help`\n"), "far too many")
+    content = capture([frame(ipv6_part(1, 0, True, bytes(8)))])
+    harness.equal(harness.run("defrag", "--slots", "1", "--memory", "64M", content=content)[0], 0, "one slot")
+
+
+def budget_of_kept(harness):
+    """Fragments that are kept have what the slots and the rest leave."""
+    part = frame(ipv4_part(1, 0, True, bytes(8))) + bytes(200000)
+    path = harness.path(".gz")
+    count = 2000
+    with gzip.open(path, "wb", 1) as file:
+        file.write(file_header(snap_len=262144) + record(part) * count)
+    kept = []
+    for memory in (100, 200, 400, 1000):
+        status, found, errors, peak = harness.measure("defrag", "--keep", "--slots", "8", "--memory", "%dM" % memory, path)
+        lost = re.search(r"(\d+) of these weren't kept: out of memory\n", errors)
+        harness.check(peak <= memory << 20, "peak", peak >> 20, memory)
+        harness.equal((status, bool(lost)), (0, False) if memory == 1000 else (1, True), memory, errors)
+        kept.append((len(found) - 24) // (16 + len(part)))
+        harness.equal(kept[-1], count - int(lost[1]) if lost else count, memory, "written")
+        harness.check(kept[-1] * len(part) > ((memory - 60) << 20) * 0.9 or memory == 1000, "what is left is used", memory, kept)
+
+
+def with_window(content, descriptor):
+    """A zstd frame with a window descriptor, and blocks that aren't compressed (RFC 8878, section 3.1.1.1.2)."""
+    found = b"\x28\xb5\x2f\xfd\0" + bytes([descriptor])
+    parts = [content[at:at + 1000] for at in range(0, len(content), 1000)] or [b""]
+    for number, part in enumerate(parts):
+        found += struct.pack("<I", len(part) << 3 | (number == len(parts) - 1))[:3] + part
+    return found
+
+
+def budget_of_decoders(harness):
+    """A decoder gets the memory that a stream needs, if that is within the budget."""
+    content = capture([ethernet(ipv6_chain([0, 44])), ethernet(ipv4(17, UDP))] * 50)
+    names = [name for name, _ in formats(harness)]
+    wanted = harness.run("stat", "--json", content=content)[1]
+    refused = "data can't be decompressed: more memory needed than the budget allows"
+    if "zstd" in names:
+        for log in (10, 19, 20, 21, 23, 24, 26, 27):
+            for mantissa in (0, 1, 7) if log < 27 else (0,):
+                data = with_window(content, (log - 10) << 3 | mantissa)
+                harness.equal(harness.run("stat", "--json", content=data)[:3], (0, wanted, ""), "window", log, mantissa)
+                found = harness.run("stat", "--json", "--memory", "64M", content=data)
+                is_small = (1 << log) * (8 + mantissa) // 8 < 23 << 20
+                harness.equal(found[:2] == (0, wanted), is_small, "64M", log, mantissa, found[2])
+                harness.check(is_small or "zstd " + refused in found[2], log, mantissa, found[2])
+        for descriptor in ((28 - 10) << 3, (27 - 10) << 3 | 1, 255):
+            found = harness.run("stat", "--json", "--memory", "2G", content=with_window(content, descriptor))
+            harness.check(found[0] == 1 and "zstd data can't be decompressed: Frame requires too much memory" in found[2], descriptor, found[2])
+        parts = [with_window(content[:500], 0), with_window(content[500:2000], 13 << 3), with_window(b"", 16 << 3), with_window(content[2000:], 12 << 3)]
+        harness.equal(harness.run("stat", "--json", content=b"".join(parts))[1], wanted, "frames with several windows")
+        path = harness.file(b"".join(parts))
+        several = harness.run("stat", "--json", "-j4", *[path] * 8)
+        harness.equal(several, harness.run("stat", "--json", "-j1", *[path] * 8), "side by side")
+        large = capture([ethernet(ipv6_chain([0])) + bytes(60000)] * 50)
+        data = subprocess.run(["zstd", "-q", "-c"], input=large, stdout=subprocess.PIPE).stdout
+        for at in (len(data), 5, 6, 7, 9, 13, 20):
+            process = subprocess.Popen(harness.plain + ["stat", "--json"], stdin=subprocess.PIPE, stdout=subprocess.PIPE)
+            os.write(process.stdin.fileno(), data[:at])
+            found = process.communicate(data[at:])[0]
+            harness.equal(json.loads(found)["packets"], 50, "in parts", at)
+    if "xz" in names:
+        for dictionary, least in [(1 << 16, 64), (16 << 20, 64), (64 << 20, 128), (192 << 20, 256)]:
+            data = lzma.compress(content, filters=[{"id": lzma.FILTER_LZMA2, "preset": 0, "dict_size": dictionary}])
+            harness.equal(harness.run("stat", "--json", "--memory", "%dM" % least, content=data)[:3], (0, wanted, ""), "dictionary", dictionary)
+            if least > 64:
+                found = harness.run("stat", "--json", "--memory", "64M", content=data)
+                harness.check(found[0] == 1 and "xz " + refused in found[2], dictionary, found[2])
+        data = lzma.compress(content, filters=[{"id": lzma.FILTER_LZMA2, "preset": 0, "dict_size": 300 << 20}])
+        found = harness.run("stat", "--json", "--memory", "2G", content=data)
+        harness.check(found[0] == 1 and "xz data can't be decompressed: more than 256 MiB of memory needed" in found[2], found[2])
+        small, large = [lzma.compress(it, filters=[{"id": lzma.FILTER_LZMA2, "preset": 0, "dict_size": size}]) for it, size in ((content[:900], 1 << 16), (content[900:], 48 << 20))]
+        harness.equal(harness.run("stat", "--json", "--defrag", content=small + large)[1], wanted, "streams with several dictionaries")
+
+
+def sizes(harness):
+    """A size is a number of bytes, or of 1024 to some power."""
+    path = harness.file(capture([]))
+    commands = [["stat"], ["filter", "any"], ["show"], ["defrag"], ["rewrite", "--clear"]]
+    for command in commands:
+        for size in ("64M", "67108864", "65536K", "1G", "100000M"):
+            harness.equal(harness.run(*command, "--memory", size, path)[0], 0, command, size)
+        for size in ("", "x", "63M", "67108863", "0", "-1", "64MB", "64m", "1T", "64 M", "1.5G", "99999999999999999999", "18446744073709551615K", "17179869184G"):
+            found = harness.run(*command, "--memory", size, path)
+            words = "ipcap: --memory must be a number of bytes of at least 64M, such as 512M or 2G; see `ipcap %s --help`\n" % command[0]
+            harness.equal(found, (2, b"", words, None), command, size)
+    harness.equal(harness.run("sum", "--memory", "64M")[0], 2, "sum")

@@ -25,10 +25,11 @@ SECONDS = 120
 BATCH = 100
 WORDS = [bytes(4), b"\xff" * 4, b"\x7f\xff\xff\xff", b"\x80\0\0\0", b"\0\1\1\0", b"\n\r\r\n", b"\x1a\x2b\x3c\x4d", b"\x4d\x3c\x2b\x1a"]
 WRITING = [["filter", "fault or not fault"], ["filter", "--defrag", "not fragment"], ["filter", "-c", "3", "header 44 or tcp"],
-           ["defrag"], ["defrag", "--keep"], ["defrag", "--keep", "--slots", "1"], ["rewrite", "--without", "0", "--without", "60"],
+           ["filter", "--number", "--tunnels", "ip6"],
+           ["defrag", "--report", "/dev/null"], ["defrag", "--keep"], ["defrag", "--keep", "--slots", "1"], ["rewrite", "--without", "0", "--without", "60"],
            ["rewrite", "--clear", "--in-order"], ["rewrite", "--break-authentication", "--without", "51", "--without", "43"]]
 READING = [["stat"], ["stat", "--json", "--tunnels"], ["stat", "--defrag", "--per-file"], ["show"], ["show", "--json"],
-           ["show", "--csv", "--defrag"], ["show", "--one-line"]]
+           ["show", "--csv", "--defrag"], ["show", "--tunnels", "tcp or udp", "-"], ["show", "--one-line"]]
 
 
 def frames(draw):

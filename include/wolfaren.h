@@ -977,9 +977,9 @@ struct wolfaren_filter_error {
  * separates words. There may be up to 64 terms and 16 levels of parentheses.
  *
  *   version 4|6, ip, ip6                 the IP version: `ip` is version 4, `ip6` is version 6
- *   header N                             an extension header: 0 to 255, hop-by-hop, routing, fragment, authentication
- *                                        or destination-options; in short hopopt, route, frag, ah or dstopts
- *   leads-to N                           the protocol after the headers: as above, or a name from the next line
+ *   header N                             an extension header: hop-by-hop (0), routing (43), fragment (44), authentication
+ *                                        (51) or destination-options (60); in short hopopt, route, frag, ah or dstopts
+ *   leads-to N                           the protocol after the headers: 0 to 255, as above, or a name from the next line
  *   icmp, tcp, udp, dccp, gre, esp, icmp6, no-next, sctp, udp-lite       `leads-to` with this name
  *   fragment, first-fragment, later-fragment
  *   truncated, incomplete

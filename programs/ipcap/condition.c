@@ -132,6 +132,9 @@ static void show_place(const struct text *text, size_t offset)
 /* How long the name of an extension header is at most. */
 enum { MOST_HEADER = 32 };
 
+/* The number of ESP. */
+enum { ESP = 50 };
+
 /* Words of libpcap's expressions, and what is written instead of them. */
 static const struct {
     const char *word;
@@ -161,6 +164,20 @@ static bool show_header(const char *word, size_t size, size_t left)
     return true;
 }
 
+/* Says what is written instead of `header` and a word, if that is a protocol, but no extension header of a packet. */
+static void show_protocol(const char *word, size_t size)
+{
+    char text[MOST_HEADER + sizeof "leads-to "];
+    struct wolfaren_filter filter;
+    struct wolfaren_filter_error error;
+    if (size == 0 || size >= MOST_HEADER) return;
+    int len = snprintf(text, sizeof text, "leads-to %.*s", (int)size, word);
+    if (!wolfaren_parse_filter(text, (size_t)len, &filter, &error)) return;
+    bool is_esp = filter.tests[0].number == ESP;
+    fprintf(stderr, "  `header` asks for an extension header; for %.*s, write `%s`\n", (int)size, word,
+            is_esp ? "esp" : text);
+}
+
 /* Says what is written instead of a word of libpcap's expressions, which is the first of the `left` bytes. */
 static void show_ours(const char *word, size_t size, size_t left)
 {
@@ -183,7 +200,10 @@ static void complain_of_condition(const struct text *text, uint8_t wanted, size_
     else
         complain("condition: expected %s, found '%.*s' in column %zu", expected, size > 40 ? 40 : (int)size, word, offset + 1);
     show_place(text, offset);
-    show_ours(word, size, left);
+    if (wanted == WOLFAREN_EXPECTED_HEADER)
+        show_protocol(word, size);
+    else
+        show_ours(word, size, left);
 }
 
 /* Reports the networks that have bits set after their prefix, which are likely mistakes. Returns whether there are any. */

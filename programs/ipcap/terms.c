@@ -53,8 +53,8 @@ static const struct {
 
 static const char arguments[] =
     "HEADER    hop-by-hop (0), routing (43), fragment (44), authentication (51), destination-options (60), in short\n"
-    "          hopopt (0), route (43), frag (44), ah (51), dstopts (60), or a number from 0 to 255\n"
-    "PROTOCOL  a NAME, or as for HEADER\n"
+    "          hopopt (0), route (43), frag (44), ah (51), dstopts (60), or one of these numbers\n"
+    "PROTOCOL  a NAME, a HEADER or a number from 0 to 255\n"
     "NAME      icmp (1), tcp (6), udp (17), dccp (33), gre (47), esp (50), icmp6 (58), no-next (59), sctp (132),\n"
     "          udp-lite (136)\n"
     "OP        = == != < <= > >=\n"

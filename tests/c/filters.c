@@ -82,6 +82,9 @@ static void refused(void)
     check_refused("fault fault", 6, WOLFAREN_EXPECTED_OPERATOR_OR_END, "`and`, `or` or the end");
     check_refused("(fault", 6, WOLFAREN_EXPECTED_OPERATOR_OR_CLOSE, "`and`, `or` or `)`");
     check_refused("payload > x", 10, WOLFAREN_EXPECTED_COUNT, "a number from 0 to 18446744073709551615");
+    check_refused("not header 50", 11, WOLFAREN_EXPECTED_HEADER,
+                  "0 (`hop-by-hop`), 43 (`routing`), 44 (`fragment`), 51 (`authentication`), 60 (`destination-options`), "
+                  "or `leads-to N` in place of `header N`");
     check_refused("icmp-type 256", 10, WOLFAREN_EXPECTED_BYTE, "a number from 0 to 255");
     check_refused("src x", 4, WOLFAREN_EXPECTED_NETWORK_OR_PORT, "an address, a prefix or `port`");
     check_refused("net x", 4, WOLFAREN_EXPECTED_NETWORK, "an address or a prefix");

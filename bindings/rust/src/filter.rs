@@ -36,8 +36,8 @@ impl Filter {
     /// |---|---|
     /// | `version 4`, `version 6` | there is an IP header of this version |
     /// | `ip`, `ip6` | as `version 4` and `version 6` |
-    /// | `header N` | there is an extension header of this name or number: `hop-by-hop`, `routing`, `fragment`, `authentication` or `destination-options`, or in short `hopopt`, `route`, `frag`, `ah` or `dstopts` |
-    /// | `leads-to N` | this number follows the headers: as above, or a name from the next row |
+    /// | `header N` | there is an extension header of this name or number: `hop-by-hop` (0), `routing` (43), `fragment` (44), `authentication` (51) or `destination-options` (60), or in short `hopopt`, `route`, `frag`, `ah` or `dstopts` |
+    /// | `leads-to N` | this number follows the headers: 0 to 255, a name as above, or one from the next row |
     /// | `icmp`, `tcp`, `udp`, `dccp`, `gre`, `esp`, `icmp6`, `no-next`, `sctp`, `udp-lite` | as `leads-to` with this name |
     /// | `fragment`, `first-fragment`, `later-fragment` | the packet is such a fragment, and not an atomic one |
     /// | `truncated` | a header is truncated |

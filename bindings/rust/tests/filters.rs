@@ -352,7 +352,8 @@ fn different_filters() {
     for name in quantities {
         terms.extend(["=", "!=", "<", "<=", ">", ">="].map(|it| format!("{name} {it} 7")));
     }
-    terms.extend(["version", "header", "leads-to", "spi", "id"].map(|name| format!("{name} 6")));
+    terms.push("header 60".to_owned());
+    terms.extend(["version", "leads-to", "spi", "id"].map(|name| format!("{name} 6")));
     for name in ["src", "dst", "net"] {
         terms.extend(["192.0.2.0/24", "2001:db8:0:1::5/127"].map(|it| format!("{name} {it}")));
     }
@@ -392,7 +393,7 @@ fn other_bytes_after_a_packet_change_nothing() {
 
 #[test]
 fn refused_texts() {
-    let header = "a number from 0 to 255, `hop-by-hop`, `routing`, `fragment`, `authentication` or `destination-options`";
+    let header = "0 (`hop-by-hop`), 43 (`routing`), 44 (`fragment`), 51 (`authentication`), 60 (`destination-options`), or `leads-to N` in place of `header N`";
     let rows = [
         ("", 0, Expected::Operand, "a term, `not` or `(`"),
         (
@@ -404,6 +405,8 @@ fn refused_texts() {
         ("(fault", 6, Expected::OperatorOrClose, "`and`, `or` or `)`"),
         ("version 5", 8, Expected::Version, "4 or 6"),
         ("header 256", 7, Expected::Header, header),
+        ("header 50", 7, Expected::Header, header),
+        ("fault or header 135", 16, Expected::Header, header),
         (
             "leads-to arp",
             9,

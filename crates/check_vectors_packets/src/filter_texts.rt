@@ -85,9 +85,11 @@ fn terms_of_headers(rt: HostRuntime) -> Result<(), Fail> {
         ("header hopopt", last(1)),
         ("header route", last(1 << 43)),
         ("header 0x2C", last(1 << 44)),
-        ("header 4", last(0)),
         ("leads-to no-next", number(2, 59, PASSED, REFUSED)),
         ("leads-to ah", number(2, 51, PASSED, REFUSED)),
+        ("leads-to 50", number(2, 50, PASSED, REFUSED)),
+        ("leads-to 135", number(2, 135, PASSED, REFUSED)),
+        ("leads-to 60", number(2, 60, PASSED, REFUSED)),
         ("leads-to 255", number(2, 255, PASSED, REFUSED)),
     ];
     for (text, wanted) in &rows {
@@ -226,7 +228,7 @@ fn masks_are_joined(rt: HostRuntime) -> Result<(), Fail> {
             flags(0x1f300, REFUSED, PASSED),
         ),
         ("not (fragment or fault)", flags(0x1f300, REFUSED, PASSED)),
-        ("header 4 or header 44", last(1 << 44)),
+        ("header 43 or header 44", last(3 << 43)),
     ];
     for (text, wanted) in &rows {
         check(&rt, text, &[*wanted]);
@@ -309,6 +311,12 @@ fn errors_in_arguments(rt: HostRuntime) -> Result<(), Fail> {
         ("header", 6, Expected::Header),
         ("header 256", 7, Expected::Header),
         ("header 010", 7, Expected::Header),
+        ("header 50", 7, Expected::Header),
+        ("fault or header 0x87", 16, Expected::Header),
+        ("header 4", 7, Expected::Header),
+        ("header 59", 7, Expected::Header),
+        ("header 255", 7, Expected::Header),
+        ("header esp", 7, Expected::Header),
         ("header tcp", 7, Expected::Header),
         ("leads-to +6", 9, Expected::Protocol),
         ("headers 3", 8, Expected::Comparison),

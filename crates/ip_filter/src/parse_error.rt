@@ -16,8 +16,8 @@ pub enum Expected {
     /// An IP version.
     #[error("4 or 6")]
     Version,
-    /// An extension header.
-    #[error("a number from 0 to 255, `hop-by-hop`, `routing`, `fragment`, `authentication` or `destination-options`")]
+    /// An extension header that packets can have. Other protocols are terms of what follows the headers.
+    #[error("0 (`hop-by-hop`), 43 (`routing`), 44 (`fragment`), 51 (`authentication`), 60 (`destination-options`), or `leads-to N` in place of `header N`")]
     Header,
     /// A protocol or an extension header.
     #[error("a number from 0 to 255 or the name of a protocol")]

@@ -198,7 +198,7 @@ fn expected_rows() -> [(u8, &'static str); 17] {
         (4, "4 or 6"),
         (
             5,
-            "a number from 0 to 255, `hop-by-hop`, `routing`, `fragment`, `authentication` or `destination-options`",
+            "0 (`hop-by-hop`), 43 (`routing`), 44 (`fragment`), 51 (`authentication`), 60 (`destination-options`), or `leads-to N` in place of `header N`",
         ),
         (6, "a number from 0 to 255 or the name of a protocol"),
         (7, "`=`, `!=`, `<`, `<=`, `>` or `>=`"),

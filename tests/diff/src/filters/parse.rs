@@ -325,19 +325,27 @@ fn tcp_flags(word: &str) -> Option<TcpFlags> {
     (flags.set & !flags.mask == 0).then_some(flags)
 }
 
+/// Returns the extension header that the word names, or whose number it is.
 fn header(word: &str) -> Option<u64> {
+    let is_header = |number: &u64| [0, 43, 44, 51, 60].contains(number);
+    header_name(word).or_else(|| byte(word).filter(is_header))
+}
+
+fn header_name(word: &str) -> Option<u64> {
     match word {
         "hop-by-hop" | "hopopt" => Some(0),
         "routing" | "route" => Some(43),
         "fragment" | "frag" => Some(44),
         "authentication" | "ah" => Some(51),
         "destination-options" | "dstopts" => Some(60),
-        _ => number(word, 255),
+        _ => None,
     }
 }
 
 fn protocol(word: &str) -> Option<u64> {
-    upper_layer(word).or_else(|| header(word))
+    upper_layer(word)
+        .or_else(|| header_name(word))
+        .or_else(|| byte(word))
 }
 
 fn upper_layer(word: &str) -> Option<u64> {

@@ -158,6 +158,8 @@ fn term(packet: &[u8], random: &mut Random, words: &mut Vec<String>) {
                 "44",
                 "51",
                 "60",
+                "50",
+                "135",
                 "0x2c",
                 "0X2C",
                 "044",

@@ -58,7 +58,7 @@
 #define WOLFAREN_VERSION (10000 * WOLFAREN_VERSION_MAJOR + 100 * WOLFAREN_VERSION_MINOR + WOLFAREN_VERSION_PATCH)
 
 /* A checksum of the structs, numbers and calls in this header, made by scripts/abi of the repository. */
-#define WOLFAREN_ABI 0x142e74e9u
+#define WOLFAREN_ABI 0xfa89a4f9u
 
 #if !(defined(__x86_64__) && !defined(__ILP32__)) && !defined(_M_X64) && !defined(__aarch64__) && !defined(_M_ARM64)
 #error "libwolfaren needs a 64-bit machine: x86-64 or ARM64"
@@ -878,13 +878,16 @@ enum wolfaren_test {
     WOLFAREN_TEST_DESTINATION_PORT = 17,   /* the destination port is */
     WOLFAREN_TEST_PORT = 18,               /* the source or the destination port is */
     WOLFAREN_TEST_NO_TRANSPORT = 19,       /* the payload should start with ports, but is too short for both */
-    WOLFAREN_TEST_ICMP_TYPE = 20,          /* the type of the ICMP or ICMPv6 message is `number` */
+    WOLFAREN_TEST_ICMP_TYPE = 20,          /* the type of the ICMP message of an IPv4 packet is `number` */
     WOLFAREN_TEST_ICMP_CODE = 21,          /* its code is `number` */
     WOLFAREN_TEST_TCP_FLAGS = 22,          /* of the flags of TCP in `address_low`, exactly those in `number` are set */
     WOLFAREN_TEST_ROUTING_TYPE = 23,       /* a routing header has the type `number` */
     WOLFAREN_TEST_SEGMENTS_LEFT = 24,      /* the segments left of a routing header compare so with `number` */
     WOLFAREN_TEST_OPTION = 25,             /* hop-by-hop or destination options have one of type `number` */
-    WOLFAREN_TEST_LAYER = 26               /* a flag in `address_low` is set by an error in the layer `number`: 1 .. 11 */
+    WOLFAREN_TEST_LAYER = 26,              /* a flag in `address_low` is set by an error in the layer `number`: 1 .. 11 */
+    WOLFAREN_TEST_VERSION_LEADS_TO = 27,   /* the packet has the IP version `version`, and `number` follows the headers */
+    WOLFAREN_TEST_ICMP6_TYPE = 28,         /* the type of the ICMPv6 message of an IPv6 packet is `number` */
+    WOLFAREN_TEST_ICMP6_CODE = 29          /* its code is `number` */
 };
 
 /*
@@ -922,7 +925,7 @@ struct wolfaren_filter_test {
     uint64_t address_low;  /* bytes 8 to 15 of it, an IPv4 network's address, the highest port, flags of TCP, or flags */
     uint8_t kind;          /* WOLFAREN_TEST_FLAGS .. */
     uint8_t comparison;    /* WOLFAREN_EQUAL .. */
-    uint8_t version;       /* IP version of a network's address: 4 or 6 */
+    uint8_t version;       /* IP version of a packet or a network's address: 4 or 6 */
     uint8_t prefix_len;    /* how many bits of a network's address count */
     uint8_t if_met;        /* index of the next test if the packet meets this one */
     uint8_t if_not;        /* index of the next test if it doesn't */
@@ -980,7 +983,9 @@ struct wolfaren_filter_error {
  *   header N                             an extension header: hop-by-hop (0), routing (43), fragment (44), authentication
  *                                        (51) or destination-options (60); in short hopopt, route, frag, ah or dstopts
  *   leads-to N                           the protocol after the headers: 0 to 255, as above, or a name from the next line
- *   icmp, tcp, udp, dccp, gre, esp, icmp6, no-next, sctp, udp-lite       `leads-to` with this name
+ *   tcp, udp, dccp, gre, esp, no-next, sctp, udp-lite       `leads-to` with this name
+ *   icmp, icmp6                          ICMP (1) after the headers of an IPv4 packet, ICMPv6 (58) after those of an IPv6
+ *                                        packet; after `leads-to`, the number alone
  *   fragment, first-fragment, later-fragment
  *   truncated, incomplete
  *   truncated LAYER                      LAYER is IP-header, IPv4-header, IPv4-packet, authentication, IPv6-header,
@@ -1002,7 +1007,8 @@ struct wolfaren_filter_error {
  *   host A                               A is an IPv4 or IPv6 address
  *   src port P, dst port P, port P       P is a port or a range such as 1024-65535
  *   no-transport                         the payload should start with ports, but is too short for both
- *   icmp-type N, icmp-code N             the type and the code of an ICMP or ICMPv6 message
+ *   icmp-type N, icmp-code N             the type and the code of an ICMP message of an IPv4 packet
+ *   icmp6-type N, icmp6-code N           those of an ICMPv6 message of an IPv6 packet
  *   tcp-flags LIST, tcp-flags LIST/LIST  these flags of TCP are set; of those after the slash, exactly these. LIST is a
  *                                        flag or several with commas between: fin, syn, rst, psh, ack, urg, ece, cwr
  *

@@ -14,6 +14,8 @@ static const struct {
     {"header HEADER", "the chain has this header", "header 44"},
     {"leads-to PROTOCOL", "this number follows the chain", "leads-to 135"},
     {"NAME", "the protocol of this name follows the chain", "udp"},
+    {"icmp", "ICMP follows the chain of an IPv4 packet", "icmp"},
+    {"icmp6", "ICMPv6 follows that of an IPv6 packet", "icmp6"},
     {"headers OP N", "the number of headers in the chain", "headers > 2"},
     {"chain-bytes OP N", "the length of the chain in bytes", "chain-bytes >= 256"},
     {"payload OP N", "the number of payload bytes captured", "payload < 8"},
@@ -46,8 +48,10 @@ static const struct {
     {"dst port PORTS", "the destination port is one of these", "dst port 443"},
     {"port PORTS", "either port is one of these", "port 53"},
     {"no-transport", "the payload is too short for its ports", "no-transport"},
-    {"icmp-type N", "the type of the ICMP or ICMPv6 message", "icmp-type 128"},
-    {"icmp-code N", "the code of the ICMP or ICMPv6 message", "icmp-code 0"},
+    {"icmp-type N", "the type of an ICMP message of IPv4", "icmp-type 8"},
+    {"icmp-code N", "the code of an ICMP message of IPv4", "icmp-code 0"},
+    {"icmp6-type N", "the type of an ICMPv6 message of IPv6", "icmp6-type 128"},
+    {"icmp6-code N", "the code of an ICMPv6 message of IPv6", "icmp6-code 0"},
     {"tcp-flags FLAGS", "these flags of TCP are set", "tcp-flags syn/syn,ack"},
 };
 
@@ -66,6 +70,7 @@ static const char arguments[] =
     "ADDRESS   an IPv4 or IPv6 address\n"
     "PORTS     a number from 0 to 65535, a range such as 1024-65535, or the name of a service such as https\n"
     "FLAGS     fin, syn, rst, psh, ack, urg, ece, cwr, or several with commas between; all that count after a slash\n"
+    "After leads-to, icmp and icmp6 are numbers of either version.\n"
     "TCP, UDP, UDP-Lite, SCTP and DCCP have ports. A later fragment has none.\n"
     "Terms are combined with `not`, `and` and `or`, or `!`, `&&` and `||`, and parentheses.\n";
 

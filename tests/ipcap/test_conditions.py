@@ -143,9 +143,15 @@ def led_to(number):
     return " or ".join(f"{field} == {number}" for field in fields)
 
 
+# The version that a protocol's name by itself asks for, too.
+VERSIONS = {"icmp": "ip", "icmp6": "ipv6"}
+
+
 def protocol_pair(draw):
     name = draw.choice([*NAMES])
-    return draw.choice([name, f"leads-to {name}", f"leads-to {NAMES[name]}"]), led_to(NAMES[name])
+    if draw.randrange(3) == 0:
+        return name, f"({led_to(NAMES[name])})" + (f" and {VERSIONS[name]}" if name in VERSIONS else "")
+    return draw.choice([f"leads-to {name}", f"leads-to {NAMES[name]}"]), led_to(NAMES[name])
 
 
 def header_pair(draw):
@@ -175,7 +181,8 @@ def network_pair(draw):
 def message_pair(draw):
     field, values = draw.choice([("type", [0, 8, 128, 129]), ("code", [0, 1])])
     value = draw.choice(values)
-    return f"icmp-{field} {value}", f"icmp.{field} == {value} or icmpv6.{field} == {value}"
+    ours, theirs = draw.choice([("icmp", "icmp"), ("icmp6", "icmpv6")])
+    return f"{ours}-{field} {value}", f"{VERSIONS[ours]} and {theirs}.{field} == {value}"
 
 
 def flags_pair(draw):

@@ -123,13 +123,18 @@ fn messages_of_icmp() {
     let options = [&[58][..], &message[1..]].concat();
     check(
         &ipv6(10, 60, &options),
-        &["icmp6 and icmp-type 3 and icmp-code 4"],
-        &["icmp-type 58", "icmp-code 3", "icmp"],
+        &["icmp6 and icmp6-type 3 and icmp6-code 4"],
+        &["icmp6-type 58", "icmp6-code 3", "icmp", "icmp-type 3"],
     );
     check(
         &ipv4(1, &message[8..9]),
         &["icmp and icmp-type 3"],
-        &["icmp-code 4"],
+        &["icmp-code 4", "icmp6", "icmp6-type 3"],
+    );
+    check(
+        &ipv6(2, 1, &message[8..]),
+        &["leads-to icmp"],
+        &["icmp", "icmp6", "icmp-type 3", "icmp6-type 3"],
     );
 }
 
@@ -333,13 +338,15 @@ fn different_filters() {
             .map(str::to_owned)
             .collect();
     terms.extend(kinds.split(' ').map(|kind| format!("fault {kind}")));
-    terms.push("no-transport".to_owned());
+    terms.extend(["no-transport", "icmp", "icmp6", "leads-to icmp"].map(str::to_owned));
     for name in [
         "src port",
         "dst port",
         "port",
         "icmp-type",
         "icmp-code",
+        "icmp6-type",
+        "icmp6-code",
         "routing-type",
         "option",
     ] {

@@ -68,6 +68,14 @@ fn network(kind: u8, version: u8, address: (u64, u64), prefix_len: u8) -> Test {
     }
 }
 
+/// Returns the last test, of what follows the headers of a packet of this version.
+fn of_version(version: u8, protocol: u64) -> Test {
+    Test {
+        version,
+        ..number(27, protocol, PASSED, REFUSED)
+    }
+}
+
 /// Returns the last test, of flags.
 fn last(bits: u64) -> Test {
     flags(bits, PASSED, REFUSED)
@@ -169,6 +177,12 @@ fn terms_of_fields_and_ports(rt: HostRuntime) -> Result<(), Fail> {
         ("no-transport", number(19, 0, PASSED, REFUSED)),
         ("icmp-type 128", number(20, 128, PASSED, REFUSED)),
         ("icmp-code 0", number(21, 0, PASSED, REFUSED)),
+        ("icmp6-type 128", number(28, 128, PASSED, REFUSED)),
+        ("icmp6-code 255", number(29, 255, PASSED, REFUSED)),
+        ("icmp", of_version(4, 1)),
+        ("icmp6", of_version(6, 58)),
+        ("leads-to icmp", number(2, 1, PASSED, REFUSED)),
+        ("leads-to icmp6", number(2, 58, PASSED, REFUSED)),
         ("option 0xc2", number(25, 194, PASSED, REFUSED)),
         ("routing-type 4", number(23, 4, PASSED, REFUSED)),
         ("segments-left>=2", count(24, 6, 2)),
@@ -334,6 +348,8 @@ fn errors_in_arguments(rt: HostRuntime) -> Result<(), Fail> {
         ("net port 1", 4, Expected::Network),
         ("host 10.0.0.0/8", 5, Expected::Address),
         ("icmp-type 256", 10, Expected::Byte),
+        ("icmp6-type 256", 11, Expected::Byte),
+        ("icmp6-code", 10, Expected::Byte),
         ("option 256", 7, Expected::Byte),
         ("routing-type 256", 13, Expected::Byte),
         ("segments-left", 13, Expected::Comparison),

@@ -27,11 +27,17 @@ IsCountKeyword w = ((q : Quantity) × IsKeyword (keyword.Compared q) w) ⊎ IsKe
 abbrev pub IsNumberKeyword : Word → Type 0
 IsNumberKeyword w = IsKeyword (keyword.Number number.SecurityParameters) w ⊎ IsKeyword (keyword.Number number.Identification) w
 
+-- a type or code of ICMP follows
+abbrev pub IsIcmpKeyword : Word → Type 0
+IsIcmpKeyword w =
+    IsKeyword (keyword.Number number.IcmpType) w ⊎ (IsKeyword (keyword.Number number.IcmpCode) w
+    ⊎ (IsKeyword (keyword.Number number.Icmp6Type) w ⊎ IsKeyword (keyword.Number number.Icmp6Code) w))
+
 -- a number of 8 bits follows: a type of routing, a type of option, or a type or code of ICMP
 abbrev pub IsByteKeyword : Word → Type 0
 IsByteKeyword w =
     IsKeyword (keyword.Number number.RoutingType) w ⊎ (IsKeyword (keyword.Number number.Option) w
-    ⊎ (IsKeyword (keyword.Number number.IcmpType) w ⊎ IsKeyword (keyword.Number number.IcmpCode) w))
+    ⊎ IsIcmpKeyword w)
 
 -- a network or `port` follows
 abbrev pub IsSideKeyword : Word → Type 0

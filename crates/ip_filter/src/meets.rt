@@ -63,6 +63,12 @@ pub(crate) mod kind {
     pub const OPTION: u8 = 25;
 
     pub const LAYER: u8 = 26;
+
+    pub const VERSION_LEADS_TO: u8 = 27;
+
+    pub const ICMP6_TYPE: u8 = 28;
+
+    pub const ICMP6_CODE: u8 = 29;
 }
 
 impl Test {
@@ -98,6 +104,7 @@ impl Test {
             kind::DESTINATION => self.has_destination(&facts.packet),
             kind::EITHER => self.has_either(&facts.packet),
             kind::LAYER => { facts.has_one_of(self.address_low) && facts.is_in_layer(self.number) }
+            kind::VERSION_LEADS_TO => self.version_leads_to(&facts.packet),
             _ => self.is_met_in_payload(facts),
         }
     }
@@ -117,6 +124,8 @@ impl Test {
             kind::NO_TRANSPORT => facts.lacks_ports(),
             kind::ICMP_TYPE => self.is_number(facts.icmp_byte(ICMP_TYPE)),
             kind::ICMP_CODE => self.is_number(facts.icmp_byte(ICMP_CODE)),
+            kind::ICMP6_TYPE => self.is_number(facts.icmp6_byte(ICMP_TYPE)),
+            kind::ICMP6_CODE => self.is_number(facts.icmp6_byte(ICMP_CODE)),
             kind::TCP_FLAGS => {
                 self.has_tcp_flags(facts.packet.outline.next_header.0, facts.transport())
             },

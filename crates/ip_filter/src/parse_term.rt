@@ -134,6 +134,14 @@ fn read_number_term(keyword: NumberKeyword, text: &[u8]) -> ReadTerm<'_>
             let (number, rest) = read_number(text, 255, Expected::Byte)?;
             Ok((Term::IcmpCode(number as u8), rest))
         }
+        NumberKeyword::Icmp6Type => {
+            let (number, rest) = read_number(text, 255, Expected::Byte)?;
+            Ok((Term::Icmp6Type(number as u8), rest))
+        }
+        NumberKeyword::Icmp6Code => {
+            let (number, rest) = read_number(text, 255, Expected::Byte)?;
+            Ok((Term::Icmp6Code(number as u8), rest))
+        }
         NumberKeyword::TcpFlags => {
             let (flags, rest) = read_tcp_flags(text)?;
             Ok((Term::TcpFlags(flags), rest))

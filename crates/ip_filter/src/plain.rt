@@ -50,6 +50,7 @@ impl Test {
         match self.kind {
             kind::FLAGS => has_one_of(&facts.packet, facts.flags, self.number),
             kind::LEADS_TO => self.leads_to(&facts.packet),
+            kind::VERSION_LEADS_TO => self.version_leads_to(&facts.packet),
             kind::HEADERS => self.compares(Quantity::Headers, facts),
             kind::CHAIN_BYTES => self.compares(Quantity::ChainBytes, facts),
             kind::PAYLOAD => self.compares(Quantity::Payload, facts),

@@ -38,7 +38,9 @@ class Filter:
         header N                             an extension header: hop-by-hop (0), routing (43), fragment (44), authentication
                                              (51) or destination-options (60); in short hopopt, route, frag, ah or dstopts
         leads-to N                           the protocol after the headers: 0 to 255, as above, or a name from the next line
-        icmp, tcp, udp, dccp, gre, esp, icmp6, no-next, sctp, udp-lite       `leads-to` with this name
+        tcp, udp, dccp, gre, esp, no-next, sctp, udp-lite       `leads-to` with this name
+        icmp, icmp6                          ICMP (1) after the headers of an IPv4 packet, ICMPv6 (58) after those of an IPv6
+                                             packet; after `leads-to`, the number alone
         fragment, first-fragment, later-fragment
         truncated, incomplete
         truncated LAYER                      LAYER is IP-header, IPv4-header, IPv4-packet, authentication, IPv6-header,
@@ -60,7 +62,8 @@ class Filter:
         host A                               A is an IPv4 or IPv6 address
         src port P, dst port P, port P       P is a port or a range such as 1024-65535
         no-transport                         the payload should start with ports, but is too short for both
-        icmp-type N, icmp-code N             the type and the code of an ICMP or ICMPv6 message
+        icmp-type N, icmp-code N             the type and the code of an ICMP message of an IPv4 packet
+        icmp6-type N, icmp6-code N           those of an ICMPv6 message of an IPv6 packet
         tcp-flags LIST, tcp-flags LIST/LIST  these flags of TCP are set; of those after the slash, exactly these. LIST is a
                                              flag or several with commas between: fin, syn, rst, psh, ack, urg, ece, cwr
 

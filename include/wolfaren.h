@@ -864,7 +864,7 @@ enum wolfaren_test {
     WOLFAREN_TEST_HEADERS = 3,             /* the number of extension headers compares so with `number` */
     WOLFAREN_TEST_CHAIN_BYTES = 4,         /* the length of the extension headers in bytes does */
     WOLFAREN_TEST_PAYLOAD = 5,             /* the number of payload bytes that are present does */
-    WOLFAREN_TEST_SECURITY_PARAMETERS = 6, /* an authentication header has the security parameters index `number` */
+    WOLFAREN_TEST_SECURITY_PARAMETERS = 6, /* an authentication header or ESP has the security parameters index `number` */
     WOLFAREN_TEST_IDENTIFICATION = 7,      /* a fragment header, or an IPv4 fragment, has the identification `number` */
     WOLFAREN_TEST_SOURCE = 8,              /* the source address is in the network */
     WOLFAREN_TEST_DESTINATION = 9,         /* the destination address is in the network */
@@ -998,7 +998,9 @@ struct wolfaren_filter_error {
  *   hop-limit OP N, ttl OP N             the hop limit, or IPv4's time to live
  *   dscp OP N, ecn OP N                  the differentiated services code point; explicit congestion notification
  *   flow OP N                            the flow label; false of IPv4 packets
- *   spi N, id N
+ *   spi N                                the security parameters index of an authentication header, or of ESP after the
+ *                                        headers
+ *   id N                                 the identification of a fragment
  *   routing-type N                       a routing header of the packet has this type
  *   segments-left OP N                   the segments left of a routing header of the packet
  *   option N                             hop-by-hop or destination options have one of this type, and no malformed one

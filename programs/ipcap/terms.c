@@ -35,7 +35,7 @@ static const struct {
     {"version N", "the IP version, 4 or 6", "version 6"},
     {"ip", "as version 4", "ip"},
     {"ip6", "as version 6", "ip6"},
-    {"spi N", "the security parameters index", "spi 0x1000"},
+    {"spi N", "the security parameters index of AH or ESP", "spi 0x1000"},
     {"id N", "the identification of the fragment", "id 7"},
     {"routing-type N", "the type of a routing header", "routing-type 4"},
     {"segments-left OP N", "the segments left of a routing header", "segments-left > 0"},

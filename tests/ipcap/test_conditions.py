@@ -218,7 +218,7 @@ PAIRS = [
     lambda draw: compared(draw, "dscp", [0, 46], ("ip", "ip.dsfield.dscp", 0), ("ipv6", "ipv6.tclass.dscp", 0)),
     lambda draw: compared(draw, "ecn", [0, 3], ("ip", "ip.dsfield.ecn", 0), ("ipv6", "ipv6.tclass.ecn", 0)),
     lambda draw: compared(draw, "flow", FLOWS, ("ipv6", "ipv6.flow", 0)),
-    lambda draw: ("spi 1", "ah.spi == 1"),
+    lambda draw: ("spi 1", "ah.spi == 1 or esp.spi == 1"),
 ]
 
 

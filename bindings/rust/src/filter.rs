@@ -52,7 +52,7 @@ impl Filter {
     /// | `hop-limit OP N`, `ttl OP N` | the hop limit, or IPv4's time to live, compares so |
     /// | `dscp OP N`, `ecn OP N` | the differentiated services code point, or the explicit congestion notification, compares so |
     /// | `flow OP N` | the flow label compares so; false of IPv4 packets |
-    /// | `spi N` | an authentication header has this security parameters index |
+    /// | `spi N` | an authentication header has this security parameters index, or ESP after the headers |
     /// | `id N` | the fragment has this identification |
     /// | `routing-type N` | a routing header has this type |
     /// | `segments-left OP N` | the segments left of a routing header compare so |

@@ -139,6 +139,13 @@ fn messages_of_icmp() {
 }
 
 #[test]
+fn indices_of_esp() {
+    let options = [50, 0, 1, 4, 0, 0, 0, 0, 1, 2, 3, 4];
+    check(&ipv6(12, 60, &options), &["spi 0x01020304"], &["spi 258"]);
+    check(&ipv4(50, &options[8..11]), &["esp"], &["spi 0x010203"]);
+}
+
+#[test]
 fn options() {
     let headers = [60, 0, 0, 5, 2, 0, 9, 0, 59, 0, 30, 0, 31, 3, 0, 0];
     let matching = ["option 0 and option 5", "option 30"];

@@ -94,8 +94,8 @@ const IPV6_PLAIN: [Ipv6Row; 7] = [
         Row {
             name: "ESP, whose bytes would be a fragment header",
             is_plain: true,
-            holding: &["leads-to esp and payload = 8"],
-            others: &["header frag", "fragment", "header ah or id 1"],
+            holding: &["leads-to esp and payload = 8", "spi 0x2c000001"],
+            others: &["header frag", "fragment", "header ah or id 1 or spi 1"],
         },
     ),
     (

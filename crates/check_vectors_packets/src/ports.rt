@@ -255,6 +255,45 @@ fn icmp_of_the_other_version(rt: HostRuntime) -> Result<(), Fail> {
     Ok(())
 }
 
+/// The security parameters index of ESP is its first 4 bytes (RFC 4303, section 2.1).
+#[test]
+fn indices_of_esp(rt: HostRuntime) -> Result<(), Fail> {
+    let alloc = rt.alloc();
+    let esp = [1, 2, 3, 4, 0, 0, 0, 5];
+    let others = ["spi 5", "spi 0", "spi 258"];
+    let bytes = ipv4_bytes(alloc, 0x45, 28, [0, 0], 50, &esp)?;
+    check(&rt, "IPv4", bytes.as_slice(), &["spi 0x01020304"], &others);
+    let auth = [50, 1, 0, 80, 0, 0, 1, 2, 0, 0, 0, 3, 1, 2, 3, 4];
+    let bytes = ipv6_bytes(alloc, 16, 51, &auth)?;
+    let holding = ["spi 258 and spi 0x01020304"];
+    check(&rt, "both", bytes.as_slice(), &holding, &["spi 3"]);
+    let options = [50, 0, 1, 4, 0, 0, 0, 0, 1, 2, 3];
+    let bytes = ipv6_bytes(alloc, 11, 60, &options)?;
+    let others = ["spi 0x010203", "spi 0x01020300"];
+    check(&rt, "3 bytes", bytes.as_slice(), &["esp"], &others);
+    let first = [50, 0, 0, 1, 0, 0, 0, 9, 1, 2, 3, 4, 0, 0, 0, 5];
+    let bytes = ipv6_bytes(alloc, 16, 44, &first)?;
+    check(
+        &rt,
+        "first",
+        bytes.as_slice(),
+        &["spi 0x01020304 and first-fragment"],
+        &["spi 9"],
+    );
+    let last = [50, 0, 0, 8, 0, 0, 0, 9, 1, 2, 3, 4, 0, 0, 0, 5];
+    let bytes = ipv6_bytes(alloc, 16, 44, &last)?;
+    check(
+        &rt,
+        "last",
+        bytes.as_slice(),
+        &["esp"],
+        &["spi 0x01020304", "spi 9"],
+    );
+    let bytes = ipv6_bytes(alloc, 8, 17, &esp)?;
+    check(&rt, "UDP", bytes.as_slice(), &["udp"], &["spi 0x01020304"]);
+    Ok(())
+}
+
 #[test]
 fn fields_of_base_headers(rt: HostRuntime) -> Result<(), Fail> {
     let alloc = rt.alloc();

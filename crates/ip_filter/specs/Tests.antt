@@ -3,7 +3,7 @@ use Rattle.std.specs.Prelude.{ℕ, ◌+◌, ◌*◌, ◌^◌, ◌==◌, ◌&&◌
 use Rattle.std.specs.List.{list_any}
 use Rattle.std.specs.Option.{option_map, option_map_or}
 use Rattle.ip_dissect.specs.Dissection.{DissectedParts, dissected}
-use Rattle.ip_filter.specs.Transport.{source_port, destination_port, lacks_ports, icmp_byte, icmp6_byte, tcp_flags}
+use Rattle.ip_filter.specs.Transport.{source_port, destination_port, lacks_ports, icmp_byte, icmp6_byte, esp_spi, tcp_flags}
 use Rattle.ip_filter.specs.Truth.{is_in_layer, compares, has_base, has_source, has_destination, some_fragment, quantity_of}
 use Rattle.ip_filter.specs.HeaderFields.{has_option, has_spi, has_routing_type, has_segments_left}
 use Rattle.ip_filter.specs.Flags.{any_flag}
@@ -68,7 +68,7 @@ meets x p =
     else if x.kind == 3 then compared x Headers p
     else if x.kind == 4 then compared x ChainBytes p
     else if x.kind == 5 then compared x Payload p
-    else if x.kind == 6 then list_any (has_spi x.number) p.headers
+    else if x.kind == 6 then list_any (has_spi x.number) p.headers || option_map_or (λ n. n == x.number) (esp_spi p) false
     else if x.kind == 7 then some_fragment (λ y. y.identification == x.number) p
     else if x.kind == 8 then option_map_or (λ n. has_source n p) (network_in x) false
     else if x.kind == 9 then option_map_or (λ n. has_destination n p) (network_in x) false

@@ -1,6 +1,6 @@
 -- What follows the headers: the header of a transport protocol, or an ICMP message.
 use Rattle.std.specs.Prelude.{ℕ, ◌+◌, List, [], length, slice_index, slice_range, bit_and, Bool, true, false, ◌==◌, ◌&&◌, ◌||◌, nat_lt, nat_le, if◌then◌else◌, Option, Some, None}
-use Rattle.std.specs.Int.{from_be_bytes, w16}
+use Rattle.std.specs.Int.{from_be_bytes, w16, w32}
 use Rattle.ip_dissect.specs.Dissection.{DissectedParts}
 use Rattle.ip_dissect.specs.declared.end.End.{End}
 use Rattle.ip_dissect.specs.declared.end.End.TheVariants as end
@@ -58,6 +58,10 @@ icmp_byte i p = if is_icmp p then transport_byte i p else None
 
 abbrev pub icmp6_byte : ℕ → DissectedParts → Option ℕ
 icmp6_byte i p = if is_icmp6 p then transport_byte i p else None
+
+-- The security parameters index of ESP (RFC 4303, section 2.1): the first 32 bits, if they are there.
+abbrev pub esp_spi : DissectedParts → Option ℕ
+esp_spi p = if (p.number == 50) && nat_le 4 (length (transport_of p)) then Some (from_be_bytes w32 (slice_range (transport_of p) 0 4)) else None
 
 -- byte 13 of a TCP header (RFC 9293, section 3.1), if it is there: from the high bit CWR, ECE, URG, ACK, PSH, RST, SYN, FIN
 abbrev pub tcp_flags : DissectedParts → Option ℕ

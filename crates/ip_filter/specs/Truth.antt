@@ -23,7 +23,7 @@ use Rattle.ip_dissect.specs.declared.end.End.TheVariants as end
 use Rattle.ip_base.specs.BaseHeaderFields.{ipv4_ttl, ipv4_dscp, ipv4_ecn, ipv6_hop_limit, ipv6_traffic_class, ipv6_flow_label}
 use Rattle.ip_filter.specs.Network.{ipv4_lies_in, ipv6_lies_in}
 use Rattle.ip_filter.specs.HeaderFields.{has_option, has_spi, has_routing_type, has_segments_left}
-use Rattle.ip_filter.specs.Transport.{source_port, destination_port, lacks_ports, is_icmp, is_icmp6, icmp_byte, icmp6_byte, tcp_flags, is_port_in, are_set}
+use Rattle.ip_filter.specs.Transport.{source_port, destination_port, lacks_ports, is_icmp, is_icmp6, icmp_byte, icmp6_byte, esp_spi, tcp_flags, is_port_in, are_set}
 use Rattle.ip_filter.specs.declared.network.Network.{Network}
 use Rattle.ip_filter.specs.declared.term.Comparison.{Comparison}
 use Rattle.ip_filter.specs.declared.term.Comparison.TheVariants as by
@@ -145,7 +145,7 @@ holds (term.FaultOf kind) p = option_map_or (λ k. kind_index k == kind_index ki
 holds (term.TruncatedAt l) p = is_truncated p.end && is_in_layer (layer_code l) p.end
 holds (term.FaultAt kind l) p = option_map_or (λ k. kind_index k == kind_index kind) (fault_in p.end) false && is_in_layer (layer_code l) p.end
 holds (term.Compared q c n) p = option_map_or (λ x. compares c x n) (quantity_of q p) false
-holds (term.SecurityParameters i) p = list_any (has_spi i) p.headers
+holds (term.SecurityParameters i) p = list_any (has_spi i) p.headers || option_map_or (λ x. x == i) (esp_spi p) false
 holds (term.Option n) p = list_any (has_option n) p.headers
 holds (term.RoutingType n) p = list_any (has_routing_type n) p.headers
 holds (term.SegmentsLeft c n) p = list_any (has_segments_left (λ x. compares c x n)) p.headers

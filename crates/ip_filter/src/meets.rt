@@ -2,12 +2,12 @@
 ghost use Rattle.std.specs.Prelude.{◌≡◌, ◌==◌, bit_and, false};
 ghost use Rattle.std.specs.Option.{option_map_or};
 ghost use Rattle.ip_dissect.specs.Dissection.{DissectedParts, dissected};
-ghost use Rattle.ip_filter.specs.Transport.{transport_of, tcp_flags};
+ghost use Rattle.ip_filter.specs.Transport.{transport_of, esp_spi, tcp_flags};
 ghost use Rattle.ip_filter.specs.Tests.{comparison_in, network_in, compared, is_in_range, meets, meets_in_payload};
 
 use crate::facts::Facts;
 use crate::header_condition::HeaderCondition;
-use crate::transport::{DESTINATION_PORT, ICMP_CODE, ICMP_TYPE, SOURCE_PORT, tcp_flags};
+use crate::transport::{DESTINATION_PORT, ICMP_CODE, ICMP_TYPE, SOURCE_PORT, esp_spi, tcp_flags};
 use crate::{Comparison, Network, Quantity, Test};
 
 /// The kinds of tests.
@@ -90,6 +90,7 @@ impl Test {
             kind::FLOW_LABEL => self.compares(Quantity::FlowLabel, facts),
             kind::SECURITY_PARAMETERS => {
                 facts.has_header(HeaderCondition::SecurityParameters(self.number))
+                    || self.has_esp_spi(facts.packet.outline.next_header.0, facts.transport())
             }
             kind::OPTION => facts.has_header(HeaderCondition::Option(self.number)),
             kind::ROUTING_TYPE => facts.has_header(HeaderCondition::RoutingType(self.number)),
@@ -178,6 +179,18 @@ impl Test {
             (tcp_flags p) false }
     {
         self.has_bits(tcp_flags(number, transport))
+    }
+
+    /// Returns whether ESP follows with the security parameters index of the test. Not inlined, as `has_tcp_flags`.
+    #[inline(never)]
+    pub(crate) fn has_esp_spi(&self, number: u8, transport: &[u8]) -> bool
+        ensures { (p : DissectedParts) → p.number ≡ number → transport_of p ≡ transport.now
+            → result ≡ option_map_or (λ n. n == self.now.number) (esp_spi p) false }
+    {
+        match esp_spi(number, transport) {
+            Some(spi) => u64::from(spi) == self.number,
+            None => false,
+        }
     }
 
     /// Returns whether the flags are there, and those that count are the number of the test.

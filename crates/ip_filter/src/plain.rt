@@ -63,8 +63,11 @@ impl Test {
             kind::SOURCE => self.has_source(&facts.packet),
             kind::DESTINATION => self.has_destination(&facts.packet),
             kind::EITHER => self.has_either(&facts.packet),
+            // of an authentication header there is none
+            kind::SECURITY_PARAMETERS => {
+                self.has_esp_spi(facts.packet.outline.next_header.0, facts.transport())
+            }
             // asked of an extension header
-            kind::SECURITY_PARAMETERS => false,
             kind::OPTION => false,
             kind::ROUTING_TYPE => false,
             kind::SEGMENTS_LEFT => false,

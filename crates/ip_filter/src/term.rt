@@ -105,7 +105,8 @@ pub enum Term {
     FaultAt(FaultKind, Layer),
     /// The packet has this quantity, and it compares so.
     Compared(Quantity, Comparison, u64),
-    /// An authentication header has this security parameters index (RFC 4302, section 2.4).
+    /// An authentication header has this security parameters index (RFC 4302, section 2.4), or ESP, which the headers lead to
+    /// (RFC 4303, section 2.1). A later fragment has no index of ESP.
     SecurityParameters(u32),
     /// A routing header has this type (RFC 8200, section 4.4).
     RoutingType(u8),

@@ -1,7 +1,7 @@
-//! Ports, and the types of ICMP: what the payload begins with.
+//! Ports, the types of ICMP and the index of ESP: what the payload begins with.
 ghost use Rattle.std.specs.Prelude.{◌≡◌, ◌≤◌, ◌+◌};
 ghost use Rattle.ip_dissect.specs.Dissection.{DissectedParts, dissected};
-ghost use Rattle.ip_filter.specs.Transport.{is_at_payload, transport_of, has_ports, port_at, transport_byte, icmp_byte, icmp6_byte, tcp_flags, lacks_ports};
+ghost use Rattle.ip_filter.specs.Transport.{is_at_payload, transport_of, has_ports, port_at, transport_byte, icmp_byte, icmp6_byte, esp_spi, tcp_flags, lacks_ports};
 
 use crate::facts::Facts;
 
@@ -14,6 +14,8 @@ pub(crate) mod protocol {
     pub const UDP: u8 = 17;
 
     pub const DCCP: u8 = 33;
+
+    pub const ESP: u8 = 50;
 
     pub const ICMP6: u8 = 58;
 
@@ -123,6 +125,18 @@ impl<'a> Facts<'a> {
         ensures { result ≡ is_at_payload (dissected self.now.packet.bytes.now).end }
     {
         !self.packet.outline.has_error && !self.packet.outline.is_later_fragment
+    }
+}
+
+/// Returns the security parameters index, if the payload begins with one of ESP and it is there.
+#[inline(always)]
+pub(crate) fn esp_spi(number: u8, transport: &[u8]) -> Option<u32>
+    ensures { (p : DissectedParts) → p.number ≡ number → transport_of p ≡ transport.now → result ≡ esp_spi p }
+{
+    if number == protocol::ESP && 4 <= transport.len() {
+        Some(u32::from_be_bytes([transport[0], transport[1], transport[2], transport[3]]))
+    } else {
+        None
     }
 }
 

@@ -53,7 +53,9 @@ class Filter:
         hop-limit OP N, ttl OP N             the hop limit, or IPv4's time to live
         dscp OP N, ecn OP N                  the differentiated services code point; explicit congestion notification
         flow OP N                            the flow label; false of IPv4 packets
-        spi N, id N
+        spi N                                the security parameters index of an authentication header, or of ESP after the
+                                             headers
+        id N                                 the identification of a fragment
         routing-type N                       a routing header of the packet has this type
         segments-left OP N                   the segments left of a routing header of the packet
         option N                             hop-by-hop or destination options have one of this type, and no malformed one

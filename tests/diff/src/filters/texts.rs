@@ -213,7 +213,13 @@ fn term(packet: &[u8], random: &mut Random, words: &mut Vec<String>) {
             word(words, tcp_flags(packet, random));
         }
         18 => {
-            word(words, one_of(&["icmp-type", "icmp-code", "icmp6-type", "icmp6-code"], random));
+            word(
+                words,
+                one_of(
+                    &["icmp-type", "icmp-code", "icmp6-type", "icmp6-code"],
+                    random,
+                ),
+            );
             word(words, byte(packet, random));
         }
         _ => {

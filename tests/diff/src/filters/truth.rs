@@ -12,6 +12,8 @@ const AUTH: u8 = 51;
 
 const TCP: u8 = 6;
 
+const ESP: u8 = 50;
+
 /// The protocols whose headers begin with the source and the destination port, of 2 bytes each: TCP, UDP, DCCP, SCTP and
 /// UDP-Lite.
 const WITH_PORTS: [u8; 5] = [6, 17, 33, 132, 136];
@@ -60,10 +62,19 @@ fn is_met(term: &Term, packet: &Dissected<'_>) -> bool {
         Term::Compared(quantity, comparison) => {
             value(*quantity, packet).is_some_and(|value| compares(value, comparison))
         }
-        Term::Spi(index) => packet.headers.iter().any(|(number, bytes)| {
-            *number == AUTH
-                && u64::from(u32::from_be_bytes([bytes[4], bytes[5], bytes[6], bytes[7]])) == *index
-        }),
+        Term::Spi(index) => {
+            let indices = packet
+                .headers
+                .iter()
+                .filter(|(number, _)| *number == AUTH)
+                .map(|(_, bytes)| &bytes[4..8]);
+            let esp = upper_layer(packet, &[ESP]).and_then(|bytes| bytes.get(..4));
+            indices.chain(esp).any(|it| {
+                it.iter()
+                    .fold(0, |index, byte| index << 8 | u64::from(*byte))
+                    == *index
+            })
+        }
         Term::Option(number) => packet
             .headers
             .iter()

@@ -58,7 +58,7 @@
 #define WOLFAREN_VERSION (10000 * WOLFAREN_VERSION_MAJOR + 100 * WOLFAREN_VERSION_MINOR + WOLFAREN_VERSION_PATCH)
 
 /* A checksum of the structs, numbers and calls in this header, made by scripts/abi of the repository. */
-#define WOLFAREN_ABI 0xfa89a4f9u
+#define WOLFAREN_ABI 0xf8005f5du
 
 #if !(defined(__x86_64__) && !defined(__ILP32__)) && !defined(_M_X64) && !defined(__aarch64__) && !defined(_M_ARM64)
 #error "libwolfaren needs a 64-bit machine: x86-64 or ARM64"
@@ -965,7 +965,9 @@ enum wolfaren_expected {
     WOLFAREN_EXPECTED_NETWORK_OR_PORT = 14,   /* an address, a prefix or `port` */
     WOLFAREN_EXPECTED_ADDRESS = 15,           /* an address */
     WOLFAREN_EXPECTED_PORTS = 16,             /* a port or a range of ports */
-    WOLFAREN_EXPECTED_TCP_FLAGS = 17          /* flags of TCP */
+    WOLFAREN_EXPECTED_TCP_FLAGS = 17,         /* flags of TCP */
+    WOLFAREN_EXPECTED_ICMP_TYPE = 18,         /* the number or name of a type of ICMP */
+    WOLFAREN_EXPECTED_ICMP6_TYPE = 19         /* the number or name of a type of ICMPv6 */
 };
 
 /* Where the text of a filter is wrong. */
@@ -1009,14 +1011,25 @@ struct wolfaren_filter_error {
  *   host A                               A is an IPv4 or IPv6 address
  *   src port P, dst port P, port P       P is a port or a range such as 1024-65535
  *   no-transport                         the payload should start with ports, but is too short for both
- *   icmp-type N, icmp-code N             the type and the code of an ICMP message of an IPv4 packet
- *   icmp6-type N, icmp6-code N           those of an ICMPv6 message of an IPv6 packet
+ *   icmp-type T, icmp-code N             the type and the code of an ICMP message of an IPv4 packet; T is a number or a name
+ *   icmp6-type T, icmp6-code N           those of an ICMPv6 message of an IPv6 packet
  *   tcp-flags LIST, tcp-flags LIST/LIST  these flags of TCP are set; of those after the slash, exactly these. LIST is a
  *                                        flag or several with commas between: fin, syn, rst, psh, ack, urg, ece, cwr
  *
  * TCP, UDP, UDP-Lite, SCTP and DCCP have ports. Ports, types, codes and flags of TCP are read from the payload, so extension
  * headers may precede them. A later fragment has none, nor has a packet with an error or a truncated header. The terms about
  * fragments hold of an IPv6 packet if they do of one of its fragment headers.
+ *
+ * These are the names of types, those of libpcap's expressions:
+ * icmp-echoreply, icmp-unreach, icmp-sourcequench, icmp-redirect, icmp-echo, icmp-routeradvert, icmp-routersolicit,
+ * icmp-timxceed, icmp-paramprob, icmp-tstamp, icmp-tstampreply, icmp-ireq, icmp-ireqreply, icmp-maskreq, icmp-maskreply.
+ * icmp6-destinationunreach, icmp6-packettoobig, icmp6-timeexceeded, icmp6-parameterproblem, icmp6-echo, icmp6-echoreply,
+ * icmp6-multicastlistenerquery, icmp6-multicastlistenerreportv1, icmp6-multicastlistenerdone, icmp6-routersolicit,
+ * icmp6-routeradvert, icmp6-neighborsolicit, icmp6-neighboradvert, icmp6-redirect, icmp6-routerrenum,
+ * icmp6-nodeinformationquery, icmp6-nodeinformationresponse, icmp6-ineighbordiscoverysolicit,
+ * icmp6-ineighbordiscoveryadvert, icmp6-multicastlistenerreportv2, icmp6-homeagentdiscoveryrequest,
+ * icmp6-homeagentdiscoveryreply, icmp6-mobileprefixsolicit, icmp6-mobileprefixadvert, icmp6-certpathsolicit,
+ * icmp6-certpathadvert, icmp6-multicastrouteradvert, icmp6-multicastroutersolicit, icmp6-multicastrouterterm.
  *
  * Numbers are decimal, or hexadecimal after 0x. On success, returns true and fills in `filter`, whose count is at most
  * WOLFAREN_FILTER_TESTS; `error` is left unchanged. On error, returns false and stores in `error` what is expected where;

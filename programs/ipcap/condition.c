@@ -147,6 +147,10 @@ static const struct {
     {"proto", "leads-to PROTOCOL"},
     {"protochain", "header N, or leads-to N"},
     {"tcp[tcpflags]", "tcp-flags FLAGS"},
+    {"icmp[icmptype]", "icmp-type TYPE"},
+    {"icmp[icmpcode]", "icmp-code N"},
+    {"icmp6[icmp6type]", "icmp6-type TYPE"},
+    {"icmp6[icmp6code]", "icmp6-code N"},
 };
 
 /* Says what is written instead of libpcap's `proto` if the word after it is an extension header. Returns whether it is. */

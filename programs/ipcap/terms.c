@@ -48,9 +48,9 @@ static const struct {
     {"dst port PORTS", "the destination port is one of these", "dst port 443"},
     {"port PORTS", "either port is one of these", "port 53"},
     {"no-transport", "the payload is too short for its ports", "no-transport"},
-    {"icmp-type N", "the type of an ICMP message of IPv4", "icmp-type 8"},
+    {"icmp-type TYPE", "the type of an ICMP message of IPv4", "icmp-type icmp-echo"},
     {"icmp-code N", "the code of an ICMP message of IPv4", "icmp-code 0"},
-    {"icmp6-type N", "the type of an ICMPv6 message of IPv6", "icmp6-type 128"},
+    {"icmp6-type TYPE", "the type of an ICMPv6 message of IPv6", "icmp6-type icmp6-echo"},
     {"icmp6-code N", "the code of an ICMPv6 message of IPv6", "icmp6-code 0"},
     {"tcp-flags FLAGS", "these flags of TCP are set", "tcp-flags syn/syn,ack"},
 };
@@ -65,6 +65,7 @@ static const char arguments[] =
     "KIND      too-short, not-at-start, zero-length, unsupported-version, header-length\n"
     "LAYER     IP-header, IPv4-header, IPv4-packet, authentication, IPv6-header, IPv6-packet, IPv6-extension, hop-by-hop,\n"
     "          destination-options, routing, fragment\n"
+    "TYPE      a number from 0 to 255, or its name in libpcap's expressions, as in the manual page\n"
     "N         a decimal number, or a hexadecimal one after 0x\n"
     "NETWORK   an IPv4 or IPv6 address, alone or with a slash and a number of bits\n"
     "ADDRESS   an IPv4 or IPv6 address\n"

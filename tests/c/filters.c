@@ -85,7 +85,11 @@ static void refused(void)
     check_refused("not header 50", 11, WOLFAREN_EXPECTED_HEADER,
                   "0 (`hop-by-hop`), 43 (`routing`), 44 (`fragment`), 51 (`authentication`), 60 (`destination-options`), "
                   "or `leads-to N` in place of `header N`");
-    check_refused("icmp-type 256", 10, WOLFAREN_EXPECTED_BYTE, "a number from 0 to 255");
+    check_refused("icmp-code 256", 10, WOLFAREN_EXPECTED_BYTE, "a number from 0 to 255");
+    check_refused("icmp-type 256", 10, WOLFAREN_EXPECTED_ICMP_TYPE,
+                  "a number from 0 to 255 or the name of a type, as icmp-echo");
+    check_refused("icmp6-type icmp-echo", 11, WOLFAREN_EXPECTED_ICMP6_TYPE,
+                  "a number from 0 to 255 or the name of a type, as icmp6-echo");
     check_refused("src x", 4, WOLFAREN_EXPECTED_NETWORK_OR_PORT, "an address, a prefix or `port`");
     check_refused("net x", 4, WOLFAREN_EXPECTED_NETWORK, "an address or a prefix");
     check_refused("host ::1/64", 5, WOLFAREN_EXPECTED_ADDRESS, "an address");
@@ -95,7 +99,7 @@ static void refused(void)
     struct wolfaren_filter filter;
     struct wolfaren_filter_error error;
     check(!wolfaren_parse_filter(NULL, 0, &filter, &error) && error.offset == 0, "no text");
-    check(wolfaren_expected_text(0, NULL, 0) == 0 && wolfaren_expected_text(18, NULL, 0) == 0, "an unknown code");
+    check(wolfaren_expected_text(0, NULL, 0) == 0 && wolfaren_expected_text(20, NULL, 0) == 0, "an unknown code");
 }
 
 static uint8_t next_byte(void)
@@ -278,6 +282,8 @@ static void parsed_tests(void)
         {"icmp-type 128", WOLFAREN_TEST_ICMP_TYPE, 128, 0},
         {"icmp-code 255", WOLFAREN_TEST_ICMP_CODE, 255, 0},
         {"icmp6-type 128", WOLFAREN_TEST_ICMP6_TYPE, 128, 0},
+        {"icmp6-type icmp6-redirect", WOLFAREN_TEST_ICMP6_TYPE, 137, 0},
+        {"icmp-type icmp-redirect", WOLFAREN_TEST_ICMP_TYPE, 5, 0},
         {"icmp6-code 255", WOLFAREN_TEST_ICMP6_CODE, 255, 0},
         {"icmp", WOLFAREN_TEST_VERSION_LEADS_TO, 1, 0},
         {"icmp6", WOLFAREN_TEST_VERSION_LEADS_TO, 58, 0},

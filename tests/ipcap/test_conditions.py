@@ -1,6 +1,7 @@
 """Tests of the conditions of `ipcap filter` on random packets, with tshark and tcpdump as judges. Conditions are made at
 random of pairs of terms: one of ours, and the display filter or the expression of libpcap that has the same meaning."""
 
+import os
 import random
 import re
 import shutil
@@ -341,6 +342,32 @@ def libpcap_agrees(harness):
     path = harness.file(capture([ethernet(packet) for packet in packets]))
     for ours, theirs in conditions(draw, 100, LIBPCAP_PAIRS):
         harness.equal(found_by_ipcap(harness, path, ours), found_by_libpcap(harness, path, theirs), ours, "is", theirs)
+
+
+MANUAL = os.path.join(os.path.dirname(os.path.abspath(__file__)), "..", "..", "programs", "ipcap", "ipcap.1")
+
+
+def types_in_the_manual(term):
+    """Returns the names of types that the manual page lists for a term."""
+    with open(MANUAL) as file:
+        _, _, paragraph = file.read().partition(f'.BI "{term} " TYPE\n')
+    return re.findall(r"^\.BR \\%(icmp6?-\w+)", paragraph.partition(".TP")[0], re.M)
+
+
+def libpcap_names_types(harness):
+    """Each name of a type of ICMP and ICMPv6 is the number that libpcap takes it for."""
+    if not shutil.which("tcpdump"):
+        print("libpcap's names of types: skipped, tcpdump missing")
+        return
+    for protocol, count in [("icmp", 15), ("icmp6", 29)]:
+        names = types_in_the_manual(f"{protocol}-type")
+        harness.equal(len(names), count, protocol)
+        for name in names:
+            code = subprocess.run(["tcpdump", "-y", "EN10MB", "-d", f"{protocol}[0] == {name}"], stdout=subprocess.PIPE).stdout
+            number = int(re.findall(rb"jeq +#(0x[0-9a-f]+)", code)[-1], 16)
+            shown = [harness.run("filter", "--show", f"{protocol}-type {it}")[:2] for it in (name, number)]
+            harness.equal(shown[0], shown[1], name)
+            harness.equal(shown[0][0], 0, name)
 
 
 def first_number(packet):

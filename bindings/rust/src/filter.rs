@@ -61,8 +61,8 @@ impl Filter {
     /// | `host A` | the source or the destination is this address |
     /// | `src port P`, `dst port P`, `port P` | the source port, the destination port or one of them is in this range: a port, or a range such as `1024-65535` |
     /// | `no-transport` | the payload should start with ports, but is too short for both |
-    /// | `icmp-type N`, `icmp-code N` | the payload of an IPv4 packet is an ICMP message of this type or with this code |
-    /// | `icmp6-type N`, `icmp6-code N` | the payload of an IPv6 packet is an ICMPv6 message of this type or with this code |
+    /// | `icmp-type T`, `icmp-code N` | the payload of an IPv4 packet is an ICMP message of this type or with this code; `T` is a number, or a name of libpcap's such as `icmp-echo` |
+    /// | `icmp6-type T`, `icmp6-code N` | the payload of an IPv6 packet is an ICMPv6 message of this type or with this code; `T` may be a name such as `icmp6-echo` |
     /// | `tcp-flags LIST`, `tcp-flags LIST/LIST` | these flags of TCP are set; of those after the slash, exactly these. `LIST` is a flag or several with commas between: `fin`, `syn`, `rst`, `psh`, `ack`, `urg`, `ece`, `cwr` |
     ///
     /// TCP, UDP, UDP-Lite, SCTP and DCCP have ports. Ports, types, codes and flags of TCP are read from the payload, so

@@ -466,6 +466,18 @@ fn refused_texts() {
         ),
         ("icmp-code x", 10, Expected::Byte, "a number from 0 to 255"),
         (
+            "icmp-type x",
+            10,
+            Expected::IcmpType,
+            "a number from 0 to 255 or the name of a type, as icmp-echo",
+        ),
+        (
+            "icmp6-type 256",
+            11,
+            Expected::Icmp6Type,
+            "a number from 0 to 255 or the name of a type, as icmp6-echo",
+        ),
+        (
             "tcp-flags syn/",
             10,
             Expected::TcpFlags,

@@ -200,6 +200,168 @@ fn terms_of_fields_and_ports(rt: HostRuntime) -> Result<(), Fail> {
     Ok(())
 }
 
+/// The names of libpcap's expressions, with the numbers of IANA's registry of ICMP types.
+#[test]
+fn names_of_icmp_types(rt: HostRuntime) -> Result<(), Fail> {
+    let rows = [
+        ("icmp-type icmp-echoreply", number(20, 0, PASSED, REFUSED)),
+        ("icmp-type icmp-unreach", number(20, 3, PASSED, REFUSED)),
+        (
+            "icmp-type icmp-sourcequench",
+            number(20, 4, PASSED, REFUSED),
+        ),
+        ("icmp-type icmp-redirect", number(20, 5, PASSED, REFUSED)),
+        ("icmp-type icmp-echo", number(20, 8, PASSED, REFUSED)),
+        (
+            "icmp-type icmp-routeradvert",
+            number(20, 9, PASSED, REFUSED),
+        ),
+        (
+            "icmp-type icmp-routersolicit",
+            number(20, 10, PASSED, REFUSED),
+        ),
+        ("icmp-type icmp-timxceed", number(20, 11, PASSED, REFUSED)),
+        ("icmp-type icmp-paramprob", number(20, 12, PASSED, REFUSED)),
+        ("icmp-type icmp-tstamp", number(20, 13, PASSED, REFUSED)),
+        (
+            "icmp-type icmp-tstampreply",
+            number(20, 14, PASSED, REFUSED),
+        ),
+        ("icmp-type icmp-ireq", number(20, 15, PASSED, REFUSED)),
+        ("icmp-type icmp-ireqreply", number(20, 16, PASSED, REFUSED)),
+        ("icmp-type icmp-maskreq", number(20, 17, PASSED, REFUSED)),
+        ("icmp-type icmp-maskreply", number(20, 18, PASSED, REFUSED)),
+    ];
+    for (text, wanted) in &rows {
+        check(&rt, text, &[*wanted]);
+    }
+    Ok(())
+}
+
+/// The names of libpcap's expressions, with the numbers of IANA's registry of ICMPv6 types.
+#[test]
+fn names_of_icmp6_types(rt: HostRuntime) -> Result<(), Fail> {
+    let rows = [
+        (
+            "icmp6-type icmp6-destinationunreach",
+            number(28, 1, PASSED, REFUSED),
+        ),
+        (
+            "icmp6-type icmp6-packettoobig",
+            number(28, 2, PASSED, REFUSED),
+        ),
+        (
+            "icmp6-type icmp6-timeexceeded",
+            number(28, 3, PASSED, REFUSED),
+        ),
+        (
+            "icmp6-type icmp6-parameterproblem",
+            number(28, 4, PASSED, REFUSED),
+        ),
+        ("icmp6-type icmp6-echo", number(28, 128, PASSED, REFUSED)),
+        (
+            "icmp6-type icmp6-echoreply",
+            number(28, 129, PASSED, REFUSED),
+        ),
+        (
+            "icmp6-type icmp6-multicastlistenerquery",
+            number(28, 130, PASSED, REFUSED),
+        ),
+        (
+            "icmp6-type icmp6-multicastlistenerreportv1",
+            number(28, 131, PASSED, REFUSED),
+        ),
+        (
+            "icmp6-type icmp6-multicastlistenerdone",
+            number(28, 132, PASSED, REFUSED),
+        ),
+        (
+            "icmp6-type icmp6-routersolicit",
+            number(28, 133, PASSED, REFUSED),
+        ),
+        (
+            "icmp6-type icmp6-routeradvert",
+            number(28, 134, PASSED, REFUSED),
+        ),
+        (
+            "icmp6-type icmp6-neighborsolicit",
+            number(28, 135, PASSED, REFUSED),
+        ),
+        (
+            "icmp6-type icmp6-neighboradvert",
+            number(28, 136, PASSED, REFUSED),
+        ),
+        (
+            "icmp6-type icmp6-redirect",
+            number(28, 137, PASSED, REFUSED),
+        ),
+        (
+            "icmp6-type icmp6-routerrenum",
+            number(28, 138, PASSED, REFUSED),
+        ),
+        (
+            "icmp6-type icmp6-nodeinformationquery",
+            number(28, 139, PASSED, REFUSED),
+        ),
+        (
+            "icmp6-type icmp6-nodeinformationresponse",
+            number(28, 140, PASSED, REFUSED),
+        ),
+        (
+            "icmp6-type icmp6-ineighbordiscoverysolicit",
+            number(28, 141, PASSED, REFUSED),
+        ),
+        (
+            "icmp6-type icmp6-ineighbordiscoveryadvert",
+            number(28, 142, PASSED, REFUSED),
+        ),
+        (
+            "icmp6-type icmp6-multicastlistenerreportv2",
+            number(28, 143, PASSED, REFUSED),
+        ),
+        (
+            "icmp6-type icmp6-homeagentdiscoveryrequest",
+            number(28, 144, PASSED, REFUSED),
+        ),
+        (
+            "icmp6-type icmp6-homeagentdiscoveryreply",
+            number(28, 145, PASSED, REFUSED),
+        ),
+        (
+            "icmp6-type icmp6-mobileprefixsolicit",
+            number(28, 146, PASSED, REFUSED),
+        ),
+        (
+            "icmp6-type icmp6-mobileprefixadvert",
+            number(28, 147, PASSED, REFUSED),
+        ),
+        (
+            "icmp6-type icmp6-certpathsolicit",
+            number(28, 148, PASSED, REFUSED),
+        ),
+        (
+            "icmp6-type icmp6-certpathadvert",
+            number(28, 149, PASSED, REFUSED),
+        ),
+        (
+            "icmp6-type icmp6-multicastrouteradvert",
+            number(28, 151, PASSED, REFUSED),
+        ),
+        (
+            "icmp6-type icmp6-multicastroutersolicit",
+            number(28, 152, PASSED, REFUSED),
+        ),
+        (
+            "icmp6-type icmp6-multicastrouterterm",
+            number(28, 153, PASSED, REFUSED),
+        ),
+    ];
+    for (text, wanted) in &rows {
+        check(&rt, text, &[*wanted]);
+    }
+    Ok(())
+}
+
 /// The flags of `fragment`, `fault` and `incomplete`.
 const FRAGMENT: u64 = 0x300;
 
@@ -347,8 +509,11 @@ fn errors_in_arguments(rt: HostRuntime) -> Result<(), Fail> {
         ("port 1-2-3", 5, Expected::Ports),
         ("net port 1", 4, Expected::Network),
         ("host 10.0.0.0/8", 5, Expected::Address),
-        ("icmp-type 256", 10, Expected::Byte),
-        ("icmp6-type 256", 11, Expected::Byte),
+        ("icmp-type 256", 10, Expected::IcmpType),
+        ("icmp-type icmp6-echo", 10, Expected::IcmpType),
+        ("icmp6-type 256", 11, Expected::Icmp6Type),
+        ("icmp6-type echo", 11, Expected::Icmp6Type),
+        ("icmp-code 256", 10, Expected::Byte),
         ("icmp6-code", 10, Expected::Byte),
         ("option 256", 7, Expected::Byte),
         ("routing-type 256", 13, Expected::Byte),

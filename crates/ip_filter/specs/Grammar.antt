@@ -19,6 +19,7 @@ use Rattle.ip_filter.specs.declared.parse_term.Side.{Side}
 use Rattle.ip_filter.specs.declared.parse_term.Side.TheVariants as side
 use Rattle.ip_filter.specs.Words.{Word}
 use Rattle.ip_filter.specs.Numbers.{version_named, header_named, upper_layer_of, protocol_of, number_up_to, ports_of, tcp_flags_of, comparison_of, fault_kind_of, layer_named, IsNetworkText, IsHostText}
+use Rattle.ip_filter.specs.IcmpTypes.{icmp_type_of, icmp6_type_of}
 use Rattle.ip_filter.specs.Formula.{Formula, single, negation, both, either}
 
 -- ---- keywords
@@ -135,9 +136,9 @@ AreNumberArguments number.SecurityParameters args t = Make (IsOne (Finds (number
 AreNumberArguments number.Identification args t = Make (IsOne (Finds (number_up_to 4294967295))) term.Identification args t
 AreNumberArguments number.RoutingType args t = Make (IsOne (Finds (number_up_to 255))) term.RoutingType args t
 AreNumberArguments number.Option args t = Make (IsOne (Finds (number_up_to 255))) term.Option args t
-AreNumberArguments number.IcmpType args t = Make (IsOne (Finds (number_up_to 255))) term.IcmpType args t
+AreNumberArguments number.IcmpType args t = Make (IsOne (Finds icmp_type_of)) term.IcmpType args t
 AreNumberArguments number.IcmpCode args t = Make (IsOne (Finds (number_up_to 255))) term.IcmpCode args t
-AreNumberArguments number.Icmp6Type args t = Make (IsOne (Finds (number_up_to 255))) term.Icmp6Type args t
+AreNumberArguments number.Icmp6Type args t = Make (IsOne (Finds icmp6_type_of)) term.Icmp6Type args t
 AreNumberArguments number.Icmp6Code args t = Make (IsOne (Finds (number_up_to 255))) term.Icmp6Code args t
 AreNumberArguments number.TcpFlags args t = Make (IsOne (Finds tcp_flags_of)) term.TcpFlags args t
 

@@ -97,7 +97,7 @@ fn parse_header_name(word: &[u8]) -> Option<u8>
 }
 
 /// Returns the number that the word writes, if it is at most 255.
-fn parse_byte(word: &[u8]) -> Option<u8>
+pub(crate) fn parse_byte(word: &[u8]) -> Option<u8>
     ensures { result ≡ number_up_to 255 word.now }
 {
     match parse_number(word, 255) {

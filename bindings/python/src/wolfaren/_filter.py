@@ -64,8 +64,9 @@ class Filter:
         host A                               A is an IPv4 or IPv6 address
         src port P, dst port P, port P       P is a port or a range such as 1024-65535
         no-transport                         the payload should start with ports, but is too short for both
-        icmp-type N, icmp-code N             the type and the code of an ICMP message of an IPv4 packet
-        icmp6-type N, icmp6-code N           those of an ICMPv6 message of an IPv6 packet
+        icmp-type T, icmp-code N             the type and the code of an ICMP message of an IPv4 packet; T is a number, or a
+                                             name of libpcap's such as icmp-echo
+        icmp6-type T, icmp6-code N           those of an ICMPv6 message of an IPv6 packet; T may be a name such as icmp6-echo
         tcp-flags LIST, tcp-flags LIST/LIST  these flags of TCP are set; of those after the slash, exactly these. LIST is a
                                              flag or several with commas between: fin, syn, rst, psh, ack, urg, ece, cwr
 

@@ -190,7 +190,7 @@ fn codes_that_are_none(rt: HostRuntime) {
 }
 
 /// Returns what the text of a filter needs, by its code, with its words.
-fn expected_rows() -> [(u8, &'static str); 17] {
+fn expected_rows() -> [(u8, &'static str); 19] {
     [
         (1, "a term, `not` or `(`"),
         (2, "`and`, `or` or the end"),
@@ -215,6 +215,14 @@ fn expected_rows() -> [(u8, &'static str); 17] {
             17,
             "`fin`, `syn`, `rst`, `psh`, `ack`, `urg`, `ece` or `cwr`, or a list as syn,ack or syn/syn,ack",
         ),
+        (
+            18,
+            "a number from 0 to 255 or the name of a type, as icmp-echo",
+        ),
+        (
+            19,
+            "a number from 0 to 255 or the name of a type, as icmp6-echo",
+        ),
     ]
 }
 
@@ -229,7 +237,7 @@ fn words_of_what_is_expected(rt: HostRuntime) {
 
 #[test]
 fn codes_of_nothing_expected(rt: HostRuntime) {
-    for code in [0, 18, 33, 255] {
+    for code in [0, 20, 33, 255] {
         let mut text = [1; 2];
         assert_same(&rt, code, expected_text(code, &mut text), 0);
         assert_same(&rt, code, text, [0, 1]);

@@ -127,6 +127,8 @@ pub enum Expected {
     Address,
     Ports,
     TcpFlags,
+    IcmpType,
+    Icmp6Type,
     FewerTerms,
     LessNesting,
 }

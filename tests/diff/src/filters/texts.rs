@@ -220,7 +220,21 @@ fn term(packet: &[u8], random: &mut Random, words: &mut Vec<String>) {
                     random,
                 ),
             );
-            word(words, byte(packet, random));
+            let types = [
+                "icmp-echo",
+                "icmp-unreach",
+                "icmp6-echo",
+                "icmp6-neighboradvert",
+            ];
+            let is_named = random.percent(20);
+            word(
+                words,
+                if is_named {
+                    one_of(&types, random)
+                } else {
+                    byte(packet, random)
+                },
+            );
         }
         _ => {
             word(words, "host");

@@ -7,7 +7,9 @@ ghost use Rattle.ip_filter.specs.Tests.{comparison_in, network_in, compared, is_
 
 use crate::facts::Facts;
 use crate::header_condition::HeaderCondition;
-use crate::transport::{DESTINATION_PORT, ICMP_CODE, ICMP_TYPE, SOURCE_PORT, esp_spi, tcp_flags};
+use crate::transport::{
+    DESTINATION_PORT, ICMP_CODE, ICMP_TYPE, SOURCE_PORT, esp_spi, protocol, tcp_flags,
+};
 use crate::{Comparison, Network, Quantity, Test};
 
 /// The kinds of tests.
@@ -90,7 +92,7 @@ impl Test {
             kind::FLOW_LABEL => self.compares(Quantity::FlowLabel, facts),
             kind::SECURITY_PARAMETERS => {
                 facts.has_header(HeaderCondition::SecurityParameters(self.number))
-                    || self.has_esp_spi(facts.packet.outline.next_header.0, facts.transport())
+                    || self.has_esp_spi(facts)
             }
             kind::OPTION => facts.has_header(HeaderCondition::Option(self.number)),
             kind::ROUTING_TYPE => facts.has_header(HeaderCondition::RoutingType(self.number)),
@@ -181,13 +183,22 @@ impl Test {
         self.has_bits(tcp_flags(number, transport))
     }
 
-    /// Returns whether ESP follows with the security parameters index of the test. Not inlined, as `has_tcp_flags`.
+    /// Returns whether ESP follows with the security parameters index of the test.
+    #[inline(always)]
+    pub(crate) fn has_esp_spi(&self, facts: &Facts<'_>) -> bool
+        ensures { result ≡ option_map_or (λ n. n == self.now.number)
+            (esp_spi (dissected facts.now.packet.bytes.now)) false }
+    {
+        facts.packet.outline.next_header.0 == protocol::ESP && self.is_esp_spi(facts.transport())
+    }
+
+    /// Returns whether a payload of ESP begins with the security parameters index of the test. Not inlined, as `has_tcp_flags`.
     #[inline(never)]
-    pub(crate) fn has_esp_spi(&self, number: u8, transport: &[u8]) -> bool
-        ensures { (p : DissectedParts) → p.number ≡ number → transport_of p ≡ transport.now
+    fn is_esp_spi(&self, transport: &[u8]) -> bool
+        ensures { (p : DissectedParts) → p.number ≡ 50 → transport_of p ≡ transport.now
             → result ≡ option_map_or (λ n. n == self.now.number) (esp_spi p) false }
     {
-        match esp_spi(number, transport) {
+        match esp_spi(transport) {
             Some(spi) => u64::from(spi) == self.number,
             None => false,
         }

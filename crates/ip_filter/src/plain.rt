@@ -64,9 +64,7 @@ impl Test {
             kind::DESTINATION => self.has_destination(&facts.packet),
             kind::EITHER => self.has_either(&facts.packet),
             // of an authentication header there is none
-            kind::SECURITY_PARAMETERS => {
-                self.has_esp_spi(facts.packet.outline.next_header.0, facts.transport())
-            }
+            kind::SECURITY_PARAMETERS => self.has_esp_spi(facts),
             // asked of an extension header
             kind::OPTION => false,
             kind::ROUTING_TYPE => false,

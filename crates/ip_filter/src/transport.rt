@@ -128,12 +128,12 @@ impl<'a> Facts<'a> {
     }
 }
 
-/// Returns the security parameters index, if the payload begins with one of ESP and it is there.
+/// Returns the security parameters index at the start of a payload of ESP, if it is there.
 #[inline(always)]
-pub(crate) fn esp_spi(number: u8, transport: &[u8]) -> Option<u32>
-    ensures { (p : DissectedParts) → p.number ≡ number → transport_of p ≡ transport.now → result ≡ esp_spi p }
+pub(crate) fn esp_spi(transport: &[u8]) -> Option<u32>
+    ensures { (p : DissectedParts) → p.number ≡ 50 → transport_of p ≡ transport.now → result ≡ esp_spi p }
 {
-    if number == protocol::ESP && 4 <= transport.len() {
+    if 4 <= transport.len() {
         Some(u32::from_be_bytes([transport[0], transport[1], transport[2], transport[3]]))
     } else {
         None

@@ -59,7 +59,7 @@
 #define WOLFAREN_VERSION (10000 * WOLFAREN_VERSION_MAJOR + 100 * WOLFAREN_VERSION_MINOR + WOLFAREN_VERSION_PATCH)
 
 /* A checksum of the structs, numbers and calls in this header, made by scripts/abi of the repository. */
-#define WOLFAREN_ABI 0x142e74e9u
+#define WOLFAREN_ABI 0xf8005f5du
 
 /* The symbol that is named after the checksum. */
 #define WOLFAREN_ABI_SYMBOL wolfaren_abi_142e74e9
@@ -903,7 +903,7 @@ enum wolfaren_test {
     WOLFAREN_TEST_HEADERS = 3,             /* the number of extension headers compares so with `number` */
     WOLFAREN_TEST_CHAIN_BYTES = 4,         /* the length of the extension headers in bytes does */
     WOLFAREN_TEST_PAYLOAD = 5,             /* the number of payload bytes that are present does */
-    WOLFAREN_TEST_SECURITY_PARAMETERS = 6, /* an authentication header has the security parameters index `number` */
+    WOLFAREN_TEST_SECURITY_PARAMETERS = 6, /* an authentication header or ESP has the security parameters index `number` */
     WOLFAREN_TEST_IDENTIFICATION = 7,      /* a fragment header, or an IPv4 fragment, has the identification `number` */
     WOLFAREN_TEST_SOURCE = 8,              /* the source address is in the network */
     WOLFAREN_TEST_DESTINATION = 9,         /* the destination address is in the network */
@@ -917,13 +917,16 @@ enum wolfaren_test {
     WOLFAREN_TEST_DESTINATION_PORT = 17,   /* the destination port is */
     WOLFAREN_TEST_PORT = 18,               /* the source or the destination port is */
     WOLFAREN_TEST_NO_TRANSPORT = 19,       /* the payload should start with ports, but is too short for both */
-    WOLFAREN_TEST_ICMP_TYPE = 20,          /* the type of the ICMP or ICMPv6 message is `number` */
+    WOLFAREN_TEST_ICMP_TYPE = 20,          /* the type of the ICMP message of an IPv4 packet is `number` */
     WOLFAREN_TEST_ICMP_CODE = 21,          /* its code is `number` */
     WOLFAREN_TEST_TCP_FLAGS = 22,          /* of the flags of TCP in `address_low`, exactly those in `number` are set */
     WOLFAREN_TEST_ROUTING_TYPE = 23,       /* a routing header has the type `number` */
     WOLFAREN_TEST_SEGMENTS_LEFT = 24,      /* the segments left of a routing header compare so with `number` */
     WOLFAREN_TEST_OPTION = 25,             /* hop-by-hop or destination options have one of type `number` */
-    WOLFAREN_TEST_LAYER = 26               /* a flag in `address_low` is set by an error in the layer `number`: 1 .. 11 */
+    WOLFAREN_TEST_LAYER = 26,              /* a flag in `address_low` is set by an error in the layer `number`: 1 .. 11 */
+    WOLFAREN_TEST_VERSION_LEADS_TO = 27,   /* the packet has the IP version `version`, and `number` follows the headers */
+    WOLFAREN_TEST_ICMP6_TYPE = 28,         /* the type of the ICMPv6 message of an IPv6 packet is `number` */
+    WOLFAREN_TEST_ICMP6_CODE = 29          /* its code is `number` */
 };
 
 /*
@@ -961,7 +964,7 @@ struct wolfaren_filter_test {
     uint64_t address_low;  /* bytes 8 to 15 of it, an IPv4 network's address, the highest port, flags of TCP, or flags */
     uint8_t kind;          /* WOLFAREN_TEST_FLAGS .. */
     uint8_t comparison;    /* WOLFAREN_EQUAL .. */
-    uint8_t version;       /* IP version of a network's address: 4 or 6 */
+    uint8_t version;       /* IP version of a packet or a network's address: 4 or 6 */
     uint8_t prefix_len;    /* how many bits of a network's address count */
     uint8_t if_met;        /* index of the next test if the packet meets this one */
     uint8_t if_not;        /* index of the next test if it doesn't */
@@ -1001,7 +1004,9 @@ enum wolfaren_expected {
     WOLFAREN_EXPECTED_NETWORK_OR_PORT = 14,   /* an address, a prefix or `port` */
     WOLFAREN_EXPECTED_ADDRESS = 15,           /* an address */
     WOLFAREN_EXPECTED_PORTS = 16,             /* a port or a range of ports */
-    WOLFAREN_EXPECTED_TCP_FLAGS = 17          /* flags of TCP */
+    WOLFAREN_EXPECTED_TCP_FLAGS = 17,         /* flags of TCP */
+    WOLFAREN_EXPECTED_ICMP_TYPE = 18,         /* the number or name of a type of ICMP */
+    WOLFAREN_EXPECTED_ICMP6_TYPE = 19         /* the number or name of a type of ICMPv6 */
 };
 
 /* Where the text of a filter is wrong. */
@@ -1016,10 +1021,12 @@ struct wolfaren_filter_error {
  * separates words. There may be up to 64 terms and 16 levels of parentheses.
  *
  *   version 4|6, ip, ip6                 the IP version: `ip` is version 4, `ip6` is version 6
- *   header N                             an extension header: 0 to 255, hop-by-hop, routing, fragment, authentication
- *                                        or destination-options; in short hopopt, route, frag, ah or dstopts
- *   leads-to N                           the protocol after the headers: as above, or a name from the next line
- *   icmp, tcp, udp, dccp, gre, esp, icmp6, no-next, sctp, udp-lite       `leads-to` with this name
+ *   header N                             an extension header: hop-by-hop (0), routing (43), fragment (44), authentication
+ *                                        (51) or destination-options (60); in short hopopt, route, frag, ah or dstopts
+ *   leads-to N                           the protocol after the headers: 0 to 255, as above, or a name from the next line
+ *   tcp, udp, dccp, gre, esp, no-next, sctp, udp-lite       `leads-to` with this name
+ *   icmp, icmp6                          ICMP (1) after the headers of an IPv4 packet, ICMPv6 (58) after those of an IPv6
+ *                                        packet; after `leads-to`, the number alone
  *   fragment, first-fragment, later-fragment
  *   truncated, incomplete
  *   truncated LAYER                      LAYER is IP-header, IPv4-header, IPv4-packet, authentication, IPv6-header,
@@ -1032,7 +1039,9 @@ struct wolfaren_filter_error {
  *   hop-limit OP N, ttl OP N             the hop limit, or IPv4's time to live
  *   dscp OP N, ecn OP N                  the differentiated services code point; explicit congestion notification
  *   flow OP N                            the flow label; false of IPv4 packets
- *   spi N, id N
+ *   spi N                                the security parameters index of an authentication header, or of ESP after the
+ *                                        headers
+ *   id N                                 the identification of a fragment
  *   routing-type N                       a routing header of the packet has this type
  *   segments-left OP N                   the segments left of a routing header of the packet
  *   option N                             hop-by-hop or destination options have one of this type, and no malformed one
@@ -1041,13 +1050,25 @@ struct wolfaren_filter_error {
  *   host A                               A is an IPv4 or IPv6 address
  *   src port P, dst port P, port P       P is a port or a range such as 1024-65535
  *   no-transport                         the payload should start with ports, but is too short for both
- *   icmp-type N, icmp-code N             the type and the code of an ICMP or ICMPv6 message
+ *   icmp-type T, icmp-code N             the type and the code of an ICMP message of an IPv4 packet; T is a number or a name
+ *   icmp6-type T, icmp6-code N           those of an ICMPv6 message of an IPv6 packet
  *   tcp-flags LIST, tcp-flags LIST/LIST  these flags of TCP are set; of those after the slash, exactly these. LIST is a
  *                                        flag or several with commas between: fin, syn, rst, psh, ack, urg, ece, cwr
  *
  * TCP, UDP, UDP-Lite, SCTP and DCCP have ports. Ports, types, codes and flags of TCP are read from the payload, so extension
  * headers may precede them. A later fragment has none, nor has a packet with an error or a truncated header. The terms about
  * fragments hold of an IPv6 packet if they do of one of its fragment headers.
+ *
+ * These are the names of types, those of libpcap's expressions:
+ * icmp-echoreply, icmp-unreach, icmp-sourcequench, icmp-redirect, icmp-echo, icmp-routeradvert, icmp-routersolicit,
+ * icmp-timxceed, icmp-paramprob, icmp-tstamp, icmp-tstampreply, icmp-ireq, icmp-ireqreply, icmp-maskreq, icmp-maskreply.
+ * icmp6-destinationunreach, icmp6-packettoobig, icmp6-timeexceeded, icmp6-parameterproblem, icmp6-echo, icmp6-echoreply,
+ * icmp6-multicastlistenerquery, icmp6-multicastlistenerreportv1, icmp6-multicastlistenerdone, icmp6-routersolicit,
+ * icmp6-routeradvert, icmp6-neighborsolicit, icmp6-neighboradvert, icmp6-redirect, icmp6-routerrenum,
+ * icmp6-nodeinformationquery, icmp6-nodeinformationresponse, icmp6-ineighbordiscoverysolicit,
+ * icmp6-ineighbordiscoveryadvert, icmp6-multicastlistenerreportv2, icmp6-homeagentdiscoveryrequest,
+ * icmp6-homeagentdiscoveryreply, icmp6-mobileprefixsolicit, icmp6-mobileprefixadvert, icmp6-certpathsolicit,
+ * icmp6-certpathadvert, icmp6-multicastrouteradvert, icmp6-multicastroutersolicit, icmp6-multicastrouterterm.
  *
  * Numbers are decimal, or hexadecimal after 0x. On success, returns true and fills in `filter`, whose count is at most
  * WOLFAREN_FILTER_TESTS; `error` is left unchanged. On error, returns false and stores in `error` what is expected where;

@@ -128,6 +128,9 @@ static void show_place(const struct text *text, size_t offset)
 /* How long the name of an extension header is at most. */
 enum { MOST_HEADER = 32 };
 
+/* The number of ESP. */
+enum { ESP = 50 };
+
 /* Words of libpcap's expressions, and what is written instead of them. */
 static const struct {
     const char *word;
@@ -140,6 +143,10 @@ static const struct {
     {"proto", "leads-to PROTOCOL"},
     {"protochain", "header N, or leads-to N"},
     {"tcp[tcpflags]", "tcp-flags FLAGS"},
+    {"icmp[icmptype]", "icmp-type TYPE"},
+    {"icmp[icmpcode]", "icmp-code N"},
+    {"icmp6[icmp6type]", "icmp6-type TYPE"},
+    {"icmp6[icmp6code]", "icmp6-code N"},
 };
 
 /* Says what is written instead of libpcap's `proto` if the word after it is an extension header. Returns whether it is. */
@@ -155,6 +162,20 @@ static bool show_header(const char *word, size_t size, size_t left)
     if (!read_header_argument(name, &headers)) return false;
     fprintf(stderr, "  for libpcap's `proto %s`, write `header %s`\n", name, name);
     return true;
+}
+
+/* Says what is written instead of `header` and a word, if that is a protocol, but no extension header of a packet. */
+static void show_protocol(const char *word, size_t size)
+{
+    char text[MOST_HEADER + sizeof "leads-to "];
+    struct wolfaren_filter filter;
+    struct wolfaren_filter_error error;
+    if (size == 0 || size >= MOST_HEADER) return;
+    int len = snprintf(text, sizeof text, "leads-to %.*s", (int)size, word);
+    if (!wolfaren_parse_filter(text, (size_t)len, &filter, &error)) return;
+    bool is_esp = filter.tests[0].number == ESP;
+    fprintf(stderr, "  `header` asks for an extension header; for %.*s, write `%s`\n", (int)size, word,
+            is_esp ? "esp" : text);
 }
 
 /* Says what is written instead of a word of libpcap's expressions, which is the first of the `left` bytes. */
@@ -179,7 +200,10 @@ static void complain_of_condition(const struct text *text, uint8_t wanted, size_
     else
         complain("condition: expected %s, found '%.*s' in column %zu", expected, size > 40 ? 40 : (int)size, word, offset + 1);
     show_place(text, offset);
-    show_ours(word, size, left);
+    if (wanted == WOLFAREN_EXPECTED_HEADER)
+        show_protocol(word, size);
+    else
+        show_ours(word, size, left);
 }
 
 /* Reports the networks that have bits set after their prefix, which are likely mistakes. Returns whether there are any. */

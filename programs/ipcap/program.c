@@ -11,6 +11,9 @@
 
 enum { TERM_WIDTH = 32, INDEX_ROOM = 24 };
 
+/* The numbers of ICMP and ICMPv6. */
+enum { ICMP = 1, ICMP6 = 58 };
+
 /* The terms for flags. A term for several flags precedes those for each of them. */
 static const struct {
     uint64_t flags;
@@ -96,6 +99,15 @@ static int print_count(const char *word, const struct wolfaren_filter_test *test
     return comparison ? printf("%s %s %llu", word, comparison, (unsigned long long)test->number) : print_never();
 }
 
+/* Prints what follows the headers of a packet of one version. */
+static int print_protocol(const char *word, const struct wolfaren_filter_test *test)
+{
+    (void)word;
+    if (test->version == 4 && test->number == ICMP) return printf("icmp");
+    if (test->version == 6 && test->number == ICMP6) return printf("icmp6");
+    return printf("version %u and leads-to %llu", test->version, (unsigned long long)test->number);
+}
+
 /* Prints a port, or a range of ports. */
 static int print_ports(const char *word, const struct wolfaren_filter_test *test)
 {
@@ -159,6 +171,9 @@ static const struct {
     [WOLFAREN_TEST_SEGMENTS_LEFT] = {print_count, "segments-left"},
     [WOLFAREN_TEST_OPTION] = {print_number, "option"},
     [WOLFAREN_TEST_LAYER] = {print_layer, ""},
+    [WOLFAREN_TEST_VERSION_LEADS_TO] = {print_protocol, ""},
+    [WOLFAREN_TEST_ICMP6_TYPE] = {print_number, "icmp6-type"},
+    [WOLFAREN_TEST_ICMP6_CODE] = {print_number, "icmp6-code"},
 };
 
 /* Prints a test, and returns the length. No packet meets a test of an unknown kind. */

@@ -54,7 +54,7 @@ static void texts(void)
     check_matches("length = 34 and ttl = 64 and hop-limit < 65 and dscp = 0 and ecn < 1", true, false);
     check_matches("flow >= 0", false, false);
     check_matches("src port 2313 and port 0-0x909 and no-transport", true, false);
-    check_matches("dst port 0-65535 or port 2314-65535 or icmp-type 9 or icmp-code 9", false, false);
+    check_matches("dst port 0-65535 or port 2314-65535 or icmp-type 9 or icmp-code 9 or icmp6", false, false);
     check_matches("option 0 or option 1", false, false);
     check_matches("routing-type 0 or segments-left >= 0", false, false);
     check_matches("tcp-flags fin or not tcp-flags syn,ack/syn,ack,rst", true, true);
@@ -82,7 +82,14 @@ static void refused(void)
     check_refused("fault fault", 6, WOLFAREN_EXPECTED_OPERATOR_OR_END, "`and`, `or` or the end");
     check_refused("(fault", 6, WOLFAREN_EXPECTED_OPERATOR_OR_CLOSE, "`and`, `or` or `)`");
     check_refused("payload > x", 10, WOLFAREN_EXPECTED_COUNT, "a number from 0 to 18446744073709551615");
-    check_refused("icmp-type 256", 10, WOLFAREN_EXPECTED_BYTE, "a number from 0 to 255");
+    check_refused("not header 50", 11, WOLFAREN_EXPECTED_HEADER,
+                  "0 (`hop-by-hop`), 43 (`routing`), 44 (`fragment`), 51 (`authentication`), 60 (`destination-options`), "
+                  "or `leads-to N` in place of `header N`");
+    check_refused("icmp-code 256", 10, WOLFAREN_EXPECTED_BYTE, "a number from 0 to 255");
+    check_refused("icmp-type 256", 10, WOLFAREN_EXPECTED_ICMP_TYPE,
+                  "a number from 0 to 255 or the name of a type, as icmp-echo");
+    check_refused("icmp6-type icmp-echo", 11, WOLFAREN_EXPECTED_ICMP6_TYPE,
+                  "a number from 0 to 255 or the name of a type, as icmp6-echo");
     check_refused("src x", 4, WOLFAREN_EXPECTED_NETWORK_OR_PORT, "an address, a prefix or `port`");
     check_refused("net x", 4, WOLFAREN_EXPECTED_NETWORK, "an address or a prefix");
     check_refused("host ::1/64", 5, WOLFAREN_EXPECTED_ADDRESS, "an address");
@@ -92,7 +99,7 @@ static void refused(void)
     struct wolfaren_filter filter;
     struct wolfaren_filter_error error;
     check(!wolfaren_parse_filter(NULL, 0, &filter, &error) && error.offset == 0, "no text");
-    check(wolfaren_expected_text(0, NULL, 0) == 0 && wolfaren_expected_text(18, NULL, 0) == 0, "an unknown code");
+    check(wolfaren_expected_text(0, NULL, 0) == 0 && wolfaren_expected_text(20, NULL, 0) == 0, "an unknown code");
 }
 
 static uint8_t next_byte(void)
@@ -135,7 +142,7 @@ static void any_contents(void)
         for (size_t i = 0; i < sizeof filter; i++) ((uint8_t *)&filter)[i] = next_byte();
         for (size_t i = 0; i < WOLFAREN_FILTER_TESTS; i++) {
             struct wolfaren_filter_test *test = &filter.tests[i];
-            test->kind %= WOLFAREN_TEST_LAYER + 2;
+            test->kind %= WOLFAREN_TEST_ICMP6_CODE + 2;
             if (round % 3 == 0) continue;
             test->if_met = (uint8_t)(i + test->if_met % 16);
             test->if_not = (uint8_t)(i + test->if_not % 16);
@@ -274,6 +281,13 @@ static void parsed_tests(void)
         {"no-transport", WOLFAREN_TEST_NO_TRANSPORT, 0, 0},
         {"icmp-type 128", WOLFAREN_TEST_ICMP_TYPE, 128, 0},
         {"icmp-code 255", WOLFAREN_TEST_ICMP_CODE, 255, 0},
+        {"icmp6-type 128", WOLFAREN_TEST_ICMP6_TYPE, 128, 0},
+        {"icmp6-type icmp6-redirect", WOLFAREN_TEST_ICMP6_TYPE, 137, 0},
+        {"icmp-type icmp-redirect", WOLFAREN_TEST_ICMP_TYPE, 5, 0},
+        {"icmp6-code 255", WOLFAREN_TEST_ICMP6_CODE, 255, 0},
+        {"icmp", WOLFAREN_TEST_VERSION_LEADS_TO, 1, 0},
+        {"icmp6", WOLFAREN_TEST_VERSION_LEADS_TO, 58, 0},
+        {"leads-to icmp6", WOLFAREN_TEST_LEADS_TO, 58, 0},
         {"option 0xc2", WOLFAREN_TEST_OPTION, 0xc2, 0},
         {"routing-type 4", WOLFAREN_TEST_ROUTING_TYPE, 4, 0},
         {"segments-left > 3", WOLFAREN_TEST_SEGMENTS_LEFT, 3, 0},
@@ -401,9 +415,10 @@ static void upper_layers(void)
         bool is_of_segment, is_of_echo;
     } rows[] = {
         {"src port 443 and dst port 50000 and first-fragment", true, false},
-        {"port 443 or icmp-type 128", true, true},
+        {"port 443 or icmp6-type 128", true, true},
+        {"icmp or icmp-type 128 or icmp-code 7", false, false},
         {"port 1-442 or port 444-49999 or port 50001-65535 or no-transport", false, false},
-        {"icmp-type 128 and icmp-code 7 and icmp6", false, true},
+        {"icmp6-type 128 and icmp6-code 7 and icmp6", false, true},
         {"dscp = 46 and ecn = 1 and flow = 0xcdef1 and hop-limit = 9", true, true},
         {"length = 60 or length = 54", true, true},
     };

@@ -1,6 +1,7 @@
 """Tests of the conditions of `ipcap filter` on random packets, with tshark and tcpdump as judges. Conditions are made at
 random of pairs of terms: one of ours, and the display filter or the expression of libpcap that has the same meaning."""
 
+import os
 import random
 import re
 import shutil
@@ -143,9 +144,15 @@ def led_to(number):
     return " or ".join(f"{field} == {number}" for field in fields)
 
 
+# The version that a protocol's name by itself asks for, too.
+VERSIONS = {"icmp": "ip", "icmp6": "ipv6"}
+
+
 def protocol_pair(draw):
     name = draw.choice([*NAMES])
-    return draw.choice([name, f"leads-to {name}", f"leads-to {NAMES[name]}"]), led_to(NAMES[name])
+    if draw.randrange(3) == 0:
+        return name, f"({led_to(NAMES[name])})" + (f" and {VERSIONS[name]}" if name in VERSIONS else "")
+    return draw.choice([f"leads-to {name}", f"leads-to {NAMES[name]}"]), led_to(NAMES[name])
 
 
 def header_pair(draw):
@@ -175,7 +182,8 @@ def network_pair(draw):
 def message_pair(draw):
     field, values = draw.choice([("type", [0, 8, 128, 129]), ("code", [0, 1])])
     value = draw.choice(values)
-    return f"icmp-{field} {value}", f"icmp.{field} == {value} or icmpv6.{field} == {value}"
+    ours, theirs = draw.choice([("icmp", "icmp"), ("icmp6", "icmpv6")])
+    return f"{ours}-{field} {value}", f"{VERSIONS[ours]} and {theirs}.{field} == {value}"
 
 
 def flags_pair(draw):
@@ -211,7 +219,7 @@ PAIRS = [
     lambda draw: compared(draw, "dscp", [0, 46], ("ip", "ip.dsfield.dscp", 0), ("ipv6", "ipv6.tclass.dscp", 0)),
     lambda draw: compared(draw, "ecn", [0, 3], ("ip", "ip.dsfield.ecn", 0), ("ipv6", "ipv6.tclass.ecn", 0)),
     lambda draw: compared(draw, "flow", FLOWS, ("ipv6", "ipv6.flow", 0)),
-    lambda draw: ("spi 1", "ah.spi == 1"),
+    lambda draw: ("spi 1", "ah.spi == 1 or esp.spi == 1"),
 ]
 
 
@@ -334,6 +342,32 @@ def libpcap_agrees(harness):
     path = harness.file(capture([ethernet(packet) for packet in packets]))
     for ours, theirs in conditions(draw, 100, LIBPCAP_PAIRS):
         harness.equal(found_by_ipcap(harness, path, ours), found_by_libpcap(harness, path, theirs), ours, "is", theirs)
+
+
+MANUAL = os.path.join(os.path.dirname(os.path.abspath(__file__)), "..", "..", "programs", "ipcap", "ipcap.1")
+
+
+def types_in_the_manual(term):
+    """Returns the names of types that the manual page lists for a term."""
+    with open(MANUAL) as file:
+        _, _, paragraph = file.read().partition(f'.BI "{term} " TYPE\n')
+    return re.findall(r"^\.BR \\%(icmp6?-\w+)", paragraph.partition(".TP")[0], re.M)
+
+
+def libpcap_names_types(harness):
+    """Each name of a type of ICMP and ICMPv6 is the number that libpcap takes it for."""
+    if not shutil.which("tcpdump"):
+        print("libpcap's names of types: skipped, tcpdump missing")
+        return
+    for protocol, count in [("icmp", 15), ("icmp6", 29)]:
+        names = types_in_the_manual(f"{protocol}-type")
+        harness.equal(len(names), count, protocol)
+        for name in names:
+            code = subprocess.run(["tcpdump", "-y", "EN10MB", "-d", f"{protocol}[0] == {name}"], stdout=subprocess.PIPE).stdout
+            number = int(re.findall(rb"jeq +#(0x[0-9a-f]+)", code)[-1], 16)
+            shown = [harness.run("filter", "--show", f"{protocol}-type {it}")[:2] for it in (name, number)]
+            harness.equal(shown[0], shown[1], name)
+            harness.equal(shown[0][0], 0, name)
 
 
 def first_number(packet):

@@ -264,7 +264,7 @@ const _: () = {
 
 /// `WOLFAREN_ABI`: the checksum of the header that this file was written for (`scripts/abi` of the repository).
 #[cfg(all(test, not(miri)))]
-pub(crate) const ABI: u32 = 0x142e_74e9;
+pub(crate) const ABI: u32 = 0xf800_5f5d;
 
 unsafe extern "C" {
     fn wolfaren_parse_chain(

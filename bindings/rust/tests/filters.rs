@@ -123,14 +123,26 @@ fn messages_of_icmp() {
     let options = [&[58][..], &message[1..]].concat();
     check(
         &ipv6(10, 60, &options),
-        &["icmp6 and icmp-type 3 and icmp-code 4"],
-        &["icmp-type 58", "icmp-code 3", "icmp"],
+        &["icmp6 and icmp6-type 3 and icmp6-code 4"],
+        &["icmp6-type 58", "icmp6-code 3", "icmp", "icmp-type 3"],
     );
     check(
         &ipv4(1, &message[8..9]),
         &["icmp and icmp-type 3"],
-        &["icmp-code 4"],
+        &["icmp-code 4", "icmp6", "icmp6-type 3"],
     );
+    check(
+        &ipv6(2, 1, &message[8..]),
+        &["leads-to icmp"],
+        &["icmp", "icmp6", "icmp-type 3", "icmp6-type 3"],
+    );
+}
+
+#[test]
+fn indices_of_esp() {
+    let options = [50, 0, 1, 4, 0, 0, 0, 0, 1, 2, 3, 4];
+    check(&ipv6(12, 60, &options), &["spi 0x01020304"], &["spi 258"]);
+    check(&ipv4(50, &options[8..11]), &["esp"], &["spi 0x010203"]);
 }
 
 #[test]
@@ -333,13 +345,15 @@ fn different_filters() {
             .map(str::to_owned)
             .collect();
     terms.extend(kinds.split(' ').map(|kind| format!("fault {kind}")));
-    terms.push("no-transport".to_owned());
+    terms.extend(["no-transport", "icmp", "icmp6", "leads-to icmp"].map(str::to_owned));
     for name in [
         "src port",
         "dst port",
         "port",
         "icmp-type",
         "icmp-code",
+        "icmp6-type",
+        "icmp6-code",
         "routing-type",
         "option",
     ] {
@@ -352,7 +366,8 @@ fn different_filters() {
     for name in quantities {
         terms.extend(["=", "!=", "<", "<=", ">", ">="].map(|it| format!("{name} {it} 7")));
     }
-    terms.extend(["version", "header", "leads-to", "spi", "id"].map(|name| format!("{name} 6")));
+    terms.push("header 60".to_owned());
+    terms.extend(["version", "leads-to", "spi", "id"].map(|name| format!("{name} 6")));
     for name in ["src", "dst", "net"] {
         terms.extend(["192.0.2.0/24", "2001:db8:0:1::5/127"].map(|it| format!("{name} {it}")));
     }
@@ -392,7 +407,7 @@ fn other_bytes_after_a_packet_change_nothing() {
 
 #[test]
 fn refused_texts() {
-    let header = "a number from 0 to 255, `hop-by-hop`, `routing`, `fragment`, `authentication` or `destination-options`";
+    let header = "0 (`hop-by-hop`), 43 (`routing`), 44 (`fragment`), 51 (`authentication`), 60 (`destination-options`), or `leads-to N` in place of `header N`";
     let rows = [
         ("", 0, Expected::Operand, "a term, `not` or `(`"),
         (
@@ -404,6 +419,8 @@ fn refused_texts() {
         ("(fault", 6, Expected::OperatorOrClose, "`and`, `or` or `)`"),
         ("version 5", 8, Expected::Version, "4 or 6"),
         ("header 256", 7, Expected::Header, header),
+        ("header 50", 7, Expected::Header, header),
+        ("fault or header 135", 16, Expected::Header, header),
         (
             "leads-to arp",
             9,
@@ -448,6 +465,18 @@ fn refused_texts() {
             "a port or a range of ports, as 1024-65535",
         ),
         ("icmp-code x", 10, Expected::Byte, "a number from 0 to 255"),
+        (
+            "icmp-type x",
+            10,
+            Expected::IcmpType,
+            "a number from 0 to 255 or the name of a type, as icmp-echo",
+        ),
+        (
+            "icmp6-type 256",
+            11,
+            Expected::Icmp6Type,
+            "a number from 0 to 255 or the name of a type, as icmp6-echo",
+        ),
         (
             "tcp-flags syn/",
             10,

@@ -68,6 +68,14 @@ fn network(kind: u8, version: u8, address: (u64, u64), prefix_len: u8) -> Test {
     }
 }
 
+/// Returns the last test, of what follows the headers of a packet of this version.
+fn of_version(version: u8, protocol: u64) -> Test {
+    Test {
+        version,
+        ..number(27, protocol, PASSED, REFUSED)
+    }
+}
+
 /// Returns the last test, of flags.
 fn last(bits: u64) -> Test {
     flags(bits, PASSED, REFUSED)
@@ -85,9 +93,11 @@ fn terms_of_headers(rt: HostRuntime) -> Result<(), Fail> {
         ("header hopopt", last(1)),
         ("header route", last(1 << 43)),
         ("header 0x2C", last(1 << 44)),
-        ("header 4", last(0)),
         ("leads-to no-next", number(2, 59, PASSED, REFUSED)),
         ("leads-to ah", number(2, 51, PASSED, REFUSED)),
+        ("leads-to 50", number(2, 50, PASSED, REFUSED)),
+        ("leads-to 135", number(2, 135, PASSED, REFUSED)),
+        ("leads-to 60", number(2, 60, PASSED, REFUSED)),
         ("leads-to 255", number(2, 255, PASSED, REFUSED)),
     ];
     for (text, wanted) in &rows {
@@ -167,6 +177,12 @@ fn terms_of_fields_and_ports(rt: HostRuntime) -> Result<(), Fail> {
         ("no-transport", number(19, 0, PASSED, REFUSED)),
         ("icmp-type 128", number(20, 128, PASSED, REFUSED)),
         ("icmp-code 0", number(21, 0, PASSED, REFUSED)),
+        ("icmp6-type 128", number(28, 128, PASSED, REFUSED)),
+        ("icmp6-code 255", number(29, 255, PASSED, REFUSED)),
+        ("icmp", of_version(4, 1)),
+        ("icmp6", of_version(6, 58)),
+        ("leads-to icmp", number(2, 1, PASSED, REFUSED)),
+        ("leads-to icmp6", number(2, 58, PASSED, REFUSED)),
         ("option 0xc2", number(25, 194, PASSED, REFUSED)),
         ("routing-type 4", number(23, 4, PASSED, REFUSED)),
         ("segments-left>=2", count(24, 6, 2)),
@@ -177,6 +193,168 @@ fn terms_of_fields_and_ports(rt: HostRuntime) -> Result<(), Fail> {
         ("tcp-flags rst,psh/fin,psh,rst", ports(22, 12, 13)),
         ("host 10.0.0.1", network(10, 4, (0, 0x0a00_0001), 32)),
         ("src ::1", network(8, 6, (0, 1), 128)),
+    ];
+    for (text, wanted) in &rows {
+        check(&rt, text, &[*wanted]);
+    }
+    Ok(())
+}
+
+/// The names of libpcap's expressions, with the numbers of IANA's registry of ICMP types.
+#[test]
+fn names_of_icmp_types(rt: HostRuntime) -> Result<(), Fail> {
+    let rows = [
+        ("icmp-type icmp-echoreply", number(20, 0, PASSED, REFUSED)),
+        ("icmp-type icmp-unreach", number(20, 3, PASSED, REFUSED)),
+        (
+            "icmp-type icmp-sourcequench",
+            number(20, 4, PASSED, REFUSED),
+        ),
+        ("icmp-type icmp-redirect", number(20, 5, PASSED, REFUSED)),
+        ("icmp-type icmp-echo", number(20, 8, PASSED, REFUSED)),
+        (
+            "icmp-type icmp-routeradvert",
+            number(20, 9, PASSED, REFUSED),
+        ),
+        (
+            "icmp-type icmp-routersolicit",
+            number(20, 10, PASSED, REFUSED),
+        ),
+        ("icmp-type icmp-timxceed", number(20, 11, PASSED, REFUSED)),
+        ("icmp-type icmp-paramprob", number(20, 12, PASSED, REFUSED)),
+        ("icmp-type icmp-tstamp", number(20, 13, PASSED, REFUSED)),
+        (
+            "icmp-type icmp-tstampreply",
+            number(20, 14, PASSED, REFUSED),
+        ),
+        ("icmp-type icmp-ireq", number(20, 15, PASSED, REFUSED)),
+        ("icmp-type icmp-ireqreply", number(20, 16, PASSED, REFUSED)),
+        ("icmp-type icmp-maskreq", number(20, 17, PASSED, REFUSED)),
+        ("icmp-type icmp-maskreply", number(20, 18, PASSED, REFUSED)),
+    ];
+    for (text, wanted) in &rows {
+        check(&rt, text, &[*wanted]);
+    }
+    Ok(())
+}
+
+/// The names of libpcap's expressions, with the numbers of IANA's registry of ICMPv6 types.
+#[test]
+fn names_of_icmp6_types(rt: HostRuntime) -> Result<(), Fail> {
+    let rows = [
+        (
+            "icmp6-type icmp6-destinationunreach",
+            number(28, 1, PASSED, REFUSED),
+        ),
+        (
+            "icmp6-type icmp6-packettoobig",
+            number(28, 2, PASSED, REFUSED),
+        ),
+        (
+            "icmp6-type icmp6-timeexceeded",
+            number(28, 3, PASSED, REFUSED),
+        ),
+        (
+            "icmp6-type icmp6-parameterproblem",
+            number(28, 4, PASSED, REFUSED),
+        ),
+        ("icmp6-type icmp6-echo", number(28, 128, PASSED, REFUSED)),
+        (
+            "icmp6-type icmp6-echoreply",
+            number(28, 129, PASSED, REFUSED),
+        ),
+        (
+            "icmp6-type icmp6-multicastlistenerquery",
+            number(28, 130, PASSED, REFUSED),
+        ),
+        (
+            "icmp6-type icmp6-multicastlistenerreportv1",
+            number(28, 131, PASSED, REFUSED),
+        ),
+        (
+            "icmp6-type icmp6-multicastlistenerdone",
+            number(28, 132, PASSED, REFUSED),
+        ),
+        (
+            "icmp6-type icmp6-routersolicit",
+            number(28, 133, PASSED, REFUSED),
+        ),
+        (
+            "icmp6-type icmp6-routeradvert",
+            number(28, 134, PASSED, REFUSED),
+        ),
+        (
+            "icmp6-type icmp6-neighborsolicit",
+            number(28, 135, PASSED, REFUSED),
+        ),
+        (
+            "icmp6-type icmp6-neighboradvert",
+            number(28, 136, PASSED, REFUSED),
+        ),
+        (
+            "icmp6-type icmp6-redirect",
+            number(28, 137, PASSED, REFUSED),
+        ),
+        (
+            "icmp6-type icmp6-routerrenum",
+            number(28, 138, PASSED, REFUSED),
+        ),
+        (
+            "icmp6-type icmp6-nodeinformationquery",
+            number(28, 139, PASSED, REFUSED),
+        ),
+        (
+            "icmp6-type icmp6-nodeinformationresponse",
+            number(28, 140, PASSED, REFUSED),
+        ),
+        (
+            "icmp6-type icmp6-ineighbordiscoverysolicit",
+            number(28, 141, PASSED, REFUSED),
+        ),
+        (
+            "icmp6-type icmp6-ineighbordiscoveryadvert",
+            number(28, 142, PASSED, REFUSED),
+        ),
+        (
+            "icmp6-type icmp6-multicastlistenerreportv2",
+            number(28, 143, PASSED, REFUSED),
+        ),
+        (
+            "icmp6-type icmp6-homeagentdiscoveryrequest",
+            number(28, 144, PASSED, REFUSED),
+        ),
+        (
+            "icmp6-type icmp6-homeagentdiscoveryreply",
+            number(28, 145, PASSED, REFUSED),
+        ),
+        (
+            "icmp6-type icmp6-mobileprefixsolicit",
+            number(28, 146, PASSED, REFUSED),
+        ),
+        (
+            "icmp6-type icmp6-mobileprefixadvert",
+            number(28, 147, PASSED, REFUSED),
+        ),
+        (
+            "icmp6-type icmp6-certpathsolicit",
+            number(28, 148, PASSED, REFUSED),
+        ),
+        (
+            "icmp6-type icmp6-certpathadvert",
+            number(28, 149, PASSED, REFUSED),
+        ),
+        (
+            "icmp6-type icmp6-multicastrouteradvert",
+            number(28, 151, PASSED, REFUSED),
+        ),
+        (
+            "icmp6-type icmp6-multicastroutersolicit",
+            number(28, 152, PASSED, REFUSED),
+        ),
+        (
+            "icmp6-type icmp6-multicastrouterterm",
+            number(28, 153, PASSED, REFUSED),
+        ),
     ];
     for (text, wanted) in &rows {
         check(&rt, text, &[*wanted]);
@@ -226,7 +404,7 @@ fn masks_are_joined(rt: HostRuntime) -> Result<(), Fail> {
             flags(0x1f300, REFUSED, PASSED),
         ),
         ("not (fragment or fault)", flags(0x1f300, REFUSED, PASSED)),
-        ("header 4 or header 44", last(1 << 44)),
+        ("header 43 or header 44", last(3 << 43)),
     ];
     for (text, wanted) in &rows {
         check(&rt, text, &[*wanted]);
@@ -309,6 +487,12 @@ fn errors_in_arguments(rt: HostRuntime) -> Result<(), Fail> {
         ("header", 6, Expected::Header),
         ("header 256", 7, Expected::Header),
         ("header 010", 7, Expected::Header),
+        ("header 50", 7, Expected::Header),
+        ("fault or header 0x87", 16, Expected::Header),
+        ("header 4", 7, Expected::Header),
+        ("header 59", 7, Expected::Header),
+        ("header 255", 7, Expected::Header),
+        ("header esp", 7, Expected::Header),
         ("header tcp", 7, Expected::Header),
         ("leads-to +6", 9, Expected::Protocol),
         ("headers 3", 8, Expected::Comparison),
@@ -325,7 +509,12 @@ fn errors_in_arguments(rt: HostRuntime) -> Result<(), Fail> {
         ("port 1-2-3", 5, Expected::Ports),
         ("net port 1", 4, Expected::Network),
         ("host 10.0.0.0/8", 5, Expected::Address),
-        ("icmp-type 256", 10, Expected::Byte),
+        ("icmp-type 256", 10, Expected::IcmpType),
+        ("icmp-type icmp6-echo", 10, Expected::IcmpType),
+        ("icmp6-type 256", 11, Expected::Icmp6Type),
+        ("icmp6-type echo", 11, Expected::Icmp6Type),
+        ("icmp-code 256", 10, Expected::Byte),
+        ("icmp6-code", 10, Expected::Byte),
         ("option 256", 7, Expected::Byte),
         ("routing-type 256", 13, Expected::Byte),
         ("segments-left", 13, Expected::Comparison),

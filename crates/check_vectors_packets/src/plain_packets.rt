@@ -51,7 +51,7 @@ const IPV6_PLAIN: [Ipv6Row; 7] = [
             name: "UDP and a byte of padding",
             is_plain: true,
             holding: &["leads-to udp and headers = 0", "payload = 8", "version 6"],
-            others: &["fragment or fault or truncated", "incomplete", "header 17"],
+            others: &["fragment or fault or truncated", "incomplete", "header ah"],
         },
     ),
     (
@@ -84,7 +84,7 @@ const IPV6_PLAIN: [Ipv6Row; 7] = [
             name: "a mobility header, which is not of the chain",
             is_plain: true,
             holding: &["leads-to 135 and headers = 0 and payload = 8"],
-            others: &["header 135", "leads-to no-next"],
+            others: &["headers > 0", "leads-to no-next"],
         },
     ),
     (
@@ -94,8 +94,8 @@ const IPV6_PLAIN: [Ipv6Row; 7] = [
         Row {
             name: "ESP, whose bytes would be a fragment header",
             is_plain: true,
-            holding: &["leads-to esp and payload = 8"],
-            others: &["header frag", "fragment", "header 50 or id 1"],
+            holding: &["leads-to esp and payload = 8", "spi 0x2c000001"],
+            others: &["header frag", "fragment", "header ah or id 1 or spi 1"],
         },
     ),
     (

@@ -145,17 +145,26 @@ fn ports_that_are_missing(rt: HostRuntime) -> Result<(), Fail> {
 fn icmp_messages(rt: HostRuntime) -> Result<(), Fail> {
     let alloc = rt.alloc();
     let message = [3, 4, 0, 0, 0, 0, 0, 0];
-    for protocol in [1, 58] {
-        let bytes = ipv6_bytes(alloc, 8, protocol, &message)?;
-        let holding = ["icmp-type 3 and icmp-code 4"];
-        check(
-            &rt,
-            "ICMP",
-            bytes.as_slice(),
-            &holding,
-            &["icmp-type 4", "icmp-code 3"],
-        );
-    }
+    let bytes = ipv4_bytes(alloc, 0x45, 28, [0, 0], 1, &message)?;
+    let holding = ["icmp and icmp-type 3 and icmp-code 4"];
+    let others = [
+        "icmp-type 4",
+        "icmp-code 3",
+        "icmp6",
+        "icmp6-type 3",
+        "icmp6-code 4",
+    ];
+    check(&rt, "ICMP", bytes.as_slice(), &holding, &others);
+    let bytes = ipv6_bytes(alloc, 8, 58, &message)?;
+    let holding = ["icmp6 and icmp6-type 3 and icmp6-code 4"];
+    let others = [
+        "icmp6-type 4",
+        "icmp6-code 3",
+        "icmp",
+        "icmp-type 3",
+        "icmp-code 4",
+    ];
+    check(&rt, "ICMPv6", bytes.as_slice(), &holding, &others);
     let bytes = ipv4_bytes(alloc, 0x45, 21, [0, 0], 1, &message)?;
     check(
         &rt,
@@ -180,6 +189,108 @@ fn icmp_messages(rt: HostRuntime) -> Result<(), Fail> {
         &["tcp"],
         &["icmp-type 3", "icmp-code 4"],
     );
+    Ok(())
+}
+
+/// ICMP of the other version: a type of one would be another type of the other (RFC 792; RFC 4443, section 2.1).
+#[test]
+fn icmp_of_the_other_version(rt: HostRuntime) -> Result<(), Fail> {
+    let alloc = rt.alloc();
+    let message = [3, 4, 0, 0, 0, 0, 0, 0];
+    let others = [
+        "icmp",
+        "icmp6",
+        "icmp-type 3",
+        "icmp-code 4",
+        "icmp6-type 3",
+        "icmp6-code 4",
+    ];
+    let bytes = ipv6_bytes(alloc, 8, 1, &message)?;
+    check(
+        &rt,
+        "ICMP in IPv6",
+        bytes.as_slice(),
+        &["leads-to icmp and not icmp"],
+        &others,
+    );
+    let options = [1, 0, 1, 4, 0, 0, 0, 0, 3, 4, 0, 0];
+    let bytes = ipv6_bytes(alloc, 12, 60, &options)?;
+    check(
+        &rt,
+        "ICMP after options",
+        bytes.as_slice(),
+        &["leads-to 1 and header dstopts"],
+        &others,
+    );
+    let bytes = ipv4_bytes(alloc, 0x45, 28, [0, 0], 58, &message)?;
+    check(
+        &rt,
+        "ICMPv6 in IPv4",
+        bytes.as_slice(),
+        &["leads-to icmp6"],
+        &others,
+    );
+    let options = [58, 0, 1, 4, 0, 0, 0, 0, 128, 0, 0, 0];
+    let bytes = ipv6_bytes(alloc, 12, 60, &options)?;
+    check(
+        &rt,
+        "ICMPv6 after options",
+        bytes.as_slice(),
+        &["icmp6 and icmp6-type 128 and icmp6-code 0"],
+        &["icmp", "icmp-type 128", "icmp6-type 1"],
+    );
+    let bytes = ipv6_bytes(
+        alloc,
+        16,
+        44,
+        &[58, 0, 0, 8, 0, 0, 0, 9, 3, 4, 0, 0, 0, 0, 0, 0],
+    )?;
+    check(
+        &rt,
+        "ICMPv6, last",
+        bytes.as_slice(),
+        &["icmp6 and later-fragment"],
+        &["icmp6-type 3", "icmp6-code 4"],
+    );
+    Ok(())
+}
+
+/// The security parameters index of ESP is its first 4 bytes (RFC 4303, section 2.1).
+#[test]
+fn indices_of_esp(rt: HostRuntime) -> Result<(), Fail> {
+    let alloc = rt.alloc();
+    let esp = [1, 2, 3, 4, 0, 0, 0, 5];
+    let others = ["spi 5", "spi 0", "spi 258"];
+    let bytes = ipv4_bytes(alloc, 0x45, 28, [0, 0], 50, &esp)?;
+    check(&rt, "IPv4", bytes.as_slice(), &["spi 0x01020304"], &others);
+    let auth = [50, 1, 0, 80, 0, 0, 1, 2, 0, 0, 0, 3, 1, 2, 3, 4];
+    let bytes = ipv6_bytes(alloc, 16, 51, &auth)?;
+    let holding = ["spi 258 and spi 0x01020304"];
+    check(&rt, "both", bytes.as_slice(), &holding, &["spi 3"]);
+    let options = [50, 0, 1, 4, 0, 0, 0, 0, 1, 2, 3];
+    let bytes = ipv6_bytes(alloc, 11, 60, &options)?;
+    let others = ["spi 0x010203", "spi 0x01020300"];
+    check(&rt, "3 bytes", bytes.as_slice(), &["esp"], &others);
+    let first = [50, 0, 0, 1, 0, 0, 0, 9, 1, 2, 3, 4, 0, 0, 0, 5];
+    let bytes = ipv6_bytes(alloc, 16, 44, &first)?;
+    check(
+        &rt,
+        "first",
+        bytes.as_slice(),
+        &["spi 0x01020304 and first-fragment"],
+        &["spi 9"],
+    );
+    let last = [50, 0, 0, 8, 0, 0, 0, 9, 1, 2, 3, 4, 0, 0, 0, 5];
+    let bytes = ipv6_bytes(alloc, 16, 44, &last)?;
+    check(
+        &rt,
+        "last",
+        bytes.as_slice(),
+        &["esp"],
+        &["spi 0x01020304", "spi 9"],
+    );
+    let bytes = ipv6_bytes(alloc, 8, 17, &esp)?;
+    check(&rt, "UDP", bytes.as_slice(), &["udp"], &["spi 0x01020304"]);
     Ok(())
 }
 

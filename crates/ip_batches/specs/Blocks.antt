@@ -8,7 +8,7 @@ use Rattle.ip_filter.specs.declared.brief.Brief.{Brief}
 
 -- a brief test: of flags, of the protocol number or of the payload's length
 abbrev pub IsBrief : Test → Type 0
-IsBrief x = ((x.kind == 1) || (x.kind == 2) || (x.kind == 5)) ≡ true
+IsBrief x = ((x.kind == 1) || (x.kind == 2) || (x.kind == 5) || (x.kind == 27)) ≡ true
 
 -- the tests that the packet of a brief meets
 abbrev pub met_by : Brief → Test → Bool

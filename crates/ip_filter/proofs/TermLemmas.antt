@@ -23,6 +23,7 @@ use Rattle.ip_filter.specs.declared.network.Network.{Network}
 use Rattle.ip_filter.specs.declared.words.Word.{Word as FirstWord}
 use Rattle.ip_filter.specs.Words.{Word, words}
 use Rattle.ip_filter.specs.Numbers.{version_named, header_named, protocol_of, number_up_to, ports_of, tcp_flags_of, names_in, comparison_of, fault_kind_of, layer_named, IsNetworkText, IsHostText}
+use Rattle.ip_filter.specs.IcmpTypes.{icmp_type_of, icmp6_type_of}
 use Rattle.ip_filter.specs.Grammar.{AreArguments, IsOne, Finds, Make, AreCompared, AreSide, source, destination, is_and, is_or}
 use Rattle.ip_filter.specs.Reading.{IsFirstWord, BeginsOtherwise, ReadsArgument, RefusesArgument, ReadsArguments, RefusesArguments, ReadsTerm, RefusesTerm, WantsArgument, IsKeyword, IsCountKeyword, IsNumberKeyword, IsByteKeyword, IsSideKeyword, ends_term}
 use Rattle.ip_filter.proofs.NetworkTextLemmas.{one_network, some_network, some_host}
@@ -328,17 +329,29 @@ module _ (text : List ℕ) where
   pub option_refused : (left : ℕ) (e : Expected) → RefusesArgument (Finds (number_up_to 255)) text left × (e ≡ expects.Byte) → RefusesTerm (keyword.Number number.Option) text left e
   option_refused left e r = is_refused (keyword.Number number.Option) (IsOne (Finds (number_up_to 255))) term.Option (λ us t m. m) (λ us t m. m) IsByteKeyword (λ w i. inr (inl i)) text left e (not_one (Finds (number_up_to 255)) (found_once (number_up_to 255)) (codes "0", 0, refl) IsByteKeyword expects.Byte (λ w i. ([], w, refl, i)) text left e r)
 
-  pub icmp_type_read : (rest : List ℕ) (a : ℕ) → ReadsArgument (Finds (number_up_to 255)) text a rest → ReadsTerm (keyword.Number number.IcmpType) text (term.IcmpType a) rest
-  icmp_type_read rest a r = is_read (keyword.Number number.IcmpType) (IsOne (Finds (number_up_to 255))) term.IcmpType (λ us t m. m) (λ us t m. m) text rest a (one (Finds (number_up_to 255)) (found_once (number_up_to 255)) text rest a r)
+  pub icmp_type_read : (rest : List ℕ) (a : ℕ) → ReadsArgument (Finds icmp_type_of) text a rest → ReadsTerm (keyword.Number number.IcmpType) text (term.IcmpType a) rest
+  icmp_type_read rest a r = is_read (keyword.Number number.IcmpType) (IsOne (Finds icmp_type_of)) term.IcmpType (λ us t m. m) (λ us t m. m) text rest a (one (Finds icmp_type_of) (found_once icmp_type_of) text rest a r)
 
-  pub icmp_type_refused : (left : ℕ) (e : Expected) → RefusesArgument (Finds (number_up_to 255)) text left × (e ≡ expects.Byte) → RefusesTerm (keyword.Number number.IcmpType) text left e
-  icmp_type_refused left e r = is_refused (keyword.Number number.IcmpType) (IsOne (Finds (number_up_to 255))) term.IcmpType (λ us t m. m) (λ us t m. m) IsByteKeyword (λ w i. inr (inr (inl i))) text left e (not_one (Finds (number_up_to 255)) (found_once (number_up_to 255)) (codes "0", 0, refl) IsByteKeyword expects.Byte (λ w i. ([], w, refl, i)) text left e r)
+  pub icmp_type_refused : (left : ℕ) (e : Expected) → RefusesArgument (Finds icmp_type_of) text left × (e ≡ expects.IcmpType) → RefusesTerm (keyword.Number number.IcmpType) text left e
+  icmp_type_refused left e r = is_refused (keyword.Number number.IcmpType) (IsOne (Finds icmp_type_of)) term.IcmpType (λ us t m. m) (λ us t m. m) (IsKeyword (keyword.Number number.IcmpType)) (λ w i. i) text left e (not_one (Finds icmp_type_of) (found_once icmp_type_of) (codes "0", 0, refl) (IsKeyword (keyword.Number number.IcmpType)) expects.IcmpType (λ w i. ([], w, refl, i)) text left e r)
 
   pub icmp_code_read : (rest : List ℕ) (a : ℕ) → ReadsArgument (Finds (number_up_to 255)) text a rest → ReadsTerm (keyword.Number number.IcmpCode) text (term.IcmpCode a) rest
   icmp_code_read rest a r = is_read (keyword.Number number.IcmpCode) (IsOne (Finds (number_up_to 255))) term.IcmpCode (λ us t m. m) (λ us t m. m) text rest a (one (Finds (number_up_to 255)) (found_once (number_up_to 255)) text rest a r)
 
   pub icmp_code_refused : (left : ℕ) (e : Expected) → RefusesArgument (Finds (number_up_to 255)) text left × (e ≡ expects.Byte) → RefusesTerm (keyword.Number number.IcmpCode) text left e
-  icmp_code_refused left e r = is_refused (keyword.Number number.IcmpCode) (IsOne (Finds (number_up_to 255))) term.IcmpCode (λ us t m. m) (λ us t m. m) IsByteKeyword (λ w i. inr (inr (inr i))) text left e (not_one (Finds (number_up_to 255)) (found_once (number_up_to 255)) (codes "0", 0, refl) IsByteKeyword expects.Byte (λ w i. ([], w, refl, i)) text left e r)
+  icmp_code_refused left e r = is_refused (keyword.Number number.IcmpCode) (IsOne (Finds (number_up_to 255))) term.IcmpCode (λ us t m. m) (λ us t m. m) IsByteKeyword (λ w i. inr (inr (inl i))) text left e (not_one (Finds (number_up_to 255)) (found_once (number_up_to 255)) (codes "0", 0, refl) IsByteKeyword expects.Byte (λ w i. ([], w, refl, i)) text left e r)
+
+  pub icmp6_type_read : (rest : List ℕ) (a : ℕ) → ReadsArgument (Finds icmp6_type_of) text a rest → ReadsTerm (keyword.Number number.Icmp6Type) text (term.Icmp6Type a) rest
+  icmp6_type_read rest a r = is_read (keyword.Number number.Icmp6Type) (IsOne (Finds icmp6_type_of)) term.Icmp6Type (λ us t m. m) (λ us t m. m) text rest a (one (Finds icmp6_type_of) (found_once icmp6_type_of) text rest a r)
+
+  pub icmp6_type_refused : (left : ℕ) (e : Expected) → RefusesArgument (Finds icmp6_type_of) text left × (e ≡ expects.Icmp6Type) → RefusesTerm (keyword.Number number.Icmp6Type) text left e
+  icmp6_type_refused left e r = is_refused (keyword.Number number.Icmp6Type) (IsOne (Finds icmp6_type_of)) term.Icmp6Type (λ us t m. m) (λ us t m. m) (IsKeyword (keyword.Number number.Icmp6Type)) (λ w i. i) text left e (not_one (Finds icmp6_type_of) (found_once icmp6_type_of) (codes "0", 0, refl) (IsKeyword (keyword.Number number.Icmp6Type)) expects.Icmp6Type (λ w i. ([], w, refl, i)) text left e r)
+
+  pub icmp6_code_read : (rest : List ℕ) (a : ℕ) → ReadsArgument (Finds (number_up_to 255)) text a rest → ReadsTerm (keyword.Number number.Icmp6Code) text (term.Icmp6Code a) rest
+  icmp6_code_read rest a r = is_read (keyword.Number number.Icmp6Code) (IsOne (Finds (number_up_to 255))) term.Icmp6Code (λ us t m. m) (λ us t m. m) text rest a (one (Finds (number_up_to 255)) (found_once (number_up_to 255)) text rest a r)
+
+  pub icmp6_code_refused : (left : ℕ) (e : Expected) → RefusesArgument (Finds (number_up_to 255)) text left × (e ≡ expects.Byte) → RefusesTerm (keyword.Number number.Icmp6Code) text left e
+  icmp6_code_refused left e r = is_refused (keyword.Number number.Icmp6Code) (IsOne (Finds (number_up_to 255))) term.Icmp6Code (λ us t m. m) (λ us t m. m) IsByteKeyword (λ w i. inr (inr (inr i))) text left e (not_one (Finds (number_up_to 255)) (found_once (number_up_to 255)) (codes "0", 0, refl) IsByteKeyword expects.Byte (λ w i. ([], w, refl, i)) text left e r)
 
   pub tcp_flags_read : (rest : List ℕ) (a : TcpFlags) → ReadsArgument (Finds tcp_flags_of) text a rest → ReadsTerm (keyword.Number number.TcpFlags) text (term.TcpFlags a) rest
   tcp_flags_read rest a r = is_read (keyword.Number number.TcpFlags) (IsOne (Finds tcp_flags_of)) term.TcpFlags (λ us t m. m) (λ us t m. m) text rest a (one (Finds tcp_flags_of) (found_once tcp_flags_of) text rest a r)
@@ -389,6 +402,6 @@ module _ (text : List ℕ) where
   port_refused left e r = is_refused (keyword.Address address.Port) (IsOne (Finds ports_of)) term.Port (λ us t m. m) (λ us t m. m) (IsKeyword (keyword.Address address.Port)) (λ w i. i) text left e (not_one (Finds ports_of) (found_once ports_of) (codes "0", record { first = 0; last = 0 }, refl) (IsKeyword (keyword.Address address.Port)) expects.Ports (λ w i. ([], w, refl, i)) text left e r)
 
 -- by what follows the keyword
-pub ruleset number_terms = (version_read, version_refused, header_read, header_refused, leads_to_read, leads_to_refused, spi_read, spi_refused, id_read, id_refused, routing_type_read, routing_type_refused, option_read, option_refused, icmp_type_read, icmp_type_refused, icmp_code_read, icmp_code_refused, tcp_flags_read, tcp_flags_refused)
+pub ruleset number_terms = (version_read, version_refused, header_read, header_refused, leads_to_read, leads_to_refused, spi_read, spi_refused, id_read, id_refused, routing_type_read, routing_type_refused, option_read, option_refused, icmp_type_read, icmp_type_refused, icmp_code_read, icmp_code_refused, icmp6_type_read, icmp6_type_refused, icmp6_code_read, icmp6_code_refused, tcp_flags_read, tcp_flags_refused)
 
 pub ruleset address_terms = (source_read, source_refused, destination_read, destination_refused, network_read, network_refused, host_read, host_refused, port_read, port_refused)

@@ -5,8 +5,8 @@ use Rattle.ip_filter.specs.declared.term.Comparison.{Comparison}
 use Rattle.ip_filter.specs.declared.term.Quantity.{Quantity}
 use Rattle.ip_filter.specs.declared.term.Ports.{Ports}
 use Rattle.ip_filter.specs.declared.filter.Test.{Test}
-use Rattle.ip_filter.specs.HeaderFields.{has_segments_left}
-use Rattle.ip_filter.specs.Transport.{source_port, destination_port, is_port_in, icmp_byte}
+use Rattle.ip_filter.specs.HeaderFields.{has_segments_left, has_spi}
+use Rattle.ip_filter.specs.Transport.{source_port, destination_port, is_port_in, icmp_byte, icmp6_byte, esp_spi}
 use Rattle.ip_filter.specs.Truth.{compares, is_in_layer, some_fragment, quantity_of}
 use Rattle.ip_filter.specs.Flags.{any_flag}
 use Rattle.ip_filter.specs.Tests.{meets, compared, comparison_in}
@@ -29,6 +29,20 @@ by_icmp_type x n p kind number = rw (kind, number) refl
 
 pub by_icmp_code : (x : Test) (n : ℕ) (p : DissectedParts) → x.kind ≡ 21 → x.number ≡ n → meets x p ≡ option_map_or (λ y. y == n) (icmp_byte 1 p) false
 by_icmp_code x n p kind number = rw (kind, number) refl
+
+pub by_icmp6_type : (x : Test) (n : ℕ) (p : DissectedParts) → x.kind ≡ 28 → x.number ≡ n → meets x p ≡ option_map_or (λ y. y == n) (icmp6_byte 0 p) false
+by_icmp6_type x n p kind number = rw (kind, number) refl
+
+pub by_icmp6_code : (x : Test) (n : ℕ) (p : DissectedParts) → x.kind ≡ 29 → x.number ≡ n → meets x p ≡ option_map_or (λ y. y == n) (icmp6_byte 1 p) false
+by_icmp6_code x n p kind number = rw (kind, number) refl
+
+-- a test of a security parameters index
+pub by_spi : (x : Test) (n : ℕ) (p : DissectedParts) → x.kind ≡ 6 → x.number ≡ n → meets x p ≡ (list_any (has_spi n) p.headers || option_map_or (λ y. y == n) (esp_spi p) false)
+by_spi x n p kind number = rw (kind, number) refl
+
+-- a test of what follows the headers of a packet of one version
+pub by_version : (x : Test) (v n : ℕ) (p : DissectedParts) → x.kind ≡ 27 → x.version ≡ v → x.number ≡ n → meets x p ≡ ((p.version == v) && (p.number == n))
+by_version x v n p kind version number = rw (kind, version, number) refl
 
 -- a test that compares the segments left of routing headers
 pub by_segments_left : (x : Test) (c : Comparison) (n : ℕ) (p : DissectedParts) → x.kind ≡ 24 → comparison_in x.comparison ≡ Some c → x.number ≡ n

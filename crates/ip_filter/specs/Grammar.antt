@@ -19,6 +19,7 @@ use Rattle.ip_filter.specs.declared.parse_term.Side.{Side}
 use Rattle.ip_filter.specs.declared.parse_term.Side.TheVariants as side
 use Rattle.ip_filter.specs.Words.{Word}
 use Rattle.ip_filter.specs.Numbers.{version_named, header_named, upper_layer_of, protocol_of, number_up_to, ports_of, tcp_flags_of, comparison_of, fault_kind_of, layer_named, IsNetworkText, IsHostText}
+use Rattle.ip_filter.specs.IcmpTypes.{icmp_type_of, icmp6_type_of}
 use Rattle.ip_filter.specs.Formula.{Formula, single, negation, both, either}
 
 -- ---- keywords
@@ -33,6 +34,8 @@ alone w =
     else if bytes_eq w (codes "later-fragment") then Some term.LaterFragment
     else if bytes_eq w (codes "incomplete") then Some term.Incomplete
     else if bytes_eq w (codes "no-transport") then Some term.NoTransport
+    else if bytes_eq w (codes "icmp") then Some term.Icmp
+    else if bytes_eq w (codes "icmp6") then Some term.Icmp6
     else option_map term.LeadsTo (upper_layer_of w)
 
 abbrev pub quantity_named : Word → Option Quantity
@@ -47,6 +50,15 @@ quantity_named w =
     else if bytes_eq w (codes "flow") then Some quantity.FlowLabel
     else None
 
+-- a keyword that a type or code of ICMP follows
+abbrev pub icmp_keyword_of : Word → Option NumberKeyword
+icmp_keyword_of w =
+    if bytes_eq w (codes "icmp-type") then Some number.IcmpType
+    else if bytes_eq w (codes "icmp-code") then Some number.IcmpCode
+    else if bytes_eq w (codes "icmp6-type") then Some number.Icmp6Type
+    else if bytes_eq w (codes "icmp6-code") then Some number.Icmp6Code
+    else None
+
 -- a keyword that a number or a name follows
 abbrev pub number_keyword_of : Word → Option NumberKeyword
 number_keyword_of w =
@@ -57,10 +69,8 @@ number_keyword_of w =
     else if bytes_eq w (codes "id") then Some number.Identification
     else if bytes_eq w (codes "routing-type") then Some number.RoutingType
     else if bytes_eq w (codes "option") then Some number.Option
-    else if bytes_eq w (codes "icmp-type") then Some number.IcmpType
-    else if bytes_eq w (codes "icmp-code") then Some number.IcmpCode
     else if bytes_eq w (codes "tcp-flags") then Some number.TcpFlags
-    else None
+    else icmp_keyword_of w
 
 -- a keyword that an address, a network or ports follow
 abbrev pub address_keyword_of : Word → Option AddressKeyword
@@ -126,8 +136,10 @@ AreNumberArguments number.SecurityParameters args t = Make (IsOne (Finds (number
 AreNumberArguments number.Identification args t = Make (IsOne (Finds (number_up_to 4294967295))) term.Identification args t
 AreNumberArguments number.RoutingType args t = Make (IsOne (Finds (number_up_to 255))) term.RoutingType args t
 AreNumberArguments number.Option args t = Make (IsOne (Finds (number_up_to 255))) term.Option args t
-AreNumberArguments number.IcmpType args t = Make (IsOne (Finds (number_up_to 255))) term.IcmpType args t
+AreNumberArguments number.IcmpType args t = Make (IsOne (Finds icmp_type_of)) term.IcmpType args t
 AreNumberArguments number.IcmpCode args t = Make (IsOne (Finds (number_up_to 255))) term.IcmpCode args t
+AreNumberArguments number.Icmp6Type args t = Make (IsOne (Finds icmp6_type_of)) term.Icmp6Type args t
+AreNumberArguments number.Icmp6Code args t = Make (IsOne (Finds (number_up_to 255))) term.Icmp6Code args t
 AreNumberArguments number.TcpFlags args t = Make (IsOne (Finds tcp_flags_of)) term.TcpFlags args t
 
 abbrev pub AreAddressArguments : AddressKeyword → List Word → Term → Type 0

@@ -12,6 +12,7 @@ pub mod Compiled
 pub mod Formula
 pub mod Words
 pub mod Numbers
+pub mod IcmpTypes
 pub mod Grammar
 pub mod Reading
 pub mod Reached

@@ -9,6 +9,7 @@ use Rattle.std.specs.Net.Addr.{ipv4_bits, ipv6_bits}
 use Rattle.std.specs.Net.Grammar.{IsIpv4Text, IsIpv6Text}
 use Rattle.std.specs.declared.net.ipv4_addr.Ipv4Addr.{Ipv4Addr}
 use Rattle.std.specs.declared.net.ipv6_addr.Ipv6Addr.{Ipv6Addr}
+use Rattle.ip_spec.specs.Numbers.{HOP_BY_HOP, ROUTING, FRAGMENT, AUTHENTICATION, DESTINATION_OPTIONS}
 use Rattle.ip_base.specs.declared.err.layer.Layer.{Layer}
 use Rattle.ip_base.specs.declared.err.layer.Layer.TheVariants as layer
 use Rattle.ip_filter.specs.declared.network.Network.{Network}
@@ -50,15 +51,26 @@ number_up_to most w = limited most (number_of w)
 abbrev pub version_named : Word → Option ℕ
 version_named w = if bytes_eq w (codes "4") then Some 4 else if bytes_eq w (codes "6") then Some 6 else None
 
--- an extension header, by its name, the short form of that, or its number
-abbrev pub header_named : Word → Option ℕ
-header_named w =
+-- an extension header, by its name or the short form of that
+abbrev pub header_called : Word → Option ℕ
+header_called w =
     if bytes_eq w (codes "hop-by-hop") || bytes_eq w (codes "hopopt") then Some 0
     else if bytes_eq w (codes "routing") || bytes_eq w (codes "route") then Some 43
     else if bytes_eq w (codes "fragment") || bytes_eq w (codes "frag") then Some 44
     else if bytes_eq w (codes "authentication") || bytes_eq w (codes "ah") then Some 51
     else if bytes_eq w (codes "destination-options") || bytes_eq w (codes "dstopts") then Some 60
-    else number_up_to 255 w
+    else None
+
+-- The number n, if a header of a packet can have it. The headers of a packet end before any other number, as that of ESP (50)
+-- or Mobility (135), so they lead to it.
+abbrev pub header_numbered : ℕ → Option ℕ
+header_numbered n =
+    if (n == HOP_BY_HOP) || (n == ROUTING) || (n == FRAGMENT) || (n == AUTHENTICATION) || (n == DESTINATION_OPTIONS) then Some n
+    else None
+
+-- an extension header, by its name or its number
+abbrev pub header_named : Word → Option ℕ
+header_named w = option_or (header_called w) (option_and_then header_numbered (number_up_to 255 w))
 
 -- an upper-layer protocol, or no next header, by its name
 abbrev pub upper_layer_of : Word → Option ℕ
@@ -75,9 +87,9 @@ upper_layer_of w =
     else if bytes_eq w (codes "udp-lite") then Some 136
     else None
 
--- what follows the headers, by its name or number
+-- what follows the headers, by its name or number: a header, too, if it is truncated or faulty
 abbrev pub protocol_of : Word → Option ℕ
-protocol_of w = option_or (upper_layer_of w) (header_named w)
+protocol_of w = option_or (upper_layer_of w) (option_or (header_called w) (number_up_to 255 w))
 
 abbrev pub comparison_of : Word → Option Comparison
 comparison_of w =

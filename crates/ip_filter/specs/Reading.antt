@@ -27,11 +27,15 @@ IsCountKeyword w = ((q : Quantity) × IsKeyword (keyword.Compared q) w) ⊎ IsKe
 abbrev pub IsNumberKeyword : Word → Type 0
 IsNumberKeyword w = IsKeyword (keyword.Number number.SecurityParameters) w ⊎ IsKeyword (keyword.Number number.Identification) w
 
--- a number of 8 bits follows: a type of routing, a type of option, or a type or code of ICMP
+-- a code of ICMP or ICMPv6 follows
+abbrev pub IsCodeKeyword : Word → Type 0
+IsCodeKeyword w = IsKeyword (keyword.Number number.IcmpCode) w ⊎ IsKeyword (keyword.Number number.Icmp6Code) w
+
+-- a number of 8 bits follows: a type of routing, a type of option, or a code of ICMP
 abbrev pub IsByteKeyword : Word → Type 0
 IsByteKeyword w =
     IsKeyword (keyword.Number number.RoutingType) w ⊎ (IsKeyword (keyword.Number number.Option) w
-    ⊎ (IsKeyword (keyword.Number number.IcmpType) w ⊎ IsKeyword (keyword.Number number.IcmpCode) w))
+    ⊎ IsCodeKeyword w)
 
 -- a network or `port` follows
 abbrev pub IsSideKeyword : Word → Type 0
@@ -48,6 +52,8 @@ WantsArgument ws expects.Header = LastIs (IsKeyword (keyword.Number number.Heade
 WantsArgument ws expects.Protocol = LastIs (IsKeyword (keyword.Number number.LeadsTo)) ws
 WantsArgument ws expects.Number = LastIs IsNumberKeyword ws
 WantsArgument ws expects.Byte = LastIs IsByteKeyword ws
+WantsArgument ws expects.IcmpType = LastIs (IsKeyword (keyword.Number number.IcmpType)) ws
+WantsArgument ws expects.Icmp6Type = LastIs (IsKeyword (keyword.Number number.Icmp6Type)) ws
 WantsArgument ws expects.Comparison = LastIs IsCountKeyword ws
 WantsArgument ws expects.Count = LastIs (λ w. IsTrue (is_some (comparison_of w))) ws
 WantsArgument ws expects.Network = LastIs (IsKeyword (keyword.Address address.Network)) ws

@@ -3,7 +3,7 @@ use Rattle.std.specs.Prelude.{ℕ, ◌+◌, ◌*◌, ◌^◌, ◌==◌, ◌&&◌
 use Rattle.std.specs.List.{list_any}
 use Rattle.std.specs.Option.{option_map, option_map_or}
 use Rattle.ip_dissect.specs.Dissection.{DissectedParts, dissected}
-use Rattle.ip_filter.specs.Transport.{source_port, destination_port, lacks_ports, icmp_byte, tcp_flags}
+use Rattle.ip_filter.specs.Transport.{source_port, destination_port, lacks_ports, icmp_byte, icmp6_byte, esp_spi, tcp_flags}
 use Rattle.ip_filter.specs.Truth.{is_in_layer, compares, has_base, has_source, has_destination, some_fragment, quantity_of}
 use Rattle.ip_filter.specs.HeaderFields.{has_option, has_spi, has_routing_type, has_segments_left}
 use Rattle.ip_filter.specs.Flags.{any_flag}
@@ -56,6 +56,8 @@ meets_in_payload x p =
     else if x.kind == 20 then option_map_or (λ n. n == x.number) (icmp_byte 0 p) false
     else if x.kind == 21 then option_map_or (λ n. n == x.number) (icmp_byte 1 p) false
     else if x.kind == 22 then option_map_or (λ n. bit_and n x.address_low == x.number) (tcp_flags p) false
+    else if x.kind == 28 then option_map_or (λ n. n == x.number) (icmp6_byte 0 p) false
+    else if x.kind == 29 then option_map_or (λ n. n == x.number) (icmp6_byte 1 p) false
     else false
 
 -- The packet with the parts p meets the test.
@@ -66,7 +68,7 @@ meets x p =
     else if x.kind == 3 then compared x Headers p
     else if x.kind == 4 then compared x ChainBytes p
     else if x.kind == 5 then compared x Payload p
-    else if x.kind == 6 then list_any (has_spi x.number) p.headers
+    else if x.kind == 6 then list_any (has_spi x.number) p.headers || option_map_or (λ n. n == x.number) (esp_spi p) false
     else if x.kind == 7 then some_fragment (λ y. y.identification == x.number) p
     else if x.kind == 8 then option_map_or (λ n. has_source n p) (network_in x) false
     else if x.kind == 9 then option_map_or (λ n. has_destination n p) (network_in x) false
@@ -80,6 +82,7 @@ meets x p =
     else if x.kind == 24 then option_map_or (λ c. list_any (has_segments_left (λ n. compares c n x.number)) p.headers) (comparison_in x.comparison) false
     else if x.kind == 25 then list_any (has_option x.number) p.headers
     else if x.kind == 26 then any_flag 64 x.address_low p && is_in_layer x.number p.end
+    else if x.kind == 27 then (p.version == x.version) && (p.number == x.number)
     else meets_in_payload x p
 
 -- a frame meets the test: the packet at the start of its bytes does, and a frame that is not IP meets none

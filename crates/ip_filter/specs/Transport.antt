@@ -1,6 +1,6 @@
 -- What follows the headers: the header of a transport protocol, or an ICMP message.
 use Rattle.std.specs.Prelude.{ℕ, ◌+◌, List, [], length, slice_index, slice_range, bit_and, Bool, true, false, ◌==◌, ◌&&◌, ◌||◌, nat_lt, nat_le, if◌then◌else◌, Option, Some, None}
-use Rattle.std.specs.Int.{from_be_bytes, w16}
+use Rattle.std.specs.Int.{from_be_bytes, w16, w32}
 use Rattle.ip_dissect.specs.Dissection.{DissectedParts}
 use Rattle.ip_dissect.specs.declared.end.End.{End}
 use Rattle.ip_dissect.specs.declared.end.End.TheVariants as end
@@ -40,13 +40,28 @@ lacks_ports p = has_ports p.number && is_at_payload p.end && nat_lt (length p.pa
 abbrev pub is_port_in : Ports → ℕ → Bool
 is_port_in r n = nat_le r.first n && nat_le n r.last
 
--- ICMP (RFC 792) and ICMPv6 (RFC 4443, section 2.1): messages begin with their type and code, of 8 bits each
-abbrev pub is_icmp : ℕ → Bool
-is_icmp n = (n == 1) || (n == 58)
+-- ICMP is of IPv4 (RFC 792), ICMPv6 of IPv6 (RFC 4443, section 1).
+abbrev pub is_icmp : DissectedParts → Bool
+is_icmp p = (p.version == 4) && (p.number == 1)
 
--- byte i of the message, if it is there
+abbrev pub is_icmp6 : DissectedParts → Bool
+is_icmp6 p = (p.version == 6) && (p.number == 58)
+
+-- byte i from the transport header on, if it is there
+abbrev pub transport_byte : ℕ → DissectedParts → Option ℕ
+transport_byte i p = if nat_lt i (length (transport_of p)) then Some (slice_index (transport_of p) i) else None
+
+-- Byte i of the message, if it is there. Messages begin with their type and code, of 8 bits each (RFC 792; RFC 4443, section
+-- 2.1).
 abbrev pub icmp_byte : ℕ → DissectedParts → Option ℕ
-icmp_byte i p = if is_icmp p.number && nat_lt i (length (transport_of p)) then Some (slice_index (transport_of p) i) else None
+icmp_byte i p = if is_icmp p then transport_byte i p else None
+
+abbrev pub icmp6_byte : ℕ → DissectedParts → Option ℕ
+icmp6_byte i p = if is_icmp6 p then transport_byte i p else None
+
+-- The security parameters index of ESP (RFC 4303, section 2.1): the first 32 bits, if they are there.
+abbrev pub esp_spi : DissectedParts → Option ℕ
+esp_spi p = if (p.number == 50) && nat_le 4 (length (transport_of p)) then Some (from_be_bytes w32 (slice_range (transport_of p) 0 4)) else None
 
 -- byte 13 of a TCP header (RFC 9293, section 3.1), if it is there: from the high bit CWR, ECE, URG, ACK, PSH, RST, SYN, FIN
 abbrev pub tcp_flags : DissectedParts → Option ℕ

@@ -23,7 +23,7 @@ use Rattle.ip_dissect.specs.declared.end.End.TheVariants as end
 use Rattle.ip_base.specs.BaseHeaderFields.{ipv4_ttl, ipv4_dscp, ipv4_ecn, ipv6_hop_limit, ipv6_traffic_class, ipv6_flow_label}
 use Rattle.ip_filter.specs.Network.{ipv4_lies_in, ipv6_lies_in}
 use Rattle.ip_filter.specs.HeaderFields.{has_option, has_spi, has_routing_type, has_segments_left}
-use Rattle.ip_filter.specs.Transport.{source_port, destination_port, lacks_ports, icmp_byte, tcp_flags, is_port_in, are_set}
+use Rattle.ip_filter.specs.Transport.{source_port, destination_port, lacks_ports, is_icmp, is_icmp6, icmp_byte, icmp6_byte, esp_spi, tcp_flags, is_port_in, are_set}
 use Rattle.ip_filter.specs.declared.network.Network.{Network}
 use Rattle.ip_filter.specs.declared.term.Comparison.{Comparison}
 use Rattle.ip_filter.specs.declared.term.Comparison.TheVariants as by
@@ -145,7 +145,7 @@ holds (term.FaultOf kind) p = option_map_or (λ k. kind_index k == kind_index ki
 holds (term.TruncatedAt l) p = is_truncated p.end && is_in_layer (layer_code l) p.end
 holds (term.FaultAt kind l) p = option_map_or (λ k. kind_index k == kind_index kind) (fault_in p.end) false && is_in_layer (layer_code l) p.end
 holds (term.Compared q c n) p = option_map_or (λ x. compares c x n) (quantity_of q p) false
-holds (term.SecurityParameters i) p = list_any (has_spi i) p.headers
+holds (term.SecurityParameters i) p = list_any (has_spi i) p.headers || option_map_or (λ x. x == i) (esp_spi p) false
 holds (term.Option n) p = list_any (has_option n) p.headers
 holds (term.RoutingType n) p = list_any (has_routing_type n) p.headers
 holds (term.SegmentsLeft c n) p = list_any (has_segments_left (λ x. compares c x n)) p.headers
@@ -157,6 +157,10 @@ holds (term.SourcePort r) p = option_map_or (is_port_in r) (source_port p) false
 holds (term.DestinationPort r) p = option_map_or (is_port_in r) (destination_port p) false
 holds (term.Port r) p = option_map_or (is_port_in r) (source_port p) false || option_map_or (is_port_in r) (destination_port p) false
 holds term.NoTransport p = lacks_ports p
+holds term.Icmp p = is_icmp p
+holds term.Icmp6 p = is_icmp6 p
 holds (term.IcmpType n) p = option_map_or (λ x. x == n) (icmp_byte 0 p) false
 holds (term.IcmpCode n) p = option_map_or (λ x. x == n) (icmp_byte 1 p) false
+holds (term.Icmp6Type n) p = option_map_or (λ x. x == n) (icmp6_byte 0 p) false
+holds (term.Icmp6Code n) p = option_map_or (λ x. x == n) (icmp6_byte 1 p) false
 holds (term.TcpFlags t) p = option_map_or (are_set t) (tcp_flags p) false

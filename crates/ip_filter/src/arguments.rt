@@ -5,9 +5,11 @@ ghost use Rattle.std.specs.Prelude.{◌≡◌, [], IfOk, IfErr};
 ghost use Rattle.ip_filter.specs.declared.parse_error.Expected.TheVariants as expects;
 ghost use Rattle.ip_filter.specs.Words.{words};
 ghost use Rattle.ip_filter.specs.Numbers.{number_up_to, version_named, header_named, protocol_of, comparison_of, ports_of, tcp_flags_of, IsNetworkText, IsHostText};
+ghost use Rattle.ip_filter.specs.IcmpTypes.{icmp_type_of, icmp6_type_of};
 ghost use Rattle.ip_filter.specs.Grammar.{Finds};
 ghost use Rattle.ip_filter.specs.Reading.{IsPlace, IsFirstWord, ReadsArgument, RefusesArgument};
 
+use crate::icmp_types::{parse_icmp_type, parse_icmp6_type};
 use crate::networks::{parse_host, parse_network};
 use crate::numbers::{
     parse_comparison, parse_header, parse_number, parse_ports, parse_protocol, parse_version,
@@ -102,6 +104,32 @@ pub(crate) fn read_number(
     match parse_number(word.bytes, most) {
         Some(number) => Ok((number, word.rest)),
         None => Err(word.unexpected(expected)),
+    }
+}
+
+/// Reads the name or number of a type of ICMP.
+pub(crate) fn read_icmp_type(text: &[u8]) -> Result<(u8, &[u8]), Unexpected>
+    ensures ok { IfOk result (λ r. ReadsArgument (Finds icmp_type_of) text.now r.0 r.1.now) }
+    ensures err { IfErr result (λ e. RefusesArgument (Finds icmp_type_of) text.now e.left
+        × (e.expected ≡ expects.IcmpType)) }
+{
+    let word = argument(text, Expected::IcmpType)?;
+    match parse_icmp_type(word.bytes) {
+        Some(number) => Ok((number, word.rest)),
+        None => Err(word.unexpected(Expected::IcmpType)),
+    }
+}
+
+/// Reads the name or number of a type of ICMPv6.
+pub(crate) fn read_icmp6_type(text: &[u8]) -> Result<(u8, &[u8]), Unexpected>
+    ensures ok { IfOk result (λ r. ReadsArgument (Finds icmp6_type_of) text.now r.0 r.1.now) }
+    ensures err { IfErr result (λ e. RefusesArgument (Finds icmp6_type_of) text.now e.left
+        × (e.expected ≡ expects.Icmp6Type)) }
+{
+    let word = argument(text, Expected::Icmp6Type)?;
+    match parse_icmp6_type(word.bytes) {
+        Some(number) => Ok((number, word.rest)),
+        None => Err(word.unexpected(Expected::Icmp6Type)),
     }
 }
 

@@ -3,7 +3,6 @@ ghost use Rattle.std.specs.Prelude.{◌≡◌, ◌==◌, ◌&&◌, ◌||◌, ℕ
 ghost use Rattle.ip_dissect.specs.Dissection.{dissected};
 ghost use Rattle.ip_filter.specs.Flags.{AreFlags, AreKnown};
 ghost use Rattle.ip_filter.specs.Tests.{compared, meets};
-ghost use Rattle.ip_filter.specs.Truth.{has_base};
 ghost use Rattle.ip_filter.specs.declared.term.Quantity.TheVariants.{Payload};
 
 use crate::Test;
@@ -21,11 +20,11 @@ pub struct Brief<'a> {
     flags: Flags,
     payload_len: usize,
     number: IpNumber,
-    is_packet: bool,
+    version: u8,
     ghost flags_are: { (m : ℕ) → AreFlags m (dissected bytes.now) flags },
     ghost payload_is: { payload_len ≡ length (dissected bytes.now).payload },
     ghost number_is: { number.0 ≡ (dissected bytes.now).number },
-    ghost base_is: { is_packet ≡ has_base (dissected bytes.now) },
+    ghost version_is: { version ≡ (dissected bytes.now).version },
 }
 
 impl<'a> Brief<'a> {
@@ -57,7 +56,7 @@ impl<'a> Brief<'a> {
             flags: with_error(packet, flags),
             payload_len: packet.outline.payload_len,
             number: packet.outline.next_header,
-            is_packet: packet.outline.version != 0,
+            version: packet.outline.version,
         }
     }
 }
@@ -105,25 +104,31 @@ impl<'a> PacketVisitor<'a> for Briefing<'_, 'a> {
 }
 
 impl Test {
-    /// Returns whether the test is a brief one: of flags, of the protocol number that follows the headers, or of the payload
-    /// bytes that are here.
+    /// Returns whether the test is a brief one: of flags, of the protocol number that follows the headers, with the version or
+    /// without, or of the payload bytes that are here.
     #[inline(always)]
     pub fn is_brief(&self) -> bool
-        ensures { result ≡ ((self.now.kind == 1) || (self.now.kind == 2) || (self.now.kind == 5)) }
+        ensures { result ≡ ((self.now.kind == 1) || (self.now.kind == 2) || (self.now.kind == 5) || (self.now.kind == 27)) }
     {
-        matches!(self.kind, kind::FLAGS | kind::LEADS_TO | kind::PAYLOAD)
+        matches!(
+            self.kind,
+            kind::FLAGS | kind::LEADS_TO | kind::PAYLOAD | kind::VERSION_LEADS_TO
+        )
     }
 
     /// Returns whether the test is a brief one and the packet of the brief meets it.
     #[inline(always)]
     pub fn is_met_by(&self, brief: &Brief<'_>) -> bool
-        ensures { result ≡ (((self.now.kind == 1) || (self.now.kind == 2) || (self.now.kind == 5))
+        ensures { result ≡ (((self.now.kind == 1) || (self.now.kind == 2) || (self.now.kind == 5) || (self.now.kind == 27))
             && meets self.now (dissected brief.now.bytes.now)) }
     {
         match self.kind {
             kind::FLAGS => brief.flags.has_one_of(self.number),
-            kind::LEADS_TO => brief.is_packet & (u64::from(brief.number.0) == self.number),
+            kind::LEADS_TO => (brief.version != 0) & (u64::from(brief.number.0) == self.number),
             kind::PAYLOAD => self.compares_payload(brief),
+            kind::VERSION_LEADS_TO => {
+                (brief.version == self.version) & (u64::from(brief.number.0) == self.number)
+            }
             _ => false,
         }
     }
@@ -135,7 +140,7 @@ impl Test {
     {
         match comparison_of(self.comparison) {
             Some(comparison) => {
-                brief.is_packet & comparison.holds(brief.payload_len as u64, self.number)
+                (brief.version != 0) & comparison.holds(brief.payload_len as u64, self.number)
             }
             None => false,
         }

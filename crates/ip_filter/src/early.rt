@@ -17,21 +17,25 @@ impl Test {
     /// Returns whether the test is one of flags or of the protocol number.
     #[inline(always)]
     pub(crate) fn is_of_numbers(&self) -> bool
-        ensures { result ≡ ((self.now.kind == 1) || (self.now.kind == 2)) }
+        ensures { result ≡ ((self.now.kind == 1) || (self.now.kind == 2) || (self.now.kind == 27)) }
     {
-        matches!(self.kind, kind::FLAGS | kind::LEADS_TO)
+        matches!(
+            self.kind,
+            kind::FLAGS | kind::LEADS_TO | kind::VERSION_LEADS_TO
+        )
     }
 
     /// Returns whether a packet meets the test, which is one of flags or of the protocol number.
     #[inline(always)]
     pub(crate) fn is_met_by_numbers(&self, packet: &Packet<'_>, flags: Flags) -> bool
-        requires kind { ((self.now.kind == 1) || (self.now.kind == 2)) ≡ true }
+        requires kind { ((self.now.kind == 1) || (self.now.kind == 2) || (self.now.kind == 27)) ≡ true }
         requires flags { AreKnown (dissected packet.now.bytes.now) flags }
         ensures { result ≡ meets self.now (dissected packet.now.bytes.now) }
     {
         match self.kind {
             kind::FLAGS => has_one_of(packet, flags, self.number),
-            _ => self.leads_to(packet),
+            kind::LEADS_TO => self.leads_to(packet),
+            _ => self.version_leads_to(packet),
         }
     }
 
@@ -56,6 +60,7 @@ impl Test {
         match self.kind {
             kind::FLAGS => Some(self.next_index(has_one_of(packet, flags, self.number))),
             kind::LEADS_TO => Some(self.next_index(self.leads_to(packet))),
+            kind::VERSION_LEADS_TO => Some(self.next_index(self.version_leads_to(packet))),
             kind::SOURCE => Some(self.next_index(self.has_source(packet))),
             kind::DESTINATION => Some(self.next_index(self.has_destination(packet))),
             kind::EITHER => Some(self.next_index(self.has_either(packet))),
@@ -83,6 +88,16 @@ impl Test {
     {
         let outline = &packet.outline;
         outline.version != 0 && u64::from(outline.next_header.0) == self.number
+    }
+
+    /// Returns whether the packet has the version of the test, and its headers lead to the protocol number of the test.
+    #[inline(always)]
+    pub(crate) fn version_leads_to(&self, packet: &Packet<'_>) -> bool
+        ensures { result ≡ (((dissected packet.now.bytes.now).version == self.now.version)
+            && ((dissected packet.now.bytes.now).number == self.now.number)) }
+    {
+        let outline = &packet.outline;
+        outline.version == self.version && u64::from(outline.next_header.0) == self.number
     }
 
     /// Returns whether either address of the packet lies in the network of the test.

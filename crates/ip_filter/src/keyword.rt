@@ -1,6 +1,6 @@
 //! Keywords: the words that terms begin with.
 ghost use Rattle.std.specs.Prelude.{◌≡◌};
-ghost use Rattle.ip_filter.specs.Grammar.{alone, quantity_named, number_keyword_of, address_keyword_of, keyword_of};
+ghost use Rattle.ip_filter.specs.Grammar.{alone, quantity_named, icmp_keyword_of, number_keyword_of, address_keyword_of, keyword_of};
 
 use crate::numbers::parse_upper_layer;
 use crate::{Quantity, Term};
@@ -45,6 +45,10 @@ pub(crate) enum NumberKeyword {
     IcmpType,
     /// A code of ICMP.
     IcmpCode,
+    /// A type of ICMPv6.
+    Icmp6Type,
+    /// A code of ICMPv6.
+    Icmp6Code,
     /// Flags of TCP.
     TcpFlags,
 }
@@ -117,6 +121,12 @@ fn alone(word: &[u8]) -> Option<Term>
     if word == b"no-transport".as_slice() {
         return Some(Term::NoTransport);
     }
+    if word == b"icmp".as_slice() {
+        return Some(Term::Icmp);
+    }
+    if word == b"icmp6".as_slice() {
+        return Some(Term::Icmp6);
+    }
     match parse_upper_layer(word) {
         Some(number) => Some(Term::LeadsTo(number)),
         None => None,
@@ -179,14 +189,27 @@ fn number_keyword_of(word: &[u8]) -> Option<NumberKeyword>
     if word == b"option".as_slice() {
         return Some(NumberKeyword::Option);
     }
+    if word == b"tcp-flags".as_slice() {
+        return Some(NumberKeyword::TcpFlags);
+    }
+    icmp_keyword_of(word)
+}
+
+/// Returns the keyword that the word is, if a type or code of ICMP follows it.
+fn icmp_keyword_of(word: &[u8]) -> Option<NumberKeyword>
+    ensures { result ≡ icmp_keyword_of word.now }
+{
     if word == b"icmp-type".as_slice() {
         return Some(NumberKeyword::IcmpType);
     }
     if word == b"icmp-code".as_slice() {
         return Some(NumberKeyword::IcmpCode);
     }
-    if word == b"tcp-flags".as_slice() {
-        return Some(NumberKeyword::TcpFlags);
+    if word == b"icmp6-type".as_slice() {
+        return Some(NumberKeyword::Icmp6Type);
+    }
+    if word == b"icmp6-code".as_slice() {
+        return Some(NumberKeyword::Icmp6Code);
     }
     None
 }

@@ -11,6 +11,7 @@ mod filter;
 mod flags;
 mod header_condition;
 mod holds;
+mod icmp_types;
 mod join;
 mod keyword;
 mod laws;

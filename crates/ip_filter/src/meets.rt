@@ -2,12 +2,14 @@
 ghost use Rattle.std.specs.Prelude.{◌≡◌, ◌==◌, bit_and, false};
 ghost use Rattle.std.specs.Option.{option_map_or};
 ghost use Rattle.ip_dissect.specs.Dissection.{DissectedParts, dissected};
-ghost use Rattle.ip_filter.specs.Transport.{transport_of, tcp_flags};
+ghost use Rattle.ip_filter.specs.Transport.{transport_of, esp_spi, tcp_flags};
 ghost use Rattle.ip_filter.specs.Tests.{comparison_in, network_in, compared, is_in_range, meets, meets_in_payload};
 
 use crate::facts::Facts;
 use crate::header_condition::HeaderCondition;
-use crate::transport::{DESTINATION_PORT, ICMP_CODE, ICMP_TYPE, SOURCE_PORT, tcp_flags};
+use crate::transport::{
+    DESTINATION_PORT, ICMP_CODE, ICMP_TYPE, SOURCE_PORT, esp_spi, protocol, tcp_flags,
+};
 use crate::{Comparison, Network, Quantity, Test};
 
 /// The kinds of tests.
@@ -63,6 +65,12 @@ pub(crate) mod kind {
     pub const OPTION: u8 = 25;
 
     pub const LAYER: u8 = 26;
+
+    pub const VERSION_LEADS_TO: u8 = 27;
+
+    pub const ICMP6_TYPE: u8 = 28;
+
+    pub const ICMP6_CODE: u8 = 29;
 }
 
 impl Test {
@@ -84,6 +92,7 @@ impl Test {
             kind::FLOW_LABEL => self.compares(Quantity::FlowLabel, facts),
             kind::SECURITY_PARAMETERS => {
                 facts.has_header(HeaderCondition::SecurityParameters(self.number))
+                    || self.has_esp_spi(facts)
             }
             kind::OPTION => facts.has_header(HeaderCondition::Option(self.number)),
             kind::ROUTING_TYPE => facts.has_header(HeaderCondition::RoutingType(self.number)),
@@ -98,6 +107,7 @@ impl Test {
             kind::DESTINATION => self.has_destination(&facts.packet),
             kind::EITHER => self.has_either(&facts.packet),
             kind::LAYER => { facts.has_one_of(self.address_low) && facts.is_in_layer(self.number) }
+            kind::VERSION_LEADS_TO => self.version_leads_to(&facts.packet),
             _ => self.is_met_in_payload(facts),
         }
     }
@@ -117,6 +127,8 @@ impl Test {
             kind::NO_TRANSPORT => facts.lacks_ports(),
             kind::ICMP_TYPE => self.is_number(facts.icmp_byte(ICMP_TYPE)),
             kind::ICMP_CODE => self.is_number(facts.icmp_byte(ICMP_CODE)),
+            kind::ICMP6_TYPE => self.is_number(facts.icmp6_byte(ICMP_TYPE)),
+            kind::ICMP6_CODE => self.is_number(facts.icmp6_byte(ICMP_CODE)),
             kind::TCP_FLAGS => {
                 self.has_tcp_flags(facts.packet.outline.next_header.0, facts.transport())
             },
@@ -169,6 +181,27 @@ impl Test {
             (tcp_flags p) false }
     {
         self.has_bits(tcp_flags(number, transport))
+    }
+
+    /// Returns whether ESP follows with the security parameters index of the test.
+    #[inline(always)]
+    pub(crate) fn has_esp_spi(&self, facts: &Facts<'_>) -> bool
+        ensures { result ≡ option_map_or (λ n. n == self.now.number)
+            (esp_spi (dissected facts.now.packet.bytes.now)) false }
+    {
+        facts.packet.outline.next_header.0 == protocol::ESP && self.is_esp_spi(facts.transport())
+    }
+
+    /// Returns whether a payload of ESP begins with the security parameters index of the test. Not inlined, as `has_tcp_flags`.
+    #[inline(never)]
+    fn is_esp_spi(&self, transport: &[u8]) -> bool
+        ensures { (p : DissectedParts) → p.number ≡ 50 → transport_of p ≡ transport.now
+            → result ≡ option_map_or (λ n. n == self.now.number) (esp_spi p) false }
+    {
+        match esp_spi(transport) {
+            Some(spi) => u64::from(spi) == self.number,
+            None => false,
+        }
     }
 
     /// Returns whether the flags are there, and those that count are the number of the test.

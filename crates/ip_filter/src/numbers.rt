@@ -1,8 +1,9 @@
 //! Numbers, names and ports, as a filter's text writes them.
 ghost use Rattle.std.specs.Prelude.{◌≡◌, ◌≤◌, ◌-◌, ◌^◌, length, true};
-ghost use Rattle.ip_filter.specs.Numbers.{numeral, limited, number_up_to, version_named, header_named, upper_layer_of, protocol_of, ports_of, comparison_of, fault_kind_of, index_of};
+ghost use Rattle.ip_filter.specs.Numbers.{numeral, limited, number_up_to, version_named, header_called, header_numbered, header_named, upper_layer_of, protocol_of, ports_of, comparison_of, fault_kind_of, index_of};
 
 use crate::{Comparison, FaultKind, Ports};
+use ip_base::{IpNumber, ip_number};
 
 /// Returns the number that the digits write, or `None` if they aren't digits or it doesn't fit 64 bits.
 #[tactic(auto, using(crate::proofs::NumberLemmas::all_digits, crate::proofs::NumberLemmas::overflow_mul, crate::proofs::NumberLemmas::overflow_add))]
@@ -49,9 +50,33 @@ pub(crate) fn parse_version(word: &[u8]) -> Option<u8>
     None
 }
 
-/// Returns the number of the extension header that the word names, or the number that it writes.
+/// Returns the number of the extension header that the word names or whose number it writes.
 pub(crate) fn parse_header(word: &[u8]) -> Option<u8>
     ensures { result ≡ header_named word.now }
+{
+    match parse_header_name(word) {
+        Some(number) => Some(number),
+        None => header_numbered(parse_byte(word)?),
+    }
+}
+
+/// Returns the number, if an extension header of a packet can have it.
+fn header_numbered(number: u8) -> Option<u8>
+    ensures { result ≡ header_numbered number }
+{
+    match IpNumber(number) {
+        ip_number::IPV6_HOP_BY_HOP
+        | ip_number::IPV6_ROUTE
+        | ip_number::IPV6_FRAG
+        | ip_number::AUTH
+        | ip_number::IPV6_DEST_OPTIONS => Some(number),
+        _ => None,
+    }
+}
+
+/// Returns the number of the extension header that the word names.
+fn parse_header_name(word: &[u8]) -> Option<u8>
+    ensures { result ≡ header_called word.now }
 {
     if word == b"hop-by-hop".as_slice() || word == b"hopopt".as_slice() {
         return Some(0);
@@ -68,6 +93,13 @@ pub(crate) fn parse_header(word: &[u8]) -> Option<u8>
     if word == b"destination-options".as_slice() || word == b"dstopts".as_slice() {
         return Some(60);
     }
+    None
+}
+
+/// Returns the number that the word writes, if it is at most 255.
+pub(crate) fn parse_byte(word: &[u8]) -> Option<u8>
+    ensures { result ≡ number_up_to 255 word.now }
+{
     match parse_number(word, 255) {
         Some(number) => Some(number as u8),
         None => None,
@@ -115,9 +147,12 @@ pub(crate) fn parse_upper_layer(word: &[u8]) -> Option<u8>
 pub(crate) fn parse_protocol(word: &[u8]) -> Option<u8>
     ensures { result ≡ protocol_of word.now }
 {
-    match parse_upper_layer(word) {
+    if let Some(number) = parse_upper_layer(word) {
+        return Some(number);
+    }
+    match parse_header_name(word) {
         Some(number) => Some(number),
-        None => parse_header(word),
+        None => parse_byte(word),
     }
 }
 

@@ -16,8 +16,8 @@ pub enum Expected {
     /// An IP version.
     #[error("4 or 6")]
     Version,
-    /// An extension header.
-    #[error("a number from 0 to 255, `hop-by-hop`, `routing`, `fragment`, `authentication` or `destination-options`")]
+    /// An extension header that packets can have. Other protocols are terms of what follows the headers.
+    #[error("0 (`hop-by-hop`), 43 (`routing`), 44 (`fragment`), 51 (`authentication`), 60 (`destination-options`), or `leads-to N` in place of `header N`")]
     Header,
     /// A protocol or an extension header.
     #[error("a number from 0 to 255 or the name of a protocol")]
@@ -34,7 +34,7 @@ pub enum Expected {
     /// A network.
     #[error("an address or a prefix")]
     Network,
-    /// A type or code of ICMP, a type of routing, or a type of option.
+    /// A code of ICMP, a type of routing, or a type of option.
     #[error("a number from 0 to 255")]
     Byte,
     /// A network, or the ports of one side.
@@ -46,6 +46,12 @@ pub enum Expected {
     /// Ports.
     #[error("a port or a range of ports, as 1024-65535")]
     Ports,
+    /// A type of ICMP.
+    #[error("a number from 0 to 255 or the name of a type, as icmp-echo")]
+    IcmpType,
+    /// A type of ICMPv6.
+    #[error("a number from 0 to 255 or the name of a type, as icmp6-echo")]
+    Icmp6Type,
     /// Flags of TCP.
     #[error("`fin`, `syn`, `rst`, `psh`, `ack`, `urg`, `ece` or `cwr`, or a list as syn,ack or syn/syn,ack")]
     TcpFlags,

@@ -6,8 +6,8 @@ ghost use Rattle.ip_filter.specs.Numbers.{layer_named};
 ghost use Rattle.ip_filter.specs.Reading.{IsCountKeyword, IsSideKeyword, BeginsOtherwise, ReadsTerm, RefusesTerm, ReadsArgument, ReadsArguments, RefusesArguments};
 
 use crate::arguments::{
-    Unexpected, argument, read_comparison, read_header, read_host, read_network, read_number,
-    read_ports, read_protocol, read_tcp_flags, read_version,
+    Unexpected, argument, read_comparison, read_header, read_host, read_icmp_type, read_icmp6_type,
+    read_network, read_number, read_ports, read_protocol, read_tcp_flags, read_version,
 };
 use crate::keyword::{AddressKeyword, Keyword, NumberKeyword};
 use crate::layers::parse_layer;
@@ -127,12 +127,20 @@ fn read_number_term(keyword: NumberKeyword, text: &[u8]) -> ReadTerm<'_>
             Ok((Term::Option(number as u8), rest))
         }
         NumberKeyword::IcmpType => {
-            let (number, rest) = read_number(text, 255, Expected::Byte)?;
-            Ok((Term::IcmpType(number as u8), rest))
+            let (number, rest) = read_icmp_type(text)?;
+            Ok((Term::IcmpType(number), rest))
         }
         NumberKeyword::IcmpCode => {
             let (number, rest) = read_number(text, 255, Expected::Byte)?;
             Ok((Term::IcmpCode(number as u8), rest))
+        }
+        NumberKeyword::Icmp6Type => {
+            let (number, rest) = read_icmp6_type(text)?;
+            Ok((Term::Icmp6Type(number), rest))
+        }
+        NumberKeyword::Icmp6Code => {
+            let (number, rest) = read_number(text, 255, Expected::Byte)?;
+            Ok((Term::Icmp6Code(number as u8), rest))
         }
         NumberKeyword::TcpFlags => {
             let (flags, rest) = read_tcp_flags(text)?;

@@ -50,6 +50,7 @@ impl Test {
         match self.kind {
             kind::FLAGS => has_one_of(&facts.packet, facts.flags, self.number),
             kind::LEADS_TO => self.leads_to(&facts.packet),
+            kind::VERSION_LEADS_TO => self.version_leads_to(&facts.packet),
             kind::HEADERS => self.compares(Quantity::Headers, facts),
             kind::CHAIN_BYTES => self.compares(Quantity::ChainBytes, facts),
             kind::PAYLOAD => self.compares(Quantity::Payload, facts),
@@ -62,8 +63,9 @@ impl Test {
             kind::SOURCE => self.has_source(&facts.packet),
             kind::DESTINATION => self.has_destination(&facts.packet),
             kind::EITHER => self.has_either(&facts.packet),
+            // of an authentication header there is none
+            kind::SECURITY_PARAMETERS => self.has_esp_spi(facts),
             // asked of an extension header
-            kind::SECURITY_PARAMETERS => false,
             kind::OPTION => false,
             kind::ROUTING_TYPE => false,
             kind::SEGMENTS_LEFT => false,

@@ -68,7 +68,7 @@ pub(crate) fn run_on(tests: &[Test], bytes: &[u8]) -> bool
 /// Returns whether the packet passes this only test, which is one of flags or of the protocol number.
 #[inline(always)]
 fn run_one(test: &Test, bytes: &[u8]) -> bool
-    requires { ((test.now.kind == 1) || (test.now.kind == 2)) ≡ true }
+    requires { ((test.now.kind == 1) || (test.now.kind == 2) || (test.now.kind == 27)) ≡ true }
     ensures { result ≡ passes (test.now ∷ []) (λ x. meets x (dissected bytes.now)) }
 {
     match Packet::visit(bytes, &mut OneTester { test }) {
@@ -133,7 +133,7 @@ fn run_early(tests: &[Test], packet: &Packet<'_>, flags: Flags) -> Reached
 #[derive(Clone, Copy, Debug)]
 struct OneTester<'t> {
     test: &'t Test,
-    ghost kind: { ((test.now.kind == 1) || (test.now.kind == 2)) ≡ true },
+    ghost kind: { ((test.now.kind == 1) || (test.now.kind == 2) || (test.now.kind == 27)) ≡ true },
 }
 
 impl<'a> PacketVisitor<'a> for OneTester<'_> {

@@ -105,7 +105,8 @@ pub enum Term {
     FaultAt(FaultKind, Layer),
     /// The packet has this quantity, and it compares so.
     Compared(Quantity, Comparison, u64),
-    /// An authentication header has this security parameters index (RFC 4302, section 2.4).
+    /// An authentication header has this security parameters index (RFC 4302, section 2.4), or ESP, which the headers lead to
+    /// (RFC 4303, section 2.1). A later fragment has no index of ESP.
     SecurityParameters(u32),
     /// A routing header has this type (RFC 8200, section 4.4).
     RoutingType(u8),
@@ -131,10 +132,18 @@ pub enum Term {
     Port(Ports),
     /// The payload should begin with ports, but is too short for both.
     NoTransport,
-    /// The payload is a message of ICMP or ICMPv6 of this type (RFC 792; RFC 4443, section 2.1).
+    /// The number of ICMP, 1, follows the headers of an IPv4 packet (RFC 792), whether or not there is an error.
+    Icmp,
+    /// The number of ICMPv6, 58, follows the headers of an IPv6 packet (RFC 4443, section 1), whether or not there is an error.
+    Icmp6,
+    /// The payload of an IPv4 packet is a message of ICMP of this type (RFC 792).
     IcmpType(u8),
-    /// The payload is a message of ICMP or ICMPv6 with this code.
+    /// The payload of an IPv4 packet is a message of ICMP with this code.
     IcmpCode(u8),
+    /// The payload of an IPv6 packet is a message of ICMPv6 of this type (RFC 4443, section 2.1).
+    Icmp6Type(u8),
+    /// The payload of an IPv6 packet is a message of ICMPv6 with this code.
+    Icmp6Code(u8),
     /// The payload begins with a TCP header, of which these flags are set, and the others that count aren't. The headers
     /// end at the payload, as for ports, and the byte of the flags is there (RFC 9293, section 3.1).
     TcpFlags(TcpFlags),

@@ -13,6 +13,7 @@ use crate::flags::{mask, place};
 use crate::holds::kind_index;
 use crate::meets::kind;
 use crate::run::PASSED;
+use crate::transport::protocol;
 use crate::{Comparison, FaultKind, Network, Ports, Quantity, TcpFlags, Term, Test};
 use ip_base::err::Layer;
 use ip_base::{IpNumber, ip_number};
@@ -60,8 +61,12 @@ impl Test {
             Term::DestinationPort(ports) => Test::of_ports(kind::DESTINATION_PORT, ports),
             Term::Port(ports) => Test::of_ports(kind::PORT, ports),
             Term::NoTransport => Test::of_number(kind::NO_TRANSPORT, 0),
+            Term::Icmp => Test::of_version_leading_to(4, protocol::ICMP),
+            Term::Icmp6 => Test::of_version_leading_to(6, protocol::ICMP6),
             Term::IcmpType(number) => Test::of_number(kind::ICMP_TYPE, u64::from(number)),
             Term::IcmpCode(number) => Test::of_number(kind::ICMP_CODE, u64::from(number)),
+            Term::Icmp6Type(number) => Test::of_number(kind::ICMP6_TYPE, u64::from(number)),
+            Term::Icmp6Code(number) => Test::of_number(kind::ICMP6_CODE, u64::from(number)),
             Term::TcpFlags(flags) => Test::of_tcp_flags(flags),
         }
     }
@@ -83,6 +88,20 @@ impl Test {
             prefix_len: 0,
             if_met: PASSED as u8,
             if_not: REFUSED as u8,
+        }
+    }
+
+    /// Returns a test of the protocol number that follows the headers of a packet of this version.
+    fn of_version_leading_to(version: u8, number: u8) -> Test
+        ensures kind { result.kind ≡ 27 }
+        ensures version { result.version ≡ version }
+        ensures number { result.number ≡ number }
+        ensures if_met { result.if_met ≡ 64 }
+        ensures if_not { result.if_not ≡ 65 }
+    {
+        Test {
+            version,
+            ..Test::of_number(kind::VERSION_LEADS_TO, u64::from(number))
         }
     }
 

@@ -1,12 +1,12 @@
-//! Ports, and the types of ICMP: what the payload begins with.
+//! Ports, the types of ICMP and the index of ESP: what the payload begins with.
 ghost use Rattle.std.specs.Prelude.{◌≡◌, ◌≤◌, ◌+◌};
 ghost use Rattle.ip_dissect.specs.Dissection.{DissectedParts, dissected};
-ghost use Rattle.ip_filter.specs.Transport.{is_at_payload, transport_of, has_ports, is_icmp, port_at, icmp_byte, tcp_flags, lacks_ports};
+ghost use Rattle.ip_filter.specs.Transport.{is_at_payload, transport_of, has_ports, port_at, transport_byte, icmp_byte, icmp6_byte, esp_spi, tcp_flags, lacks_ports};
 
 use crate::facts::Facts;
 
 /// The numbers of protocols.
-mod protocol {
+pub(crate) mod protocol {
     pub const ICMP: u8 = 1;
 
     pub const TCP: u8 = 6;
@@ -14,6 +14,8 @@ mod protocol {
     pub const UDP: u8 = 17;
 
     pub const DCCP: u8 = 33;
+
+    pub const ESP: u8 = 50;
 
     pub const ICMP6: u8 = 58;
 
@@ -64,14 +66,39 @@ impl<'a> Facts<'a> {
             && self.packet.outline.payload_len < 4
     }
 
-    /// Returns the byte at an offset from the start of an ICMP message, if the payload is one and the byte is there.
+    /// Returns the byte at an offset from the start of an ICMP message, if the payload of an IPv4 packet is one and the byte
+    /// is there.
     #[inline(always)]
     pub(crate) fn icmp_byte(&self, offset: usize) -> Option<u8>
         ensures { result ≡ icmp_byte offset (dissected self.now.packet.bytes.now) }
     {
-        if !is_icmp(self.packet.outline.next_header.0) {
-            return None;
+        let outline = &self.packet.outline;
+        if outline.version == 4 && outline.next_header.0 == protocol::ICMP {
+            self.transport_byte(offset)
+        } else {
+            None
         }
+    }
+
+    /// Returns the byte at an offset from the start of an ICMPv6 message, if the payload of an IPv6 packet is one and the byte
+    /// is there.
+    #[inline(always)]
+    pub(crate) fn icmp6_byte(&self, offset: usize) -> Option<u8>
+        ensures { result ≡ icmp6_byte offset (dissected self.now.packet.bytes.now) }
+    {
+        let outline = &self.packet.outline;
+        if outline.version == 6 && outline.next_header.0 == protocol::ICMP6 {
+            self.transport_byte(offset)
+        } else {
+            None
+        }
+    }
+
+    /// Returns the byte at an offset in the payload, if the headers end at it and the byte is there.
+    #[inline(always)]
+    fn transport_byte(&self, offset: usize) -> Option<u8>
+        ensures { result ≡ transport_byte offset (dissected self.now.packet.bytes.now) }
+    {
         let transport = self.transport();
         if offset < transport.len() {
             Some(transport[offset])
@@ -101,6 +128,18 @@ impl<'a> Facts<'a> {
     }
 }
 
+/// Returns the security parameters index at the start of a payload of ESP, if it is there.
+#[inline(always)]
+pub(crate) fn esp_spi(transport: &[u8]) -> Option<u32>
+    ensures { (p : DissectedParts) → p.number ≡ 50 → transport_of p ≡ transport.now → result ≡ esp_spi p }
+{
+    if 4 <= transport.len() {
+        Some(u32::from_be_bytes([transport[0], transport[1], transport[2], transport[3]]))
+    } else {
+        None
+    }
+}
+
 /// Returns the flags of a TCP header, if the payload begins with one and they are there.
 #[inline(always)]
 pub(crate) fn tcp_flags(number: u8, transport: &[u8]) -> Option<u8>
@@ -122,12 +161,4 @@ fn has_ports(number: u8) -> bool
         number,
         protocol::TCP | protocol::UDP | protocol::DCCP | protocol::SCTP | protocol::UDP_LITE
     )
-}
-
-/// Returns whether the protocol is ICMP or ICMPv6.
-#[inline(always)]
-fn is_icmp(number: u8) -> bool
-    ensures { result ≡ is_icmp number }
-{
-    matches!(number, protocol::ICMP | protocol::ICMP6)
 }

@@ -22,3 +22,5 @@ expected_code expected.NetworkOrPort = 14
 expected_code expected.Address = 15
 expected_code expected.Ports = 16
 expected_code expected.TcpFlags = 17
+expected_code expected.IcmpType = 18
+expected_code expected.Icmp6Type = 19

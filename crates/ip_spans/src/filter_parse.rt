@@ -60,6 +60,8 @@ fn code_of(expected: Expected) -> u8
         Expected::Address => 15,
         Expected::Ports => 16,
         Expected::TcpFlags => 17,
+        Expected::IcmpType => 18,
+        Expected::Icmp6Type => 19,
     }
 }
 
@@ -86,6 +88,8 @@ pub(crate) fn expected_of(code: u8) -> Option<Expected>
         15 => Some(Expected::Address),
         16 => Some(Expected::Ports),
         17 => Some(Expected::TcpFlags),
+        18 => Some(Expected::IcmpType),
+        19 => Some(Expected::Icmp6Type),
         _ => None,
     }
 }

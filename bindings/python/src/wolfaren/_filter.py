@@ -35,10 +35,12 @@ class Filter:
     and 16 levels of parentheses.
 
         version 4|6, ip, ip6                 the IP version: `ip` is version 4, `ip6` is version 6
-        header N                             an extension header: 0 to 255, hop-by-hop, routing, fragment, authentication
-                                             or destination-options; in short hopopt, route, frag, ah or dstopts
-        leads-to N                           the protocol after the headers: as above, or a name from the next line
-        icmp, tcp, udp, dccp, gre, esp, icmp6, no-next, sctp, udp-lite       `leads-to` with this name
+        header N                             an extension header: hop-by-hop (0), routing (43), fragment (44), authentication
+                                             (51) or destination-options (60); in short hopopt, route, frag, ah or dstopts
+        leads-to N                           the protocol after the headers: 0 to 255, as above, or a name from the next line
+        tcp, udp, dccp, gre, esp, no-next, sctp, udp-lite       `leads-to` with this name
+        icmp, icmp6                          ICMP (1) after the headers of an IPv4 packet, ICMPv6 (58) after those of an IPv6
+                                             packet; after `leads-to`, the number alone
         fragment, first-fragment, later-fragment
         truncated, incomplete
         truncated LAYER                      LAYER is IP-header, IPv4-header, IPv4-packet, authentication, IPv6-header,
@@ -51,7 +53,9 @@ class Filter:
         hop-limit OP N, ttl OP N             the hop limit, or IPv4's time to live
         dscp OP N, ecn OP N                  the differentiated services code point; explicit congestion notification
         flow OP N                            the flow label; false of IPv4 packets
-        spi N, id N
+        spi N                                the security parameters index of an authentication header, or of ESP after the
+                                             headers
+        id N                                 the identification of a fragment
         routing-type N                       a routing header of the packet has this type
         segments-left OP N                   the segments left of a routing header of the packet
         option N                             hop-by-hop or destination options have one of this type, and no malformed one
@@ -60,7 +64,9 @@ class Filter:
         host A                               A is an IPv4 or IPv6 address
         src port P, dst port P, port P       P is a port or a range such as 1024-65535
         no-transport                         the payload should start with ports, but is too short for both
-        icmp-type N, icmp-code N             the type and the code of an ICMP or ICMPv6 message
+        icmp-type T, icmp-code N             the type and the code of an ICMP message of an IPv4 packet; T is a number, or a
+                                             name of libpcap's such as icmp-echo
+        icmp6-type T, icmp6-code N           those of an ICMPv6 message of an IPv6 packet; T may be a name such as icmp6-echo
         tcp-flags LIST, tcp-flags LIST/LIST  these flags of TCP are set; of those after the slash, exactly these. LIST is a
                                              flag or several with commas between: fin, syn, rst, psh, ack, urg, ece, cwr
 

@@ -48,6 +48,10 @@ pub enum Expected {
     Ports,
     /// Flags of TCP.
     TcpFlags,
+    /// The number or name of a type of ICMP.
+    IcmpType,
+    /// The number or name of a type of ICMPv6.
+    Icmp6Type,
 }
 
 impl Expected {
@@ -70,6 +74,8 @@ impl Expected {
             15 => Expected::Address,
             16 => Expected::Ports,
             17 => Expected::TcpFlags,
+            18 => Expected::IcmpType,
+            19 => Expected::Icmp6Type,
             _ => Expected::Operand,
         }
     }

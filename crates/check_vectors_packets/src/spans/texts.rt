@@ -190,7 +190,7 @@ fn codes_that_are_none(rt: HostRuntime) {
 }
 
 /// Returns what the text of a filter needs, by its code, with its words.
-fn expected_rows() -> [(u8, &'static str); 17] {
+fn expected_rows() -> [(u8, &'static str); 19] {
     [
         (1, "a term, `not` or `(`"),
         (2, "`and`, `or` or the end"),
@@ -198,7 +198,7 @@ fn expected_rows() -> [(u8, &'static str); 17] {
         (4, "4 or 6"),
         (
             5,
-            "a number from 0 to 255, `hop-by-hop`, `routing`, `fragment`, `authentication` or `destination-options`",
+            "0 (`hop-by-hop`), 43 (`routing`), 44 (`fragment`), 51 (`authentication`), 60 (`destination-options`), or `leads-to N` in place of `header N`",
         ),
         (6, "a number from 0 to 255 or the name of a protocol"),
         (7, "`=`, `!=`, `<`, `<=`, `>` or `>=`"),
@@ -215,6 +215,14 @@ fn expected_rows() -> [(u8, &'static str); 17] {
             17,
             "`fin`, `syn`, `rst`, `psh`, `ack`, `urg`, `ece` or `cwr`, or a list as syn,ack or syn/syn,ack",
         ),
+        (
+            18,
+            "a number from 0 to 255 or the name of a type, as icmp-echo",
+        ),
+        (
+            19,
+            "a number from 0 to 255 or the name of a type, as icmp6-echo",
+        ),
     ]
 }
 
@@ -229,7 +237,7 @@ fn words_of_what_is_expected(rt: HostRuntime) {
 
 #[test]
 fn codes_of_nothing_expected(rt: HostRuntime) {
-    for code in [0, 18, 33, 255] {
+    for code in [0, 20, 33, 255] {
         let mut text = [1; 2];
         assert_same(&rt, code, expected_text(code, &mut text), 0);
         assert_same(&rt, code, text, [0, 1]);

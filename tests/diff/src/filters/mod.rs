@@ -50,8 +50,12 @@ pub enum Term {
     DestinationPort(Ports),
     Port(Ports),
     NoTransport,
+    Icmp,
+    Icmp6,
     IcmpType(u64),
     IcmpCode(u64),
+    Icmp6Type(u64),
+    Icmp6Code(u64),
     TcpFlags(TcpFlags),
 }
 
@@ -123,6 +127,8 @@ pub enum Expected {
     Address,
     Ports,
     TcpFlags,
+    IcmpType,
+    Icmp6Type,
     FewerTerms,
     LessNesting,
 }
@@ -228,6 +234,8 @@ mod tests {
             "no-transport and src port 0-65535",
             "icmp-type 0 or icmp-type 1 or icmp-type 2 or icmp-type 3",
             "icmp-code 0 or icmp-code 1 or icmp-code 2 or icmp-code 3",
+            "icmp6-type 0 or icmp6-type 1 or icmp6-type 2 or icmp6-type 3",
+            "icmp6-code 0 or icmp6-code 1 or icmp6-code 2 or icmp6-code 3",
             "option 0 or option 1 or option 5 or option 194",
             "routing-type 0 or routing-type 2 or segments-left = 0 or segments-left > 3",
             "tcp-flags syn/syn,ack or tcp-flags rst or tcp-flags ece,cwr/ece,cwr,urg",

@@ -200,7 +200,11 @@ impl Parser {
             "option" => Term::Option(self.take(byte, Expected::Byte)?),
             "routing-type" => Term::RoutingType(self.take(byte, Expected::Byte)?),
             "segments-left" => Term::SegmentsLeft(self.comparison()?),
-            "icmp-type" => Term::IcmpType(self.take(byte, Expected::Byte)?),
+            "icmp" => Term::Icmp,
+            "icmp6" => Term::Icmp6,
+            "icmp6-type" => Term::Icmp6Type(self.take(icmp6_type, Expected::Icmp6Type)?),
+            "icmp6-code" => Term::Icmp6Code(self.take(byte, Expected::Byte)?),
+            "icmp-type" => Term::IcmpType(self.take(icmp_type, Expected::IcmpType)?),
             "icmp-code" => Term::IcmpCode(self.take(byte, Expected::Byte)?),
             "tcp-flags" => Term::TcpFlags(self.take(tcp_flags, Expected::TcpFlags)?),
             word => return self.named_term(word),
@@ -325,19 +329,27 @@ fn tcp_flags(word: &str) -> Option<TcpFlags> {
     (flags.set & !flags.mask == 0).then_some(flags)
 }
 
+/// Returns the extension header that the word names, or whose number it is.
 fn header(word: &str) -> Option<u64> {
+    let is_header = |number: &u64| [0, 43, 44, 51, 60].contains(number);
+    header_name(word).or_else(|| byte(word).filter(is_header))
+}
+
+fn header_name(word: &str) -> Option<u64> {
     match word {
         "hop-by-hop" | "hopopt" => Some(0),
         "routing" | "route" => Some(43),
         "fragment" | "frag" => Some(44),
         "authentication" | "ah" => Some(51),
         "destination-options" | "dstopts" => Some(60),
-        _ => number(word, 255),
+        _ => None,
     }
 }
 
 fn protocol(word: &str) -> Option<u64> {
-    upper_layer(word).or_else(|| header(word))
+    upper_layer(word)
+        .or_else(|| header_name(word))
+        .or_else(|| byte(word))
 }
 
 fn upper_layer(word: &str) -> Option<u64> {
@@ -353,6 +365,64 @@ fn upper_layer(word: &str) -> Option<u64> {
         "sctp" => Some(132),
         "udp-lite" => Some(136),
         _ => None,
+    }
+}
+
+/// Returns the type of ICMP by its name in libpcap's expressions, or by its number.
+fn icmp_type(word: &str) -> Option<u64> {
+    match word {
+        "icmp-echoreply" => Some(0),
+        "icmp-unreach" => Some(3),
+        "icmp-sourcequench" => Some(4),
+        "icmp-redirect" => Some(5),
+        "icmp-echo" => Some(8),
+        "icmp-routeradvert" => Some(9),
+        "icmp-routersolicit" => Some(10),
+        "icmp-timxceed" => Some(11),
+        "icmp-paramprob" => Some(12),
+        "icmp-tstamp" => Some(13),
+        "icmp-tstampreply" => Some(14),
+        "icmp-ireq" => Some(15),
+        "icmp-ireqreply" => Some(16),
+        "icmp-maskreq" => Some(17),
+        "icmp-maskreply" => Some(18),
+        _ => byte(word),
+    }
+}
+
+/// Returns the type of ICMPv6 by its name in libpcap's expressions, or by its number.
+fn icmp6_type(word: &str) -> Option<u64> {
+    match word {
+        "icmp6-destinationunreach" => Some(1),
+        "icmp6-packettoobig" => Some(2),
+        "icmp6-timeexceeded" => Some(3),
+        "icmp6-parameterproblem" => Some(4),
+        "icmp6-echo" => Some(128),
+        "icmp6-echoreply" => Some(129),
+        "icmp6-multicastlistenerquery" => Some(130),
+        "icmp6-multicastlistenerreportv1" => Some(131),
+        "icmp6-multicastlistenerdone" => Some(132),
+        "icmp6-routersolicit" => Some(133),
+        "icmp6-routeradvert" => Some(134),
+        "icmp6-neighborsolicit" => Some(135),
+        "icmp6-neighboradvert" => Some(136),
+        "icmp6-redirect" => Some(137),
+        "icmp6-routerrenum" => Some(138),
+        "icmp6-nodeinformationquery" => Some(139),
+        "icmp6-nodeinformationresponse" => Some(140),
+        "icmp6-ineighbordiscoverysolicit" => Some(141),
+        "icmp6-ineighbordiscoveryadvert" => Some(142),
+        "icmp6-multicastlistenerreportv2" => Some(143),
+        "icmp6-homeagentdiscoveryrequest" => Some(144),
+        "icmp6-homeagentdiscoveryreply" => Some(145),
+        "icmp6-mobileprefixsolicit" => Some(146),
+        "icmp6-mobileprefixadvert" => Some(147),
+        "icmp6-certpathsolicit" => Some(148),
+        "icmp6-certpathadvert" => Some(149),
+        "icmp6-multicastrouteradvert" => Some(151),
+        "icmp6-multicastroutersolicit" => Some(152),
+        "icmp6-multicastrouterterm" => Some(153),
+        _ => byte(word),
     }
 }
 

@@ -158,6 +158,8 @@ fn term(packet: &[u8], random: &mut Random, words: &mut Vec<String>) {
                 "44",
                 "51",
                 "60",
+                "50",
+                "135",
                 "0x2c",
                 "0X2C",
                 "044",
@@ -211,8 +213,28 @@ fn term(packet: &[u8], random: &mut Random, words: &mut Vec<String>) {
             word(words, tcp_flags(packet, random));
         }
         18 => {
-            word(words, one_of(&["icmp-type", "icmp-code"], random));
-            word(words, byte(packet, random));
+            word(
+                words,
+                one_of(
+                    &["icmp-type", "icmp-code", "icmp6-type", "icmp6-code"],
+                    random,
+                ),
+            );
+            let types = [
+                "icmp-echo",
+                "icmp-unreach",
+                "icmp6-echo",
+                "icmp6-neighboradvert",
+            ];
+            let is_named = random.percent(20);
+            word(
+                words,
+                if is_named {
+                    one_of(&types, random)
+                } else {
+                    byte(packet, random)
+                },
+            );
         }
         _ => {
             word(words, "host");

@@ -12,12 +12,16 @@ const AUTH: u8 = 51;
 
 const TCP: u8 = 6;
 
+const ESP: u8 = 50;
+
 /// The protocols whose headers begin with the source and the destination port, of 2 bytes each: TCP, UDP, DCCP, SCTP and
 /// UDP-Lite.
 const WITH_PORTS: [u8; 5] = [6, 17, 33, 132, 136];
 
-/// ICMP and ICMPv6, whose messages begin with their type and code, of 1 byte each.
-const ICMP: [u8; 2] = [1, 58];
+/// ICMP of IPv4 and ICMPv6 of IPv6, whose messages begin with their type and code, of 1 byte each: the version and the protocol.
+const ICMP: (u8, u8) = (4, 1);
+
+const ICMP6: (u8, u8) = (6, 58);
 
 /// Returns whether the formula holds of a packet, or of a frame that is not IP.
 pub fn holds(formula: &Formula, packet: Option<&Dissected<'_>>) -> bool {
@@ -58,10 +62,19 @@ fn is_met(term: &Term, packet: &Dissected<'_>) -> bool {
         Term::Compared(quantity, comparison) => {
             value(*quantity, packet).is_some_and(|value| compares(value, comparison))
         }
-        Term::Spi(index) => packet.headers.iter().any(|(number, bytes)| {
-            *number == AUTH
-                && u64::from(u32::from_be_bytes([bytes[4], bytes[5], bytes[6], bytes[7]])) == *index
-        }),
+        Term::Spi(index) => {
+            let indices = packet
+                .headers
+                .iter()
+                .filter(|(number, _)| *number == AUTH)
+                .map(|(_, bytes)| &bytes[4..8]);
+            let esp = upper_layer(packet, &[ESP]).and_then(|bytes| bytes.get(..4));
+            indices.chain(esp).any(|it| {
+                it.iter()
+                    .fold(0, |index, byte| index << 8 | u64::from(*byte))
+                    == *index
+            })
+        }
         Term::Option(number) => packet
             .headers
             .iter()
@@ -84,8 +97,12 @@ fn is_met(term: &Term, packet: &Dissected<'_>) -> bool {
         Term::DestinationPort(ports) => is_among(port(packet, 2), ports),
         Term::Port(ports) => is_among(port(packet, 0), ports) || is_among(port(packet, 2), ports),
         Term::NoTransport => upper_layer(packet, &WITH_PORTS).is_some_and(|bytes| bytes.len() < 4),
-        Term::IcmpType(number) => icmp_byte(packet, 0) == Some(*number),
-        Term::IcmpCode(number) => icmp_byte(packet, 1) == Some(*number),
+        Term::Icmp => is_of(packet, ICMP),
+        Term::Icmp6 => is_of(packet, ICMP6),
+        Term::IcmpType(number) => message_byte(packet, ICMP, 0) == Some(*number),
+        Term::IcmpCode(number) => message_byte(packet, ICMP, 1) == Some(*number),
+        Term::Icmp6Type(number) => message_byte(packet, ICMP6, 0) == Some(*number),
+        Term::Icmp6Code(number) => message_byte(packet, ICMP6, 1) == Some(*number),
         Term::TcpFlags(flags) => upper_layer(packet, &[TCP])
             .and_then(|bytes| bytes.get(13))
             .is_some_and(|found| found & flags.mask == flags.set),
@@ -177,9 +194,17 @@ fn is_among(port: Option<u64>, ports: &Ports) -> bool {
     port.is_some_and(|port| ports.first <= port && port <= ports.last)
 }
 
-/// Returns the byte at an offset in an ICMP or ICMPv6 message, if the packet has it.
-fn icmp_byte(packet: &Dissected<'_>, offset: usize) -> Option<u64> {
-    upper_layer(packet, &ICMP)?
+/// Returns whether the packet has this version and leads to this protocol.
+fn is_of(packet: &Dissected<'_>, (version, protocol): (u8, u8)) -> bool {
+    packet.version == version && packet.number == protocol
+}
+
+/// Returns the byte at an offset in a message of ICMP or ICMPv6, if the packet has it.
+fn message_byte(packet: &Dissected<'_>, icmp: (u8, u8), offset: usize) -> Option<u64> {
+    if !is_of(packet, icmp) {
+        return None;
+    }
+    upper_layer(packet, &[icmp.1])?
         .get(offset)
         .map(|byte| u64::from(*byte))
 }

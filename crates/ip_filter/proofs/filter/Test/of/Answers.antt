@@ -3,7 +3,7 @@ use Rattle.ip_codes.specs.Codes.{layer_code}
 use Rattle.ip_dissect.specs.Dissection.{dissected}
 use Rattle.ip_filter.specs.Truth.{holds, is_in_layer}
 use Rattle.ip_filter.proofs.MaskLemmas.{by_flags, fragment_mask, first_mask, later_mask, truncated_mask, incomplete_mask, faults_mask}
-use Rattle.ip_filter.proofs.TestLemmas.{by_identification, by_layer, by_port, by_icmp_type, by_icmp_code, by_segments_left}
+use Rattle.ip_filter.proofs.TestLemmas.{by_identification, by_layer, by_port, by_icmp_type, by_icmp_code, by_icmp6_type, by_icmp6_code, by_spi, by_version, by_segments_left}
 use Rattle.ip_filter.proofs.filter.Test.of.Goals as goal
 
 pub returns-in-Fragment-clause-meets : goal.returns-in-Fragment-clause-meets
@@ -26,6 +26,25 @@ returns-in-Fault-clause-meets c = λ s. by_flags c.of_flags-in-Fault.result _ (d
 
 pub returns-in-IcmpCode-clause-meets : goal.returns-in-IcmpCode-clause-meets
 returns-in-IcmpCode-clause-meets c = λ s. by_icmp_code c.of_number-in-IcmpCode.result c.in-IcmpCode.number (dissected s) c.of_number-in-IcmpCode.ensures.kind (search rules) ∙ ap (λ t. holds t (dissected s)) (sym c.in-IcmpCode.is)
+
+pub returns-in-Icmp6Type-clause-meets : goal.returns-in-Icmp6Type-clause-meets
+returns-in-Icmp6Type-clause-meets c = λ s. by_icmp6_type c.of_number-in-Icmp6Type.result c.in-Icmp6Type.number (dissected s) c.of_number-in-Icmp6Type.ensures.kind (search rules) ∙ ap (λ t. holds t (dissected s)) (sym c.in-Icmp6Type.is)
+
+pub returns-in-Icmp6Code-clause-meets : goal.returns-in-Icmp6Code-clause-meets
+returns-in-Icmp6Code-clause-meets c = λ s. by_icmp6_code c.of_number-in-Icmp6Code.result c.in-Icmp6Code.number (dissected s) c.of_number-in-Icmp6Code.ensures.kind (search rules) ∙ ap (λ t. holds t (dissected s)) (sym c.in-Icmp6Code.is)
+
+pub returns-in-Icmp-clause-meets : goal.returns-in-Icmp-clause-meets
+returns-in-Icmp-clause-meets c =
+    let is = c.of_version_leading_to.ensures in
+    λ s. by_version c.of_version_leading_to.result _ _ (dissected s) is.kind is.version is.number ∙ ap (λ t. holds t (dissected s)) (sym c.in-Icmp.is)
+
+pub returns-in-Icmp6-clause-meets : goal.returns-in-Icmp6-clause-meets
+returns-in-Icmp6-clause-meets c =
+    let is = c.of_version_leading_to-in-Icmp6.ensures in
+    λ s. by_version c.of_version_leading_to-in-Icmp6.result _ _ (dissected s) is.kind is.version is.number ∙ ap (λ t. holds t (dissected s)) (sym c.in-Icmp6.is)
+
+pub returns-in-SecurityParameters-clause-meets : goal.returns-in-SecurityParameters-clause-meets
+returns-in-SecurityParameters-clause-meets c = λ s. by_spi c.of_number-in-SecurityParameters.result c.in-SecurityParameters.spi (dissected s) c.of_number-in-SecurityParameters.ensures.kind (search rules) ∙ ap (λ t. holds t (dissected s)) (sym c.in-SecurityParameters.is)
 
 pub returns-in-SegmentsLeft-clause-meets : goal.returns-in-SegmentsLeft-clause-meets
 returns-in-SegmentsLeft-clause-meets c =

@@ -62,7 +62,7 @@
 #define WOLFAREN_ABI 0xf8005f5du
 
 /* The symbol that is named after the checksum. */
-#define WOLFAREN_ABI_SYMBOL wolfaren_abi_142e74e9
+#define WOLFAREN_ABI_SYMBOL wolfaren_abi_f8005f5d
 
 /* The machines for which the library is built. */
 #if !defined(__ELF__) && !defined(__linux__)

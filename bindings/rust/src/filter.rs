@@ -39,7 +39,7 @@ impl Filter {
     /// | `header N` | there is an extension header of this name or number: `hop-by-hop` (0), `routing` (43), `fragment` (44), `authentication` (51) or `destination-options` (60), or in short `hopopt`, `route`, `frag`, `ah` or `dstopts` |
     /// | `leads-to N` | this number follows the headers: 0 to 255, a name as above, or one from the next row |
     /// | `tcp`, `udp`, `dccp`, `gre`, `esp`, `no-next`, `sctp`, `udp-lite` | as `leads-to` with this name |
-    /// | `icmp`, `icmp6` | ICMP (1) follows the headers of an IPv4 packet, ICMPv6 (58) those of an IPv6 packet; after `leads-to`, the number alone counts |
+    /// | `icmp`, `icmp6` | ICMP (1) follows the headers of an IPv4 packet, ICMP for IPv6 (58) those of an IPv6 packet; after `leads-to`, the number alone counts |
     /// | `fragment`, `first-fragment`, `later-fragment` | the packet is such a fragment, and not an atomic one |
     /// | `truncated` | a header is truncated |
     /// | `truncated LAYER` | a header of this layer is truncated: `IP-header`, `IPv4-header`, `IPv4-packet`, `authentication`, `IPv6-header`, `IPv6-packet`, `IPv6-extension`, `hop-by-hop`, `destination-options`, `routing` or `fragment` |
@@ -62,7 +62,7 @@ impl Filter {
     /// | `src port P`, `dst port P`, `port P` | the source port, the destination port or one of them is in this range: a port, or a range such as `1024-65535` |
     /// | `no-transport` | the payload should start with ports, but is too short for both |
     /// | `icmp-type T`, `icmp-code N` | the payload of an IPv4 packet is an ICMP message of this type or with this code; `T` is a number, or a name of libpcap's such as `icmp-echo` |
-    /// | `icmp6-type T`, `icmp6-code N` | the payload of an IPv6 packet is an ICMPv6 message of this type or with this code; `T` may be a name such as `icmp6-echo` |
+    /// | `icmp6-type T`, `icmp6-code N` | the payload of an IPv6 packet is a message of ICMP for IPv6 of this type or with this code; `T` may be a name such as `icmp6-echo` |
     /// | `tcp-flags LIST`, `tcp-flags LIST/LIST` | these flags of TCP are set; of those after the slash, exactly these. `LIST` is a flag or several with commas between: `fin`, `syn`, `rst`, `psh`, `ack`, `urg`, `ece`, `cwr` |
     ///
     /// TCP, UDP, UDP-Lite, SCTP and DCCP have ports. Ports, types, codes and flags of TCP are read from the payload, so

@@ -50,7 +50,7 @@ pub enum Expected {
     TcpFlags,
     /// The number or name of a type of ICMP.
     IcmpType,
-    /// The number or name of a type of ICMPv6.
+    /// The number or name of a type of ICMP for IPv6.
     Icmp6Type,
 }
 

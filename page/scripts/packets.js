@@ -1,5 +1,5 @@
-// The list of the packets of a capture or of a paste: the text of each, as `ipcap show --one-line` writes it, and a mark on
-// those with a fault or a truncated header. The list is one stop for the Tab key.
+// The list of the packets of a capture or of a paste: the text of each, as `ipcap show --one-line` writes it up to the chain,
+// without ports, and a mark on those with a fault or a truncated header. The list is one stop for the Tab key.
 "use strict";
 Wolfaren.packets = (function () {
     const MOST_LISTED = 10000, MOST_NUMBERS = 64;

@@ -8,16 +8,12 @@
 /* What the program needs besides files, and what every file needs: buffers, tables, and the longest block of a pcapng file. */
 enum { PROGRAM_MEMORY = 16 << 20, FILE_MEMORY = 24 << 20 };
 
-/* How many bytes a file may ask for until its format is known. */
-enum { MOST_ASKED = 1 << 30 };
-
 static struct {
     pthread_mutex_t lock;
     pthread_cond_t changed;
     uint64_t limit;
     uint64_t promised;     /* to each file */
-    uint64_t next;         /* number of the next file to begin */
-    struct account *first; /* of the files that are read, in the order of their numbers */
+    struct account *first; /* of the files that are read, in the order in which they began */
 } budget = {.lock = PTHREAD_MUTEX_INITIALIZER, .changed = PTHREAD_COND_INITIALIZER, .limit = DEFAULT_MEMORY - PROGRAM_MEMORY};
 
 void set_budget(uint64_t bytes, uint64_t promised)
@@ -57,54 +53,26 @@ static bool fits(const struct account *account, uint64_t bytes)
     return true;
 }
 
-/* Waits for a change, or for a second, after which a signal is noticed. The lock is held. */
-static void wait_for_change(void)
-{
-    struct timespec until;
-    clock_gettime(CLOCK_REALTIME, &until);
-    until.tv_sec++;
-    pthread_cond_timedwait(&budget.changed, &budget.lock, &until);
-}
-
-/* Waits until a file can take bytes, or reading is stopped. The lock is held. */
+/* Waits until a file can take bytes, or reading is stopped, which is noticed within a second. The lock is held. */
 static void wait_for_memory(const struct account *account, uint64_t bytes)
 {
-    while (!fits(account, bytes) && !stop_signal) wait_for_change();
+    while (!fits(account, bytes) && !stop_signal) {
+        struct timespec until;
+        clock_gettime(CLOCK_REALTIME, &until);
+        until.tv_sec++;
+        pthread_cond_timedwait(&budget.changed, &budget.lock, &until);
+    }
 }
 
-/* Adds an account after all others, which are those of earlier files. The lock is held. */
-static void add_account(struct account *account)
+void open_account(struct account *account, uint64_t may_ask)
 {
+    pthread_mutex_lock(&budget.lock);
     struct account **place = &budget.first;
-    *account = (struct account){.promised = budget.promised, .may_ask = MOST_ASKED};
+    *account = (struct account){.promised = budget.promised, .may_ask = may_ask};
     while (*place) place = &(*place)->next;
     *place = account;
     wait_for_memory(account, FILE_MEMORY);
     account->used = FILE_MEMORY;
-    budget.next++;
-    pthread_cond_broadcast(&budget.changed);
-}
-
-void open_account(struct account *account, uint64_t number)
-{
-    pthread_mutex_lock(&budget.lock);
-    while (budget.next != number && !stop_signal) wait_for_change();
-    add_account(account);
-    pthread_mutex_unlock(&budget.lock);
-}
-
-void open_next_account(struct account *account)
-{
-    pthread_mutex_lock(&budget.lock);
-    add_account(account);
-    pthread_mutex_unlock(&budget.lock);
-}
-
-void limit_asking(struct account *account, uint64_t bytes)
-{
-    pthread_mutex_lock(&budget.lock);
-    account->may_ask = bytes;
-    pthread_cond_broadcast(&budget.changed);
     pthread_mutex_unlock(&budget.lock);
 }
 

@@ -1,7 +1,7 @@
 /*
  * The memory that the program may use: one budget for all files that are read side by side. What a file may take doesn't
- * depend on the other files: where these have taken too much, it waits until they give some back. The first of the files that
- * are read never waits.
+ * depend on the other files: where these have taken too much, it waits until they give some back. Of the files that are read,
+ * the one that began first never waits.
  */
 #ifndef IPCAP_BUDGET_H
 #define IPCAP_BUDGET_H
@@ -15,7 +15,7 @@ enum { LEAST_MEMORY = 64 << 20, DEFAULT_MEMORY = 512 << 20 };
 
 /* What one file has taken, and what it may still take. */
 struct account {
-    struct account *next; /* of a later file */
+    struct account *next; /* of a file that began later */
     uint64_t used;        /* bytes that were taken */
     uint64_t promised;    /* bytes that can be taken without asking */
     uint64_t may_ask;     /* bytes for which it may still ask */
@@ -30,14 +30,8 @@ uint64_t memory_for_file(uint64_t budget);
 /* Returns how many files can be read side by side. */
 size_t files_within_budget(void);
 
-/* Begins to read a file, once the files with lower numbers, from 0 on, have begun. */
-void open_account(struct account *account, uint64_t number);
-
-/* Begins to read the next file. For files that are read one after another. */
-void open_next_account(struct account *account);
-
-/* Says that the file won't ask for more than so many bytes. */
-void limit_asking(struct account *account, uint64_t bytes);
+/* Begins to read a file, which won't make others wait for more than so many bytes for which it asks. */
+void open_account(struct account *account, uint64_t may_ask);
 
 /* Takes bytes. Returns false if the file then had more than the budget. */
 bool ask_for_memory(struct account *account, uint64_t bytes);
@@ -48,7 +42,7 @@ void take_promised(struct account *account, uint64_t bytes);
 /* Gives back bytes that were taken. */
 void give_memory_back(struct account *account, uint64_t bytes);
 
-/* Gives back all. */
+/* Gives back all. Does nothing if the account wasn't opened. */
 void close_account(struct account *account);
 
 #endif

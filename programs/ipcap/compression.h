@@ -25,10 +25,11 @@ enum step {
     STEP_FAILED
 };
 
-/* Whom a decoder asks for memory besides a little that each has. */
+/* From whom memory is taken, besides a little that each decoder has. */
 struct memory_source {
-    bool (*ask)(void *account, uint64_t bytes); /* takes bytes, or returns false if there are too few */
-    void *account;                              /* for `ask` */
+    void (*begin)(void *account, uint64_t most); /* called before the first bytes are taken, of which there will be so many at most */
+    bool (*ask)(void *account, uint64_t bytes);  /* takes bytes, or returns false if there are too few */
+    void *account;                               /* for both calls */
 };
 
 /* Why a decoder fails that gets too little. */

@@ -54,8 +54,7 @@ static void count_file(struct counted_file *file, const struct files *files, siz
     file->name = file->path = files->paths[number];
     init_counts(&file->counts, files->has_tunnels);
     if (stop_signal) return;
-    struct account account;
-    open_account(&account, number);
+    struct account account = {0};
     struct input *input = calloc(1, sizeof *input);
     file->is_memory_short = !input;
     if (input) count_packets(file, files, input, &account, is_alone);

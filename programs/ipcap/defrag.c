@@ -5,6 +5,7 @@
 
 #include "arguments.h"
 #include "commands.h"
+#include "confine.h"
 #include "copy.h"
 #include "defragment.h"
 #include "input.h"
@@ -87,6 +88,7 @@ static bool defragment_file(const struct request *request, const char *path)
     struct defragmenter *defragmenter = begin_defragmenter(&input.own, request->slots, request->keeps);
     if (!defragmenter) complain_of_memory();
     bool is_open = defragmenter && open_outputs(request, defragmenter, &report, &output, &input.capture, path);
+    if (is_open) confine(FILES_NONE);
     bool is_done = is_open && write_packets(&output, request, defragmenter, &input.capture);
     bool is_reported = finish_report(&report);
     end_output(&output);

@@ -10,6 +10,7 @@
 #include "arguments.h"
 #include "commands.h"
 #include "condition.h"
+#include "confine.h"
 #include "copy.h"
 #include "defragment.h"
 #include "input.h"
@@ -301,8 +302,8 @@ static bool filter_capture(const struct request *request, struct target *target,
     return is_done;
 }
 
-/* Filters a file. If it is the first that could be opened, opens the output. */
-static bool filter_file(const struct request *request, struct target *target, const char *path)
+/* Filters a file. If it is the first that could be opened, opens the output. After the last one, no file is opened. */
+static bool filter_file(const struct request *request, struct target *target, const char *path, bool is_last)
 {
     struct input input;
     struct capture *capture = &input.capture;
@@ -313,6 +314,7 @@ static bool filter_file(const struct request *request, struct target *target, co
         return close_input(&input);
     }
     bool is_open = target->output.file ? has_link_type(target, capture) : open_output(target, request, capture);
+    if (is_open && is_last) confine(FILES_NONE);
     bool is_done = is_open && filter_capture(request, target, capture);
     return close_input(&input) && is_done;
 }
@@ -329,7 +331,7 @@ static bool filter_files(const struct request *request)
     bool is_done = true;
     set_budget(request->memory, request->has_whole ? memory_of_slots(slots_within(request->memory), false) : 0);
     for (int i = 0; i < request->file_count && wants_files(request, &target); i++)
-        if (!filter_file(request, &target, request->files[i])) is_done = false;
+        if (!filter_file(request, &target, request->files[i], i + 1 == request->file_count)) is_done = false;
     if (!write_empty_output(&target, request)) is_done = false;
     end_output(&target.output);
     end_matcher(&target.matcher);

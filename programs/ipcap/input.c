@@ -98,6 +98,12 @@ struct account *account_of(struct capture *capture)
     return ((struct input *)capture)->account;
 }
 
+/* Opens an account once the format of a file is known: until then, which may take long, nobody waits for it. */
+static void begin_account(void *account, uint64_t most)
+{
+    open_account(account, most);
+}
+
 /* Asks an account for memory for decompression. */
 static bool ask(void *account, uint64_t bytes)
 {
@@ -107,11 +113,9 @@ static bool ask(void *account, uint64_t bytes)
 bool begin_input(struct input *input, const char *path, struct account *account)
 {
     input->account = account;
-    input->memory = (struct memory_source){ask, account};
+    input->memory = (struct memory_source){begin_account, ask, account};
     look_at_file(input, path);
     if (!open_capture(&input->capture, path, &input->memory)) return false;
-    const struct compression *compression = input->capture.source.compression;
-    limit_asking(account, compression ? compression->most_memory : 0);
     input->capture.stop = &stop_signal;
     input->capture.source.wait = wait_for_bytes;
     begin_stopping();
@@ -129,7 +133,6 @@ void end_input(struct input *input)
 bool open_input(struct input *input, const char *path)
 {
     *input = (struct input){0};
-    open_next_account(&input->own);
     if (begin_input(input, path, &input->own)) return true;
     close_account(&input->own);
     return report_error(&input->capture);

@@ -39,7 +39,7 @@ void show_files_progress(struct files_progress *progress, size_t done, size_t co
 void clear_files_progress(struct files_progress *progress);
 
 /*
- * Opens a file or standard input. The input must be all zeros. On failure, sets the error of the capture and returns false.
+ * Opens a file or standard input, and the account. The input must be all zeros. On failure, sets the error of the capture and returns false.
  * Reports nothing.
  */
 bool begin_input(struct input *input, const char *path, struct account *account);

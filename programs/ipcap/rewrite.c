@@ -5,6 +5,7 @@
 
 #include "arguments.h"
 #include "commands.h"
+#include "confine.h"
 #include "copy.h"
 #include "input.h"
 #include "options.h"
@@ -69,8 +70,9 @@ static bool rewrite_file(const struct request *request, const char *path)
     set_budget(request->memory, 0);
     if (!open_input(&input, path)) return false;
     if (!is_standard_stream(request->output)) allow_progress(&input);
-    bool is_done = open_copy(&output, request->output, &input.capture, path, begin_output)
-        && write_packets(&output, request, &rewriter, &input.capture);
+    bool is_open = open_copy(&output, request->output, &input.capture, path, begin_output);
+    if (is_open) confine(FILES_NONE);
+    bool is_done = is_open && write_packets(&output, request, &rewriter, &input.capture);
     end_output(&output);
     end_rewriter(&rewriter);
     return close_input(&input) && is_done;

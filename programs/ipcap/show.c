@@ -9,6 +9,7 @@
 
 #include "arguments.h"
 #include "commands.h"
+#include "confine.h"
 #include "defragment.h"
 #include "drawing.h"
 #include "input.h"
@@ -177,6 +178,7 @@ static bool show_capture(const struct request *request)
     struct input input;
     set_budget(request->memory, request->has_whole ? memory_of_slots(slots_within(request->memory), false) : 0);
     if (!open_input(&input, request->path)) return false;
+    confine(FILES_NONE);
     bool is_shown = (request->has_whole ? show_whole_packets : show_packets)(request, &input.capture);
     bool is_read = close_input(&input);
     return is_shown && is_read;

@@ -160,6 +160,7 @@ static bool begin(struct source *source, const struct memory_source *memory)
     while (source->end < COMPRESSION_MAGIC && !source->is_ended)
         if (!fill(source)) return false;
     source->compression = find_compression(source->bytes, source->end);
+    if (memory) memory->begin(memory->account, source->compression ? source->compression->most_memory : 0);
     if (!source->compression) return true;
     if (!source->compression->version) {
         fail(source, "%s data can't be decompressed: this ipcap was built without %s", source->compression->name,

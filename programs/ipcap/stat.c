@@ -8,6 +8,7 @@
 
 #include "arguments.h"
 #include "commands.h"
+#include "confine.h"
 #include "count_files.h"
 #include "counts.h"
 #include "defragment.h"
@@ -125,6 +126,7 @@ static bool run_request(const struct request *request, const char *const *paths,
     set_budget(request->memory, request->has_whole ? memory_of_slots(files.slots, false) : 0);
     init_counts(&summary.total, request->has_tunnels);
     size_t jobs = choose_jobs(request, paths, count);
+    confine(FILES_READ);
     count_files(&files, jobs, request->is_per_file ? write_file : add_file, &summary);
     bool is_written = request->is_per_file || !summary.is_any || write_counts(request, &summary.total, NULL);
     free_counts(&summary.total);
@@ -179,6 +181,7 @@ int run_sum(int count, char **arguments)
     if (status >= 0) return status;
     if (optind != count) return refuse_usage("ipcap sum", "sum reads standard input and takes no file name");
     init_counts(&total, false);
+    confine(FILES_NONE);
     bool is_done = add_objects(&total) && write_counts(&request, &total, NULL);
     free_counts(&total);
     return is_done ? STATUS_DONE : STATUS_FAILED;

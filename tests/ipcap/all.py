@@ -6,6 +6,7 @@ import harness
 import test_completion
 import test_compression
 import test_conditions
+import test_confinement
 import test_defrag
 import test_filter
 import test_library
@@ -97,8 +98,9 @@ GROUPS = [("link layers", test_link_layers.link_layers), ("mismatched packets", 
           ("room for kept fragments", test_outputs.room_for_kept),
           ("the budget of jobs", test_memory.budget_of_jobs), ("the budget of slots", test_memory.budget_of_slots),
           ("the budget of kept fragments", test_memory.budget_of_kept), ("the budget of decoders", test_memory.budget_of_decoders),
-          ("sizes of memory", test_memory.sizes), ("closed streams", test_outputs.closed_streams), ("outputs that are inputs", test_outputs.appended_outputs),
-          ("signals", test_outputs.signals), ("signals in pipes", test_outputs.signals_in_pipes),
+          ("sizes of memory", test_memory.sizes), ("pipes that are opened late", test_memory.late_pipes), ("closed streams", test_outputs.closed_streams), ("outputs that are inputs", test_outputs.appended_outputs),
+          ("confinement", test_confinement.confined), ("calls of the system", test_confinement.calls),
+          ("systems without means", test_confinement.without_means), ("signals", test_outputs.signals), ("signals in pipes", test_outputs.signals_in_pipes),
           ("damaged captures", test_use.damaged_captures), ("compressed captures", test_compression.compressed),
           ("truncated compressed data", test_compression.truncated), ("damaged compressed data", test_compression.damaged),
           ("memory refused to decoders", test_compression.refused_memory),

@@ -7,6 +7,8 @@ import os
 import re
 import struct
 import subprocess
+import threading
+import time
 
 from captures import *
 from test_compression import formats
@@ -148,3 +150,29 @@ def sizes(harness):
             words = "ipcap: --memory must be a number of bytes of at least 64M, such as 512M or 2G; see `ipcap %s --help`\n" % command[0]
             harness.equal(found, (2, b"", words, None), command, size)
     harness.equal(harness.run("sum", "--memory", "64M")[0], 2, "sum")
+
+
+def late_pipes(harness):
+    """A file that can't be opened yet doesn't keep others from being read."""
+    content = capture([frame(ipv6_part(number, 0, True, bytes(8))) for number in range(9)])
+    for arguments in (["-j2"], ["-j2", "--defrag"], ["-j2", "--defrag", "--memory", "64M"]):
+        first, second = harness.path(), harness.path()
+        os.mkfifo(first)
+        os.mkfifo(second)
+        command = harness.plain + ["stat", "--json", *arguments, first, second]
+        process = subprocess.Popen(command, stdout=subprocess.PIPE, stderr=subprocess.DEVNULL, env=harness.environment)
+        watch = threading.Timer(60, process.kill)
+        watch.start()
+        for path in (second, first):
+            descriptor = None
+            while descriptor is None and process.poll() is None:
+                try:
+                    descriptor = os.open(path, os.O_WRONLY | os.O_NONBLOCK)
+                except OSError:
+                    time.sleep(0.01)
+            harness.check(descriptor is not None, "the pipe is opened", arguments, path == second)
+            os.write(descriptor, content)
+            os.close(descriptor)
+        found = process.communicate()[0]
+        watch.cancel()
+        harness.equal(json.loads(found or b"{}").get("packets"), 18 if arguments == ["-j2"] else 0, arguments)

@@ -194,12 +194,18 @@ def closed_streams(harness):
             found = run_with(harness, command, ["rewrite", "--without", "0", "-w", output], lambda: [os.close(it) for it in closed], content)
             with open(output, "rb") as file:
                 harness.equal((found[0], file.read()), (0, content), "closed", closed)
-        for arguments in (["stat", path], ["filter", "fragment", path], ["rewrite", "--without", "0", path], ["show", path]):
+        for arguments in (["stat", path], ["filter", "fragment", path], ["filter", "--number", "any", path], ["rewrite", "--without", "0", path], ["show", path],
+                          ["show", "--tunnels", "ip6", path]):
             for closed in ([0, 1, 2], [1, 2]):
                 found = run_with(harness, command, arguments, lambda: [os.close(it) for it in closed])
                 harness.equal(found[0], 1, arguments, "without standard output", closed)
         found = run_with(harness, command, ["stat"], lambda: os.close(0))
         harness.equal(found, (1, b""), "without standard input")
+        part = harness.file(capture([frame(ipv6_part(1, 0, True, bytes(8)))]))
+        for closed in ([1], [1, 2], [0, 1, 2]):
+            found = run_with(harness, command, ["defrag", "--report", "-", "-w", output, part], lambda: [os.close(it) for it in closed])
+            with open(output, "rb") as file:
+                harness.equal((found[0], file.read()), (1, file_header(snap_len=262144)), "a report without standard output", closed)
     with open(path, "rb") as file:
         harness.equal(file.read(), content, "the input")
 
@@ -213,7 +219,8 @@ def appended_outputs(harness):
     contents = [capture([ethernet(ipv6_chain([0]))] * 4000), section() + interface() + packet(ethernet(ipv6_chain([0]))) * 4000]
     for content in contents:
         path = harness.file(content)
-        for arguments in (["filter", "header 0"], ["filter", "header 0", "/dev/null"], ["defrag"], ["rewrite", "--without", "0"]):
+        for arguments in (["filter", "header 0"], ["filter", "header 0", "/dev/null"], ["filter", "--number", "header 0"], ["defrag"],
+                          ["defrag", "--report", "/dev/null"], ["rewrite", "--without", "0"]):
             for command in [harness.plain, harness.sanitized, harness.checked]:
                 with open(path, "ab") as output:
                     process = subprocess.run(command + arguments + [path], stdout=output, stderr=subprocess.PIPE, preexec_fn=limit_files,
@@ -268,7 +275,7 @@ def signals(harness):
     frames = [frame(ipv6_part(number % 50, 0, True, bytes(8))) for number in range(1000)]
     mixed = [frames[0]] + [ethernet(ipv6_chain([0, 51, 60])), ethernet(ipv6_chain([44], payload=UDP + bytes(97)))] * 30000
     paths = [harness.file(capture(mixed)), harness.file(section() + interface() + b"".join(map(packet, mixed)))]
-    commands = [["filter", "ip6"], ["defrag"], ["defrag", "--keep"], ["rewrite", "--without", "0"]]
+    commands = [["filter", "ip6"], ["filter", "--number", "--tunnels", "ip6"], ["defrag"], ["defrag", "--keep"], ["rewrite", "--without", "0"]]
     words = {"defrag": "1 fragment of packets that aren't whole at the end", "rewrite": "unchanged: an authentication header"}
     for arguments in commands:
         for number in SIGNALS:
@@ -279,6 +286,11 @@ def signals(harness):
                     harness.check(whole and 0 < count < len(mixed), "records", arguments, number, whole, count)
                     harness.equal(status, -number, "status", arguments, errors)
                     harness.check("ipcap: %s: interrupted after " % path in errors and words.get(arguments[0], "") in errors, arguments, errors)
+    for command in [harness.plain, harness.sanitized, harness.checked]:
+        report = harness.path(".txt")
+        found = stopped(harness, command, ["defrag", "--report", report], signal.SIGTERM, paths[0])
+        with open(report) as file:
+            harness.equal((found[0], file.read()), (-signal.SIGTERM, "packet 1: 2001:db8::1 > 2001:db8::2, protocol 17, id 0x00000000: not whole at the end\n"), "report")
     found = stopped(harness, harness.plain, ["show", "--json"], signal.SIGTERM, paths[0])
     harness.check(found[0] == -signal.SIGTERM and found[1].endswith(b"}\n") and "interrupted after" in found[2], found[0], found[2])
 

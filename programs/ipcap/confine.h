@@ -1,0 +1,18 @@
+/* Gives up what the program doesn't need any more, where the system has means for it. */
+#ifndef IPCAP_CONFINE_H
+#define IPCAP_CONFINE_H
+
+/* What the program still does besides reading and writing open files. */
+enum files_needed {
+    FILES_NONE, /* it opens no file */
+    FILES_READ  /* it opens files for reading, also by threads that it starts later */
+};
+
+/*
+ * From now on, the system refuses what isn't needed: opening files otherwise, other programs, sockets and the like. Without
+ * files, the capabilities of root are given up, too. Does what the system allows, and reports nothing. Does nothing in a build
+ * with sanitizers, and if LD_PRELOAD is set, as by valgrind, since these need more. Call it before threads are started.
+ */
+void confine(enum files_needed needed);
+
+#endif

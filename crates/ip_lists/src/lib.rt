@@ -1,0 +1,6 @@
+//! Circular lists through arrays.
+#![tactic(auto)]
+
+mod links;
+
+pub use links::Links;

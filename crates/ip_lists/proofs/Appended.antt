@@ -3,23 +3,26 @@ use Rattle.std.proofs.Common.{◌≡◌, ◌≢◌, ℕ, List, [], ◌∷◌, �
 use Rattle.std.specs.Prelude.{slice_get, Some}
 use Rattle.std.proofs.lemmas.Bool.{cases_eq}
 use Rattle.std.proofs.lemmas.Option.{slice_get_within}
-use Rattle.ip_lists.specs.Lists.{AreLinked, IsPath, IsList}
+use Rattle.ip_lists.specs.Lists.{AreLinked, AreNeighbours, IsAlone, IsPath, IsList}
 use Rattle.ip_lists.proofs.Members.{Lacks, lacks_head, lacks_tail}
 use Rattle.ip_lists.proofs.Paths.{path_stays, lacks_alone}
 use Rattle.ip_lists.proofs.Rewired.{rewired, length_rewired, at_first, at_second, at_others}
 
 -- The last member of the head's list, or the head, is `l`, and the place is alone.
-pub record CanAppend (next previous : List ℕ) (l p h : ℕ) : Type 0 where
+pub record IsAppendable (next previous : List ℕ) (l p h : ℕ) : Type 0 where
   pub to_head : slice_get next l ≡ Some h
   pub from_head : slice_get previous h ≡ Some l
   pub alone : slice_get next p ≡ Some p
   pub back_alone : slice_get previous p ≡ Some p
   pub other : p ≢ h
 
-not_last : (next previous : List ℕ) (l p h : ℕ) → CanAppend next previous l p h → l ≢ p
+pub appendable : (next previous : List ℕ) (l p h : ℕ) → p ≢ h → IsAlone next previous p → AreNeighbours next previous l h → IsAppendable next previous l p h
+appendable next previous l p h other alone last = record { to_head = last.0; from_head = last.1; alone = alone.0; back_alone = alone.1; other = other }
+
+not_last : (next previous : List ℕ) (l p h : ℕ) → IsAppendable next previous l p h → l ≢ p
 not_last next previous l p h can = λ e. can.other (cc)
 
-half_linked : (next previous : List ℕ) (l p h : ℕ) → ((s t : ℕ) → slice_get next s ≡ Some t → slice_get previous t ≡ Some s) → CanAppend next previous l p h
+half_linked : (next previous : List ℕ) (l p h : ℕ) → ((s t : ℕ) → slice_get next s ≡ Some t → slice_get previous t ≡ Some s) → IsAppendable next previous l p h
     → (s t : ℕ) → slice_get (rewired next l p p h) s ≡ Some t → slice_get (rewired previous h p p l) t ≡ Some s
 half_linked next previous l p h back can s t step =
     let from_place : slice_get (rewired next l p p h) p ≡ Some h = at_second next l p p h (slice_get_within next p p can.alone) in
@@ -39,7 +42,7 @@ half_linked next previous l p h back can s t step =
       ]
     ]
 
-swapped : (next previous : List ℕ) (l p h : ℕ) → CanAppend next previous l p h → CanAppend previous next h p l
+swapped : (next previous : List ℕ) (l p h : ℕ) → IsAppendable next previous l p h → IsAppendable previous next h p l
 swapped next previous l p h can = record {
   to_head = can.from_head;
   from_head = can.to_head;
@@ -48,7 +51,7 @@ swapped next previous l p h can = record {
   other = λ e. not_last next previous l p h can (sym e);
 }
 
-pub appended_linked : (next previous : List ℕ) (l p h : ℕ) → AreLinked next previous → CanAppend next previous l p h → AreLinked (rewired next l p p h) (rewired previous h p p l)
+pub appended_linked : (next previous : List ℕ) (l p h : ℕ) → AreLinked next previous → IsAppendable next previous l p h → AreLinked (rewired next l p p h) (rewired previous h p p l)
 appended_linked next previous l p h linked can = record {
   as_many = length_rewired previous h p p l ∙ (linked.as_many ∙ sym (length_rewired next l p p h));
   back = half_linked next previous l p h linked.back can;
@@ -56,14 +59,14 @@ appended_linked next previous l p h linked can = record {
 }
 
 -- Each step stays, but for those from the place and to the head.
-appended_keeps : (next previous : List ℕ) (l p h : ℕ) → CanAppend next previous l p h
+appended_keeps : (next previous : List ℕ) (l p h : ℕ) → IsAppendable next previous l p h
     → (s t : ℕ) → s ≢ p → t ≢ h → slice_get next s ≡ Some t → slice_get (rewired next l p p h) s ≡ Some t
 appended_keeps next previous l p h can s t not_from not_to step =
     let not_last : s ≢ l = λ e. not_to (cc (can.to_head)) in
     at_others next l p p h s not_from not_last ∙ step
 
 -- A step to the head goes through the place afterwards.
-appended_step : (next previous : List ℕ) (l p h : ℕ) → AreLinked next previous → CanAppend next previous l p h
+appended_step : (next previous : List ℕ) (l p h : ℕ) → AreLinked next previous → IsAppendable next previous l p h
     → (s : ℕ) → slice_get next s ≡ Some h → slice_get (rewired next l p p h) s ≡ Some p
 appended_step next previous l p h linked can s step =
     let back : slice_get previous h ≡ Some s = linked.back s h step in
@@ -72,7 +75,7 @@ appended_step next previous l p h linked can s step =
     cc
 
 -- A path to the head goes through the place last.
-path_appended : (next previous : List ℕ) (l p h : ℕ) → AreLinked next previous → CanAppend next previous l p h
+path_appended : (next previous : List ℕ) (l p h : ℕ) → AreLinked next previous → IsAppendable next previous l p h
     → (from : ℕ) (xs : List ℕ) → from ≢ p → Lacks xs p → IsPath next from xs h → IsPath (rewired next l p p h) from (xs ++ p ∷ []) h
 path_appended next previous l p h linked can from [] start none path = (
   appended_step next previous l p h linked can from path,
@@ -86,13 +89,13 @@ path_appended next previous l p h linked can from (x ∷ xs) start none path = (
 )
 
 -- The list of the head gets the place as its last member.
-pub list_appended : (next previous : List ℕ) (l p h : ℕ) → AreLinked next previous → CanAppend next previous l p h
+pub list_appended : (next previous : List ℕ) (l p h : ℕ) → AreLinked next previous → IsAppendable next previous l p h
     → (xs : List ℕ) → IsList next h xs → IsList (rewired next l p p h) h (xs ++ p ∷ [])
 list_appended next previous l p h linked can xs path =
     path_appended next previous l p h linked can h xs (λ e. can.other (sym e)) (lacks_alone next h p h xs can.alone can.other path) path
 
 -- The list of another head, which isn't in the list, stays.
-pub list_stays : (next previous : List ℕ) (l p h : ℕ) → CanAppend next previous l p h
+pub list_stays : (next previous : List ℕ) (l p h : ℕ) → IsAppendable next previous l p h
     → (k : ℕ) (zs : List ℕ) → k ≢ h → k ≢ p → Lacks zs h → IsList next k zs → IsList (rewired next l p p h) k zs
 list_stays next previous l p h can k zs not_head not_place none path =
     path_stays next (rewired next l p p h) p h (appended_keeps next previous l p h can) k k zs not_place not_head

@@ -1,5 +1,6 @@
 pub mod Members
 pub mod Paths
 pub mod Rewired
+pub mod Linked
 pub mod Removed
 pub mod Appended

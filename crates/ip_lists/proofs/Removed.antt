@@ -4,10 +4,20 @@ use Rattle.std.specs.Prelude.{Contains, slice_get, Some}
 use Rattle.std.proofs.lemmas.Bool.{cases_eq}
 use Rattle.std.proofs.lemmas.Option.{slice_get_within}
 use Rattle.std.proofs.lemmas.List.Elements.{Contains-append_right}
-use Rattle.ip_lists.specs.Lists.{AreLinked, IsBetween, IsPath, IsList}
+use Rattle.ip_lists.specs.Lists.{AreLinked, AreNeighbours, IsAlone, IsPath, IsList}
 use Rattle.ip_lists.proofs.Members.{Lacks, lacks_head, lacks_tail}
 use Rattle.ip_lists.proofs.Paths.{path_stays, lacks_start}
 use Rattle.ip_lists.proofs.Rewired.{rewired, length_rewired, at_first, at_second, at_others}
+
+-- The place is between two others, by both arrays.
+pub record IsBetween (next previous : List ℕ) (a p b : ℕ) : Type 0 where
+  pub to_place : slice_get next a ≡ Some p
+  pub from_place : slice_get next p ≡ Some b
+  pub back_to_place : slice_get previous b ≡ Some p
+  pub back_from_place : slice_get previous p ≡ Some a
+
+pub between : (next previous : List ℕ) (a p b : ℕ) → AreNeighbours next previous a p → AreNeighbours next previous p b → IsBetween next previous a p b
+between next previous a p b before after = record { to_place = before.0; from_place = after.0; back_to_place = after.1; back_from_place = before.1 }
 
 -- One array agrees with the other one afterwards.
 half_linked : (next previous : List ℕ) (a p b : ℕ) → ((s t : ℕ) → slice_get next s ≡ Some t → slice_get previous t ≡ Some s) → IsBetween next previous a p b
@@ -93,3 +103,9 @@ list_without next previous a p b linked between h xs ys other path = path_withou
 pub list_stays : (next previous : List ℕ) (a p b : ℕ) → AreLinked next previous → IsBetween next previous a p b
     → (h : ℕ) (zs : List ℕ) → h ≢ p → Lacks zs p → IsList next h zs → IsList (rewired next a b p p) h zs
 list_stays next previous a p b linked between h zs other none path = path_stays next (rewired next a b p p) p p (removed_keeps next previous a p b linked between) h h zs other other none none path
+
+pub removed_alone : (next previous : List ℕ) (a p b : ℕ) → IsBetween next previous a p b → IsAlone (rewired next a b p p) (rewired previous b a p p) p
+removed_alone next previous a p b between = (
+  at_second next a b p p (slice_get_within next p b between.from_place),
+  at_second previous b a p p (slice_get_within previous p a between.back_from_place),
+)

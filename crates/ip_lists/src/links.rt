@@ -1,46 +1,5 @@
 //! Circular lists through two arrays.
-ghost use Rattle.std.specs.Prelude.{◌≡◌, ◌≢◌, ◌↔◌, ℕ, ◌<◌, ◌≤◌, ◌^◌, ◌++◌, ◌∷◌, [], length, EachIndex, slice_index, slice_get, slice_set, Some, Contains, IsTrue, true, false};
-ghost use Rattle.ip_lists.specs.Lists.{AreLinked, IsList};
-
-/// Links each place to itself.
-fn make_alone(links: &mut [u32])
-    requires { length links.old ≤ 2 ^ 32 }
-    ensures { EachIndex links.new (λ k. slice_index links.new k ≡ k) }
-{
-    for (place, link) in links.iter_mut().enumerate() {
-        *link = place as u32;
-    }
-}
-
-/// Returns the link of a place, or `None` if the place is beyond the links.
-#[inline(always)]
-fn link_of(links: &[u32], place: u32) -> Option<u32>
-    ensures { result ≡ slice_get links.now place }
-{
-    links.get(place as usize).copied()
-}
-
-/// Returns whether the link of a place is this one.
-#[inline(always)]
-fn leads(links: &[u32], from: u32, to: u32) -> bool
-    ensures { IsTrue result ↔ (slice_get links.now from ≡ Some to) }
-{
-    match link_of(links, from) {
-        Some(link) => link == to,
-        None => false,
-    }
-}
-
-/// Writes the link of a place, and then that of another one.
-#[inline(always)]
-fn rewire(links: &mut [u32], first: u32, first_link: u32, second: u32, second_link: u32)
-    requires first { first < length links.old }
-    requires second { second < length links.old }
-    ensures { links.new ≡ slice_set (slice_set links.old first first_link) second second_link }
-{
-    links[first as usize] = first_link;
-    links[second as usize] = second_link;
-}
+use crate::arrays::{leads, link_of, make_alone, rewire};
 
 /// The places before and after a place.
 #[derive(Clone, Copy)]
@@ -59,8 +18,8 @@ pub struct Links<'m> {
 }
 
 impl<'m> Links<'m> {
-    ghost use Rattle.std.specs.Prelude.{◌≡◌, ◌≢◌, ◌↔◌, ℕ, ◌<◌, ◌≤◌, ◌^◌, ◌++◌, ◌∷◌, [], List, length, slice_get, Some, IfSome, is_some, Contains, IsTrue, true, false};
-    ghost use Rattle.ip_lists.specs.Lists.{AreLinked, IsAlone, IsBetween, IsList};
+    ghost use Rattle.std.specs.Prelude.{◌≡◌, ◌≢◌, ◌↔◌, ℕ, ◌<◌, ◌≤◌, ◌^◌, ◌++◌, ◌∷◌, [], List, length, slice_get, slice_set, Some, IfSome, is_none, Contains, IsTrue, true, false};
+    ghost use Rattle.ip_lists.specs.Lists.{AreLinked, AreNeighbours, HasNeighbours, IsAlone, CanAppend, IsList};
 
     /// Takes each place out of its list.
     pub fn clear(&mut self)
@@ -74,11 +33,20 @@ impl<'m> Links<'m> {
         make_alone(self.previous);
     }
 
+    /// Returns whether a place is in no list.
+    #[inline(always)]
+    pub fn is_alone(&self, place: u32) -> bool
+        ensures { IsTrue result ↔ IsAlone self.now.next.now self.now.previous.now place }
+    {
+        leads(self.next, place, place) && leads(self.previous, place, place)
+    }
+
     /// Returns the places before and after a place, if their links lead back to it.
     #[inline(always)]
     fn neighbours(&self, place: u32) -> Option<Neighbours>
-        ensures found { IfSome result (λ n. IsBetween self.now.next.now self.now.previous.now n.before place n.after) }
-        ensures linked { AreLinked self.now.next.now self.now.previous.now → place < length self.now.next.now → IsTrue (is_some result) }
+        ensures found { IfSome result (λ n. AreNeighbours self.now.next.now self.now.previous.now n.before place
+            × AreNeighbours self.now.next.now self.now.previous.now place n.after) }
+        ensures none { is_none result ≡ true → ¬ HasNeighbours self.now.next.now self.now.previous.now place }
     {
         let before = link_of(self.previous, place)?;
         let after = link_of(self.next, place)?;
@@ -89,13 +57,39 @@ impl<'m> Links<'m> {
         }
     }
 
+    /// Returns the place before a head, if it can be followed by another place, which is in no list.
+    #[inline(always)]
+    fn last_for(&self, head: u32, place: u32) -> Option<u32>
+        ensures found { IfSome result (λ l. (place ≢ head) × IsAlone self.now.next.now self.now.previous.now place
+            × AreNeighbours self.now.next.now self.now.previous.now l head) }
+        ensures none { is_none result ≡ true → ¬ CanAppend self.now.next.now self.now.previous.now head place }
+    {
+        if place == head || !self.is_alone(place) {
+            return None;
+        }
+        let last = link_of(self.previous, head)?;
+        if leads(self.next, last, head) {
+            Some(last)
+        } else {
+            None
+        }
+    }
+
     /// Takes a place out of its list.
     pub fn remove(&mut self, place: u32) -> bool
-        ensures len { length self.new.next.now ≡ length self.old.next.now }
-        ensures done { AreLinked self.old.next.now self.old.previous.now → place < length self.old.next.now → result ≡ true }
+        ensures result { IsTrue result ↔ HasNeighbours self.old.next.now self.old.previous.now place }
         ensures refused { result ≡ false → (self.new.next.now ≡ self.old.next.now) × (self.new.previous.now ≡ self.old.previous.now) }
+        ensures next { (a b : ℕ) → AreNeighbours self.old.next.now self.old.previous.now a place
+            → AreNeighbours self.old.next.now self.old.previous.now place b
+            → self.new.next.now ≡ slice_set (slice_set self.old.next.now a b) place place }
+        ensures previous { (a b : ℕ) → AreNeighbours self.old.next.now self.old.previous.now a place
+            → AreNeighbours self.old.next.now self.old.previous.now place b
+            → self.new.previous.now ≡ slice_set (slice_set self.old.previous.now b a) place place }
+
+        // In arrays that agree:
+        ensures done { AreLinked self.old.next.now self.old.previous.now → place < length self.old.next.now → result ≡ true }
         ensures linked { AreLinked self.old.next.now self.old.previous.now → AreLinked self.new.next.now self.new.previous.now }
-        ensures alone { result ≡ true → IsList self.new.next.now place [] }
+        ensures alone { result ≡ true → IsAlone self.new.next.now self.new.previous.now place }
         ensures taken { AreLinked self.old.next.now self.old.previous.now → (h : ℕ) (xs ys : List ℕ) → h ≢ place
             → IsList self.old.next.now h (xs ++ place ∷ ys) → IsList self.new.next.now h (xs ++ ys) }
         ensures others { AreLinked self.old.next.now self.old.previous.now → (h : ℕ) (zs : List ℕ) → h ≢ place → ¬ Contains zs place
@@ -111,44 +105,25 @@ impl<'m> Links<'m> {
         }
     }
 
-    /// Returns whether a place is in no list.
-    #[inline(always)]
-    pub fn is_alone(&self, place: u32) -> bool
-        ensures { IsTrue result ↔ IsAlone self.now.next.now self.now.previous.now place }
-    {
-        leads(self.next, place, place) && leads(self.previous, place, place)
-    }
-
-    /// Returns the place before a head, if its link leads back to the head.
-    #[inline(always)]
-    fn last(&self, head: u32) -> Option<u32>
-        ensures found { IfSome result (λ l. (slice_get self.now.next.now l ≡ Some head) × (slice_get self.now.previous.now head ≡ Some l)) }
-        ensures linked { AreLinked self.now.next.now self.now.previous.now → head < length self.now.next.now → IsTrue (is_some result) }
-    {
-        let last = link_of(self.previous, head)?;
-        if leads(self.next, last, head) {
-            Some(last)
-        } else {
-            None
-        }
-    }
-
     /// Appends a place that is in no list to the list of a head.
     pub fn push_back(&mut self, head: u32, place: u32) -> bool
-        ensures len { length self.new.next.now ≡ length self.old.next.now }
+        ensures result { IsTrue result ↔ CanAppend self.old.next.now self.old.previous.now head place }
+        ensures refused { result ≡ false → (self.new.next.now ≡ self.old.next.now) × (self.new.previous.now ≡ self.old.previous.now) }
+        ensures next { (l : ℕ) → result ≡ true → AreNeighbours self.old.next.now self.old.previous.now l head
+            → self.new.next.now ≡ slice_set (slice_set self.old.next.now l place) place head }
+        ensures previous { (l : ℕ) → result ≡ true → AreNeighbours self.old.next.now self.old.previous.now l head
+            → self.new.previous.now ≡ slice_set (slice_set self.old.previous.now head place) place l }
+
+        // In arrays that agree:
         ensures done { AreLinked self.old.next.now self.old.previous.now → head < length self.old.next.now
             → place ≢ head → IsAlone self.old.next.now self.old.previous.now place → result ≡ true }
-        ensures refused { result ≡ false → (self.new.next.now ≡ self.old.next.now) × (self.new.previous.now ≡ self.old.previous.now) }
         ensures linked { AreLinked self.old.next.now self.old.previous.now → AreLinked self.new.next.now self.new.previous.now }
         ensures appended { AreLinked self.old.next.now self.old.previous.now → result ≡ true → (xs : List ℕ)
             → IsList self.old.next.now head xs → IsList self.new.next.now head (xs ++ place ∷ []) }
         ensures others { AreLinked self.old.next.now self.old.previous.now → result ≡ true → (h : ℕ) (zs : List ℕ) → h ≢ head → h ≢ place
             → ¬ Contains zs head → IsList self.old.next.now h zs → IsList self.new.next.now h zs }
     {
-        if head == place || !self.is_alone(place) {
-            return false;
-        }
-        match self.last(head) {
+        match self.last_for(head, place) {
             Some(last) => {
                 rewire(self.next, last, place, place, head);
                 rewire(self.previous, head, place, place, last);

@@ -1,11 +1,12 @@
 -- Lists when a place was appended to one of them.
-use Rattle.std.proofs.Common.{◌≡◌, ◌≢◌, ℕ, List, [], ◌∷◌, ◌++◌, sym, ◌∙◌, inl, inr}
-use Rattle.std.specs.Prelude.{slice_get, Some}
+use Rattle.std.proofs.Common.{◌≡◌, ◌≢◌, ℕ, List, [], ◌∷◌, ◌++◌, refl, sym, subst, ◌∙◌, arith, inl, inr}
+use Rattle.std.specs.Prelude.{Contains, slice_get, Some}
 use Rattle.std.proofs.lemmas.Bool.{cases_eq}
 use Rattle.std.proofs.lemmas.Option.{slice_get_within}
+use Rattle.std.proofs.lemmas.List.Elements.{Contains-append_right}
 use Rattle.ip_lists.specs.Lists.{AreLinked, AreNeighbours, IsAlone, IsPath, IsList}
 use Rattle.ip_lists.proofs.Members.{Lacks, lacks_head, lacks_tail}
-use Rattle.ip_lists.proofs.Paths.{path_stays, lacks_alone}
+use Rattle.ip_lists.proofs.Paths.{path_stays, lacks_alone, lacks_start}
 use Rattle.ip_lists.proofs.Rewired.{rewired, length_rewired, at_first, at_second, at_others}
 
 -- The last member of the head's list, or the head, is `l`, and the place is alone.
@@ -100,3 +101,32 @@ pub list_stays : (next previous : List ℕ) (l p h : ℕ) → IsAppendable next 
 list_stays next previous l p h can k zs not_head not_place none path =
     path_stays next (rewired next l p p h) p h (appended_keeps next previous l p h can) k k zs not_place not_head
     (lacks_alone next k p k zs can.alone (λ e. not_place (sym e)) path) none path
+
+-- A path through the head goes through the place right before it.
+path_through : (next previous : List ℕ) (l p h : ℕ) → AreLinked next previous → IsAppendable next previous l p h
+    → (from end : ℕ) (xs ys : List ℕ) → from ≢ p → end ≢ p → end ≢ h → Lacks (xs ++ h ∷ ys) p → IsPath next from (xs ++ h ∷ ys) end
+    → IsPath (rewired next l p p h) from (xs ++ p ∷ h ∷ ys) end
+path_through next previous l p h linked can from end [] ys start stop not_head none path =
+    let no_head : Lacks ys h = lacks_start next h end ys path.2 in (
+      appended_step next previous l p h linked can from path.0,
+      (λ e. stop (sym e)),
+      (
+        at_second next l p p h (slice_get_within next p p can.alone),
+        path.1,
+        path_stays next (rewired next l p p h) p h (appended_keeps next previous l p h can) h end ys (λ e. can.other (sym e)) not_head (lacks_tail h p ys none) no_head path.2,
+      ),
+    )
+path_through next previous l p h linked can from end (x ∷ xs) ys start stop not_head none path =
+    let lacks : Lacks (xs ++ h ∷ ys) x = lacks_start next x end (xs ++ h ∷ ys) path.2 in
+    let there : Contains (xs ++ h ∷ ys) h = Contains-append_right xs (h ∷ ys) h (0, omega arith, refl) in
+    let apart : x ≢ h = λ e. lacks (let P : ℕ → Type 0 = λ y. Contains (xs ++ h ∷ ys) y in subst P (sym e) there) in (
+      appended_keeps next previous l p h can from x start apart path.0,
+      path.1,
+      path_through next previous l p h linked can x end xs ys (lacks_head x p (xs ++ h ∷ ys) none) stop not_head (lacks_tail x p (xs ++ h ∷ ys) none) path.2,
+    )
+
+-- The list of another head, which is in the list, gets the place right before the head.
+pub list_through : (next previous : List ℕ) (l p h : ℕ) → AreLinked next previous → IsAppendable next previous l p h
+    → (k : ℕ) (xs ys : List ℕ) → k ≢ h → k ≢ p → IsList next k (xs ++ h ∷ ys) → IsList (rewired next l p p h) k (xs ++ p ∷ h ∷ ys)
+list_through next previous l p h linked can k xs ys not_head not_place path =
+    path_through next previous l p h linked can k k xs ys not_place not_place not_head (lacks_alone next k p k (xs ++ h ∷ ys) can.alone (λ e. not_place (sym e)) path) path

@@ -1,6 +1,6 @@
 -- Paths through one array.
 use Rattle.std.proofs.Common.{◌≡◌, ◌≢◌, ℕ, ◌<◌, List, [], ◌∷◌, ◌++◌, length, get_or, refl, sym, ap, ◌∙◌, subst, suc, zero, arith}
-use Rattle.std.specs.Prelude.{Contains, slice_get, Some}
+use Rattle.std.specs.Prelude.{Contains, Option, Some, None, slice_get, ◌↔◌}
 use Rattle.std.proofs.lemmas.Option.{same_Some, slice_get_within}
 use Rattle.ip_lists.specs.Lists.{IsPath}
 use Rattle.ip_lists.proofs.Members.{Lacks, lacks_head, lacks_tail, lacks_cons}
@@ -89,3 +89,10 @@ path_stays old new p q keep from end (x ∷ xs) start stop no_p no_q path = (
   path.1,
   path_stays old new p q keep x end xs (lacks_head x p xs no_p) stop (lacks_tail x p xs no_p) (lacks_tail x q xs no_q) path.2,
 )
+
+-- The first place of a path.
+pub first_by : (next : List ℕ) (from end : ℕ) (r : Option ℕ) → ((p : ℕ) → (r ≡ Some p) ↔ ((slice_get next from ≡ Some p) × (p ≢ end)))
+    → (xs : List ℕ) → IsPath next from xs end → r ≡ slice_get xs 0
+first_by next from end None link [] path = refl
+first_by next from end (Some p) link [] path = let there = (link p).0 refl in absurd (there.1 (same_next next from p end there.0 path))
+first_by next from end r link (x ∷ xs) path = (link x).1 (path.0, path.1)

@@ -1,5 +1,5 @@
 //! One array of links.
-ghost use Rattle.std.specs.Prelude.{◌≡◌, ◌↔◌, ◌<◌, ◌≤◌, ◌^◌, length, EachIndex, slice_index, slice_get, slice_set, Some, IsTrue};
+ghost use Rattle.std.specs.Prelude.{◌≡◌, ◌≢◌, ◌↔◌, ℕ, ◌<◌, ◌≤◌, ◌^◌, length, EachIndex, slice_index, slice_get, slice_set, Some, IsTrue};
 
 /// Links each place to itself.
 pub(crate) fn make_alone(links: &mut [u32])
@@ -27,6 +27,17 @@ pub(crate) fn leads(links: &[u32], from: u32, to: u32) -> bool
     match link_of(links, from) {
         Some(link) => link == to,
         None => false,
+    }
+}
+
+/// Returns a link, unless it is to this place.
+#[inline(always)]
+pub(crate) fn unless(place: u32, link: Option<u32>) -> Option<u32>
+    ensures { (p : ℕ) → (result ≡ Some p) ↔ ((link ≡ Some p) × (p ≢ place)) }
+{
+    match link {
+        Some(link) if link != place => Some(link),
+        _ => None,
     }
 }
 

@@ -3,5 +3,7 @@
 
 mod arrays;
 mod links;
+mod list_laws;
 
 pub use links::Links;
+pub use list_laws::{each_head_has_one_list, lists_are_apart};

@@ -1,5 +1,5 @@
 //! Circular lists through two arrays.
-use crate::arrays::{leads, link_of, make_alone, rewire};
+use crate::arrays::{leads, link_of, make_alone, rewire, unless};
 
 /// The places before and after a place.
 #[derive(Clone, Copy)]
@@ -75,6 +75,24 @@ impl<'m> Links<'m> {
         }
     }
 
+    /// Returns the first member of the list of a head, or `None` if it is empty.
+    #[inline(always)]
+    pub fn first(&self, head: u32) -> Option<u32>
+        ensures link { (p : ℕ) → (result ≡ Some p) ↔ ((slice_get self.now.next.now head ≡ Some p) × (p ≢ head)) }
+        ensures list { (xs : List ℕ) → IsList self.now.next.now head xs → result ≡ slice_get xs 0 }
+    {
+        self.after(head, head)
+    }
+
+    /// Returns the member after this one in the list of a head, or `None` if it is the last one.
+    #[inline(always)]
+    pub fn after(&self, head: u32, place: u32) -> Option<u32>
+        ensures link { (p : ℕ) → (result ≡ Some p) ↔ ((slice_get self.now.next.now place ≡ Some p) × (p ≢ head)) }
+        ensures list { (xs ys : List ℕ) → IsList self.now.next.now head (xs ++ place ∷ ys) → result ≡ slice_get ys 0 }
+    {
+        unless(head, link_of(self.next, place))
+    }
+
     /// Takes a place out of its list.
     pub fn remove(&mut self, place: u32) -> bool
         ensures result { IsTrue result ↔ HasNeighbours self.old.next.now self.old.previous.now place }
@@ -122,6 +140,8 @@ impl<'m> Links<'m> {
             → IsList self.old.next.now head xs → IsList self.new.next.now head (xs ++ place ∷ []) }
         ensures others { AreLinked self.old.next.now self.old.previous.now → result ≡ true → (h : ℕ) (zs : List ℕ) → h ≢ head → h ≢ place
             → ¬ Contains zs head → IsList self.old.next.now h zs → IsList self.new.next.now h zs }
+        ensures through { AreLinked self.old.next.now self.old.previous.now → result ≡ true → (h : ℕ) (xs ys : List ℕ) → h ≢ head → h ≢ place
+            → IsList self.old.next.now h (xs ++ head ∷ ys) → IsList self.new.next.now h (xs ++ place ∷ head ∷ ys) }
     {
         match self.last_for(head, place) {
             Some(last) => {

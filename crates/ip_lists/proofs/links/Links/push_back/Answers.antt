@@ -1,6 +1,6 @@
 use Rattle.std.proofs.Common.{refl}
 use Rattle.ip_lists.proofs.Linked.{before}
-use Rattle.ip_lists.proofs.Appended.{IsAppendable, appendable, appended_linked, list_appended, list_stays}
+use Rattle.ip_lists.proofs.Appended.{IsAppendable, appendable, appended_linked, list_appended, list_stays, list_through}
 use Rattle.ip_lists.proofs.links.Links.push_back.Goals as goal
 
 found : (c : goal.After-rewire-in-Some) → IsAppendable c.args.self.now.next.now c.args.self.now.previous.now c.in-Some.last c.args.place c.args.head
@@ -17,3 +17,6 @@ returns-in-Some-clause-others c = λ linked _ h zs not_head not_place none list.
 
 pub returns-in-None-clause-done : goal.returns-in-None-clause-done
 returns-in-None-clause-done c = λ linked within other alone. absurd (c.in-None.ensures.none refl (other, alone, (_, before _ _ _ linked within)))
+
+pub returns-in-Some-clause-through : goal.returns-in-Some-clause-through
+returns-in-Some-clause-through c = λ linked _ h xs ys not_head not_place list. rw (c.rewire.ensures) (list_through _ _ _ _ _ linked (found c) h xs ys not_head not_place list)

@@ -1,8 +1,6 @@
-use Rattle.std.proofs.Common.{ℕ, ◌<◌, length, refl}
-use Rattle.std.proofs.lemmas.Option.{slice_get_within}
+use Rattle.std.proofs.Common.{◌<◌, length, refl}
 use Rattle.ip_lists.specs.Lists.{AreLinked}
 use Rattle.ip_lists.proofs.Paths.{path_from, start_within}
-use Rattle.ip_lists.proofs.Rewired.{at_second}
 use Rattle.ip_lists.proofs.Linked.{neighbours}
 use Rattle.ip_lists.proofs.Removed.{IsBetween, between, removed_alone, removed_linked, list_without, list_stays}
 use Rattle.ip_lists.proofs.links.Links.remove.Goals as goal

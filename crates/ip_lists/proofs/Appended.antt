@@ -5,7 +5,7 @@ use Rattle.std.proofs.lemmas.Bool.{cases_eq}
 use Rattle.std.proofs.lemmas.Option.{slice_get_within}
 use Rattle.std.proofs.lemmas.List.Elements.{Contains-append_right}
 use Rattle.ip_lists.specs.Lists.{AreLinked, AreNeighbours, IsAlone, IsPath, IsList}
-use Rattle.ip_lists.proofs.Members.{Lacks, lacks_head, lacks_tail}
+use Rattle.ip_lists.proofs.Lacking.{Lacks, lacks_head, lacks_tail}
 use Rattle.ip_lists.proofs.Paths.{path_stays, lacks_alone, lacks_start}
 use Rattle.ip_lists.proofs.Rewired.{rewired, length_rewired, at_first, at_second, at_others}
 

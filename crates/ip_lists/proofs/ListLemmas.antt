@@ -8,7 +8,7 @@ use Rattle.std.proofs.lemmas.List.{get_or_default}
 use Rattle.std.proofs.lemmas.Map.Keys.{IsDistinct-from_apart}
 use Rattle.std.proofs.lemmas.Map.Steps.{length-le_from_distinct_below}
 use Rattle.ip_lists.specs.Lists.{IsPath, IsList}
-use Rattle.ip_lists.proofs.Members.{Lacks, lacks_head, lacks_tail}
+use Rattle.ip_lists.proofs.Lacking.{Lacks, lacks_head, lacks_tail}
 use Rattle.ip_lists.proofs.Paths.{same_next, start_within, lacks_start, rest_of}
 
 -- Two elements of a list whose first element isn't among the others.

@@ -3,7 +3,7 @@ use Rattle.std.proofs.Common.{◌≡◌, ◌≢◌, ℕ, ◌<◌, List, [], ◌�
 use Rattle.std.specs.Prelude.{Contains, Option, Some, None, slice_get, ◌↔◌}
 use Rattle.std.proofs.lemmas.Option.{same_Some, slice_get_within}
 use Rattle.ip_lists.specs.Lists.{IsPath}
-use Rattle.ip_lists.proofs.Members.{Lacks, lacks_head, lacks_tail, lacks_cons}
+use Rattle.ip_lists.proofs.Lacking.{Lacks, lacks_head, lacks_tail, lacks_cons}
 
 -- Only one place comes after another.
 pub same_next : (next : List ℕ) (from x y : ℕ) → slice_get next from ≡ Some x → slice_get next from ≡ Some y → x ≡ y

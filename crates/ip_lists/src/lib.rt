@@ -4,6 +4,8 @@
 mod arrays;
 mod links;
 mod list_laws;
+mod members;
 
 pub use links::Links;
 pub use list_laws::{each_head_has_one_list, lists_are_apart};
+pub use members::Members;

@@ -1,4 +1,5 @@
 //! Circular lists through two arrays.
+use crate::Members;
 use crate::arrays::{leads, link_of, make_alone, rewire, unless};
 
 /// The places before and after a place.
@@ -20,6 +21,7 @@ pub struct Links<'m> {
 impl<'m> Links<'m> {
     ghost use Rattle.std.specs.Prelude.{◌≡◌, ◌≢◌, ◌↔◌, ℕ, ◌<◌, ◌≤◌, ◌^◌, ◌++◌, ◌∷◌, [], List, length, slice_get, slice_set, Some, IfSome, is_none, Contains, IsTrue, true, false};
     ghost use Rattle.ip_lists.specs.Lists.{AreLinked, AreNeighbours, HasNeighbours, IsAlone, CanAppend, IsList};
+    ghost use Rattle.ip_lists.specs.Members.{members_after, members_left};
 
     /// Takes each place out of its list.
     pub fn clear(&mut self)
@@ -91,6 +93,22 @@ impl<'m> Links<'m> {
         ensures list { (xs ys : List ℕ) → IsList self.now.next.now head (xs ++ place ∷ ys) → result ≡ slice_get ys 0 }
     {
         unless(head, link_of(self.next, place))
+    }
+
+    /// Returns the members of the list of a head, one after another.
+    #[inline(always)]
+    pub fn members(&self, head: u32) -> Members<'_>
+        ensures walk { members_left result ≡ members_after self.now.next.now head head (length self.now.next.now) }
+        ensures list { (xs : List ℕ) → IsList self.now.next.now head xs → members_left result ≡ xs }
+        ensures all { AreLinked self.now.next.now self.now.previous.now → head < length self.now.next.now
+            → IsList self.now.next.now head (members_left result) }
+    {
+        Members {
+            next: self.next,
+            head,
+            place: head,
+            left: self.next.len(),
+        }
     }
 
     /// Takes a place out of its list.

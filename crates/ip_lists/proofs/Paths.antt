@@ -91,8 +91,8 @@ path_stays old new p q keep from end (x ∷ xs) start stop no_p no_q path = (
 )
 
 -- The first place of a path.
-pub first_by : (next : List ℕ) (from end : ℕ) (r : Option ℕ) → ((p : ℕ) → (r ≡ Some p) ↔ ((slice_get next from ≡ Some p) × (p ≢ end)))
+pub first_by : (next : List ℕ) (from end : ℕ) (r : Option ℕ) → ((p : ℕ) → (r ≡ Some p) ↔ ((slice_get next from ≡ Some p) × (p ≢ end) × (p < length next)))
     → (xs : List ℕ) → IsPath next from xs end → r ≡ slice_get xs 0
 first_by next from end None link [] path = refl
 first_by next from end (Some p) link [] path = let there = (link p).0 refl in absurd (there.1 (same_next next from p end there.0 path))
-first_by next from end r link (x ∷ xs) path = (link x).1 (path.0, path.1)
+first_by next from end r link (x ∷ xs) path = (link x).1 (path.0, path.1, start_within next x end xs path.2)

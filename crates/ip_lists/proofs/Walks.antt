@@ -1,9 +1,9 @@
 -- Walks through an array.
-use Rattle.std.proofs.Common.{◌≡◌, ◌≢◌, ℕ, ◌<◌, ◌≤◌, List, [], ◌∷◌, Bool, true, false, length, get_or, refl, sym, ap, ◌∙◌, subst, suc, zero, arith, inl, inr, eqb, eq-eqb, ◌-◌, ◌||◌, cond, ◌⊎◌}
+use Rattle.std.proofs.Common.{◌≡◌, ◌≢◌, ℕ, ◌<◌, ◌≤◌, List, [], ◌∷◌, Bool, true, false, length, get_or, refl, sym, ap, ◌∙◌, subst, suc, zero, arith, inl, inr, eqb, leb, eq-eqb, ◌-◌, ◌||◌, cond, ◌⊎◌}
 use Rattle.std.specs.Prelude.{Option, Some, None, slice_get, ◌↔◌, ⊤}
 use Rattle.std.specs.Option.{option_map_or}
 use Rattle.std.specs.List.{list_any, IsDistinct}
-use Rattle.std.proofs.lemmas.Bool.{ne_eqb, false≢true}
+use Rattle.std.proofs.lemmas.Bool.{cases_lt, le-leb, lt-leb, ne_eqb, false≢true}
 use Rattle.std.proofs.lemmas.Bool.Decides.{eqb_tells}
 use Rattle.std.proofs.lemmas.List.{get_or_default}
 use Rattle.std.proofs.lemmas.Option.{none-some, slice_get-get_or, slice_get_within}
@@ -12,28 +12,40 @@ use Rattle.std.proofs.lemmas.Map.Steps.{length-le_from_distinct_below}
 use Rattle.ip_lists.specs.Lists.{AreLinked, IsPath, IsList}
 use Rattle.ip_lists.specs.Members.{members_after}
 use Rattle.ip_lists.proofs.Lacking.{Lacks, lacks_cons}
+use Rattle.ip_lists.proofs.Paths.{start_within}
 use Rattle.ip_lists.proofs.ListLemmas.{few}
 
+-- the rest of a walk from this place, if there is one
+abbrev rest_at : List ℕ → ℕ → ℕ → Option ℕ → List ℕ
+rest_at next head n o = option_map_or (λ (p : ℕ). cond (eqb p head || leb (length next) p) [] (p ∷ members_after next head p n)) o []
+
 -- The equations of a walk.
-pub nowhere : (next : List ℕ) (head from n : ℕ) → slice_get next from ≡ None → members_after next head from (suc n) ≡ []
-nowhere next head from n none = ap (λ (o : Option ℕ). option_map_or (λ (p : ℕ). cond (eqb p head) [] (p ∷ members_after next head p n)) o []) none
+nowhere : (next : List ℕ) (head from n : ℕ) → slice_get next from ≡ None → members_after next head from (suc n) ≡ []
+nowhere next head from n none = ap (rest_at next head n) none
 
-pub at_head : (next : List ℕ) (head from n : ℕ) → slice_get next from ≡ Some head → members_after next head from (suc n) ≡ []
+at_head : (next : List ℕ) (head from n : ℕ) → slice_get next from ≡ Some head → members_after next head from (suc n) ≡ []
 at_head next head from n there =
-    ap (λ (o : Option ℕ). option_map_or (λ (p : ℕ). cond (eqb p head) [] (p ∷ members_after next head p n)) o []) there
-    ∙ ap (λ (t : Bool). cond t [] (head ∷ members_after next head head n)) (eq-eqb head head refl)
+    ap (rest_at next head n) there
+    ∙ ap (λ (t : Bool). cond (t || leb (length next) head) [] (head ∷ members_after next head head n)) (eq-eqb head head refl)
 
-pub goes_on : (next : List ℕ) (head from n p : ℕ) → slice_get next from ≡ Some p → p ≢ head → members_after next head from (suc n) ≡ p ∷ members_after next head p n
-goes_on next head from n p there other =
-    ap (λ (o : Option ℕ). option_map_or (λ (p : ℕ). cond (eqb p head) [] (p ∷ members_after next head p n)) o []) there
-    ∙ ap (λ (t : Bool). cond t [] (p ∷ members_after next head p n)) (ne_eqb p head other)
+beyond : (next : List ℕ) (head from n p : ℕ) → slice_get next from ≡ Some p → p ≢ head → length next ≤ p → members_after next head from (suc n) ≡ []
+beyond next head from n p there other past =
+    ap (rest_at next head n) there
+    ∙ (ap (λ (t : Bool). cond (t || leb (length next) p) [] (p ∷ members_after next head p n)) (ne_eqb p head other)
+    ∙ ap (λ (t : Bool). cond t [] (p ∷ members_after next head p n)) (le-leb (length next) p past))
+
+goes_on : (next : List ℕ) (head from n p : ℕ) → slice_get next from ≡ Some p → p ≢ head → p < length next → members_after next head from (suc n) ≡ p ∷ members_after next head p n
+goes_on next head from n p there other within =
+    ap (rest_at next head n) there
+    ∙ (ap (λ (t : Bool). cond (t || leb (length next) p) [] (p ∷ members_after next head p n)) (ne_eqb p head other)
+    ∙ ap (λ (t : Bool). cond t [] (p ∷ members_after next head p n)) (lt-leb (length next) p within))
 
 -- A walk along a path returns its places.
 pub along : (next : List ℕ) (from end n : ℕ) (xs : List ℕ) → length xs ≤ n → IsPath next from xs end → members_after next end from n ≡ xs
 along next from end zero [] fits path = refl
 along next from end (suc n) [] fits path = at_head next end from n path
 along next from end zero (x ∷ xs) fits path = absurd (omega arith)
-along next from end (suc n) (x ∷ xs) fits path = goes_on next end from n x path.0 path.1 ∙ ap (λ (ys : List ℕ). x ∷ ys) (along next x end n xs (omega arith) path.2)
+along next from end (suc n) (x ∷ xs) fits path = goes_on next end from n x path.0 path.1 (start_within next x end xs path.2) ∙ ap (λ (ys : List ℕ). x ∷ ys) (along next x end n xs (omega arith) path.2)
 
 pub along_list : (next : List ℕ) (h : ℕ) (xs : List ℕ) → IsList next h xs → members_after next h h (length next) ≡ xs
 along_list next h xs list = along next h h (length next) xs (let less : length xs < length next = few next h h xs list in omega arith) list
@@ -64,7 +76,7 @@ walked next previous linked head from (suc n) within =
       | inr other ↦
           let rest = walked next previous linked head p n inside in
           let P : List ℕ → Type 0 = λ xs. IsWalk next head from (suc n) xs in
-          subst P (sym (goes_on next head from n p there other.1)) (record {
+          subst P (sym (goes_on next head from n p there other.1 inside)) (record {
             chain = (there, rest.chain);
             lacks = lacks_cons p head (members_after next head p n) other.1 rest.lacks;
             ends = elim rest.ends [ inl path ↦ inl (there, other.1, path) | inr full ↦ inr (ap suc full) ];
@@ -119,19 +131,26 @@ has_list next previous linked h within =
     ]
 
 -- One call of an iterator.
-pub step_some : (next : List ℕ) (head from n p : ℕ) (o r : Option ℕ) → (n ≡ 0 → ⊥) → o ≡ slice_get next from → ((q : ℕ) → (r ≡ Some q) ↔ ((o ≡ Some q) × (q ≢ head))) → r ≡ Some p
+pub step_some : (next : List ℕ) (head from n p : ℕ) (r : Option ℕ) → (n ≡ 0 → ⊥) → ((q : ℕ) → (r ≡ Some q) ↔ ((slice_get next from ≡ Some q) × (q ≢ head) × (q < length next))) → r ≡ Some p
     → members_after next head from n ≡ p ∷ members_after next head p (n - 1)
-step_some next head from zero p o r some link_is link is = absurd (some refl)
-step_some next head from (suc n) p o r some link_is link is =
+step_some next head from zero p r some link is = absurd (some refl)
+step_some next head from (suc n) p r some link is =
     let there = (link p).0 is in
     let less : suc n - 1 ≡ n = omega arith in
-    rw less (goes_on next head from n p (sym link_is ∙ there.0) there.1)
+    rw less (goes_on next head from n p there.0 there.1 there.2)
 
-pub step_none : (next : List ℕ) (head from n : ℕ) (o r : Option ℕ) → o ≡ slice_get next from → ((q : ℕ) → (r ≡ Some q) ↔ ((o ≡ Some q) × (q ≢ head))) → r ≡ None
+step_none_by : (next : List ℕ) (head from n : ℕ) (r o : Option ℕ) → slice_get next from ≡ o → ((q : ℕ) → (r ≡ Some q) ↔ ((slice_get next from ≡ Some q) × (q ≢ head) × (q < length next))) → r ≡ None
     → members_after next head from n ≡ []
-step_none next head from zero o r link_is link is = refl
-step_none next head from (suc n) None r link_is link is = nowhere next head from n (sym link_is)
-step_none next head from (suc n) (Some p) r link_is link is = elim (eqb_tells p head) [
-  | inl same ↦ at_head next head from n (sym link_is ∙ ap Some same.1)
-  | inr other ↦ absurd (let some : r ≡ Some p = (link p).1 (refl, other.1) in none-some p (sym is ∙ some))
+step_none_by next head from zero r o there link is = refl
+step_none_by next head from (suc n) r None there link is = nowhere next head from n there
+step_none_by next head from (suc n) r (Some p) there link is = elim (eqb_tells p head) [
+  | inl same ↦ at_head next head from n (there ∙ ap Some same.1)
+  | inr other ↦ elim (cases_lt p (length next)) [
+    | inl within ↦ absurd (let some : r ≡ Some p = (link p).1 (there, other.1, within) in none-some p (sym is ∙ some))
+    | inr past ↦ beyond next head from n p there other.1 past
+  ]
 ]
+
+pub step_none : (next : List ℕ) (head from n : ℕ) (r : Option ℕ) → ((q : ℕ) → (r ≡ Some q) ↔ ((slice_get next from ≡ Some q) × (q ≢ head) × (q < length next))) → r ≡ None
+    → members_after next head from n ≡ []
+step_none next head from n r link is = step_none_by next head from n r (slice_get next from) refl link is

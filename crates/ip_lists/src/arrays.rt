@@ -30,13 +30,13 @@ pub(crate) fn leads(links: &[u32], from: u32, to: u32) -> bool
     }
 }
 
-/// Returns a link, unless it is to this place.
+/// Returns the place after this one in the list of a head. Returns `None` if that is the head, or beyond the links.
 #[inline(always)]
-pub(crate) fn unless(place: u32, link: Option<u32>) -> Option<u32>
-    ensures { (p : ℕ) → (result ≡ Some p) ↔ ((link ≡ Some p) × (p ≢ place)) }
+pub(crate) fn member_after(links: &[u32], head: u32, place: u32) -> Option<u32>
+    ensures { (p : ℕ) → (result ≡ Some p) ↔ ((slice_get links.now place ≡ Some p) × (p ≢ head) × (p < length links.now)) }
 {
-    match link {
-        Some(link) if link != place => Some(link),
+    match link_of(links, place) {
+        Some(link) if link != head && (link as usize) < links.len() => Some(link),
         _ => None,
     }
 }

@@ -1,6 +1,6 @@
 //! Circular lists through two arrays.
 use crate::Members;
-use crate::arrays::{leads, link_of, make_alone, rewire, unless};
+use crate::arrays::{leads, link_of, make_alone, member_after, rewire};
 
 /// The places before and after a place.
 #[derive(Clone, Copy)]
@@ -80,19 +80,19 @@ impl<'m> Links<'m> {
     /// Returns the first member of the list of a head, or `None` if it is empty.
     #[inline(always)]
     pub fn first(&self, head: u32) -> Option<u32>
-        ensures link { (p : ℕ) → (result ≡ Some p) ↔ ((slice_get self.now.next.now head ≡ Some p) × (p ≢ head)) }
+        ensures link { (p : ℕ) → (result ≡ Some p) ↔ ((slice_get self.now.next.now head ≡ Some p) × (p ≢ head) × (p < length self.now.next.now)) }
         ensures list { (xs : List ℕ) → IsList self.now.next.now head xs → result ≡ slice_get xs 0 }
     {
-        self.after(head, head)
+        member_after(self.next, head, head)
     }
 
     /// Returns the member after this one in the list of a head, or `None` if it is the last one.
     #[inline(always)]
     pub fn after(&self, head: u32, place: u32) -> Option<u32>
-        ensures link { (p : ℕ) → (result ≡ Some p) ↔ ((slice_get self.now.next.now place ≡ Some p) × (p ≢ head)) }
+        ensures link { (p : ℕ) → (result ≡ Some p) ↔ ((slice_get self.now.next.now place ≡ Some p) × (p ≢ head) × (p < length self.now.next.now)) }
         ensures list { (xs ys : List ℕ) → IsList self.now.next.now head (xs ++ place ∷ ys) → result ≡ slice_get ys 0 }
     {
-        unless(head, link_of(self.next, place))
+        member_after(self.next, head, place)
     }
 
     /// Returns the members of the list of a head, one after another.
@@ -113,6 +113,7 @@ impl<'m> Links<'m> {
 
     /// Takes a place out of its list.
     pub fn remove(&mut self, place: u32) -> bool
+        ensures len { length self.new.next.now ≡ length self.old.next.now }
         ensures result { IsTrue result ↔ HasNeighbours self.old.next.now self.old.previous.now place }
         ensures refused { result ≡ false → (self.new.next.now ≡ self.old.next.now) × (self.new.previous.now ≡ self.old.previous.now) }
         ensures next { (a b : ℕ) → AreNeighbours self.old.next.now self.old.previous.now a place
@@ -143,6 +144,7 @@ impl<'m> Links<'m> {
 
     /// Appends a place that is in no list to the list of a head.
     pub fn push_back(&mut self, head: u32, place: u32) -> bool
+        ensures len { length self.new.next.now ≡ length self.old.next.now }
         ensures result { IsTrue result ↔ CanAppend self.old.next.now self.old.previous.now head place }
         ensures refused { result ≡ false → (self.new.next.now ≡ self.old.next.now) × (self.new.previous.now ≡ self.old.previous.now) }
         ensures next { (l : ℕ) → result ≡ true → AreNeighbours self.old.next.now self.old.previous.now l head

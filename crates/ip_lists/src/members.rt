@@ -1,5 +1,5 @@
 //! An iterator over the members of a list.
-use crate::arrays::{link_of, unless};
+use crate::arrays::member_after;
 
 /// The members of a list, in order, and `None` from then on.
 #[derive(Clone, Debug, Drop)]
@@ -24,7 +24,7 @@ impl<'l> Iterator for Members<'l> {
         if self.left == 0 {
             return None;
         }
-        match unless(self.head, link_of(self.next, self.place)) {
+        match member_after(self.next, self.head, self.place) {
             Some(place) => {
                 self.place = place;
                 self.left -= 1;

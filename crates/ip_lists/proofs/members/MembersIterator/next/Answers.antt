@@ -6,7 +6,7 @@ use Rattle.ip_lists.proofs.members.MembersIterator.next.Goals as goal
 pub returns-in-Some-clause-steps : goal.returns-in-Some-clause-steps
 returns-in-Some-clause-steps c =
     let it = c.args.self.now in
-    step_some it.next.now it.head it.place it.left c.in-Some.place c.link_of.result c.unless.result c.if-self-eq0.false c.link_of.ensures c.unless.ensures c.in-Some.is
+    step_some it.next.now it.head it.place it.left c.in-Some.place c.member_after.result c.if-self-eq0.false c.member_after.ensures c.in-Some.is
 
 pub returns-in-Some-clause-goes : goal.returns-in-Some-clause-goes
 returns-in-Some-clause-goes c =
@@ -16,4 +16,4 @@ returns-in-Some-clause-goes c =
 pub returns-in-None-clause-steps : goal.returns-in-None-clause-steps
 returns-in-None-clause-steps c =
     let it = c.args.self.now in
-    (step_none it.next.now it.head it.place it.left c.link_of.result c.unless.result c.link_of.ensures c.unless.ensures c.in-None.is, refl)
+    (step_none it.next.now it.head it.place it.left c.member_after.result c.member_after.ensures c.in-None.is, refl)

@@ -1,12 +1,13 @@
 -- Walks through an array.
 use Rattle.std.proofs.Common.{◌≡◌, ◌≢◌, ℕ, ◌<◌, ◌≤◌, List, [], ◌∷◌, Bool, true, false, length, get_or, refl, sym, ap, ◌∙◌, subst, suc, zero, arith, inl, inr, eqb, leb, eq-eqb, ◌-◌, ◌||◌, cond, ◌⊎◌}
-use Rattle.std.specs.Prelude.{Option, Some, None, slice_get, ◌↔◌, ⊤}
+use Rattle.std.specs.Prelude.{All, Option, Some, None, slice_get, ◌↔◌, ⊤}
 use Rattle.std.specs.Option.{option_map_or}
 use Rattle.std.specs.List.{list_any, IsDistinct}
 use Rattle.std.proofs.lemmas.Bool.{cases_lt, le-leb, lt-leb, ne_eqb, false≢true}
 use Rattle.std.proofs.lemmas.Bool.Decides.{eqb_tells}
 use Rattle.std.proofs.lemmas.List.{get_or_default}
 use Rattle.std.proofs.lemmas.Option.{none-some, slice_get-get_or, slice_get_within}
+use Rattle.std.proofs.lemmas.List.Elements.{All-nil, All-cons}
 use Rattle.std.proofs.lemmas.Map.Keys.{IsDistinct-from_apart}
 use Rattle.std.proofs.lemmas.Map.Steps.{length-le_from_distinct_below}
 use Rattle.ip_lists.specs.Lists.{AreLinked, IsPath, IsList}
@@ -154,3 +155,31 @@ step_none_by next head from (suc n) r (Some p) there link is = elim (eqb_tells p
 pub step_none : (next : List ℕ) (head from n : ℕ) (r : Option ℕ) → ((q : ℕ) → (r ≡ Some q) ↔ ((slice_get next from ≡ Some q) × (q ≢ head) × (q < length next))) → r ≡ None
     → members_after next head from n ≡ []
 step_none next head from n r link is = step_none_by next head from n r (slice_get next from) refl link is
+
+-- A walk has at most as many places as it may have, and each is one of the array.
+few_cond : (t : Bool) (p n : ℕ) (xs : List ℕ) → length xs ≤ n → length (cond t [] (p ∷ xs)) ≤ suc n
+few_cond true p n xs fits = omega arith
+few_cond false p n xs fits = omega arith
+
+few_rest : (next : List ℕ) (head n : ℕ) (o : Option ℕ) → ((p : ℕ) → length (members_after next head p n) ≤ n) → length (rest_at next head n o) ≤ suc n
+few_rest next head n None fits = omega arith
+few_rest next head n (Some p) fits = few_cond (eqb p head || leb (length next) p) p n (members_after next head p n) (fits p)
+
+pub few_after : (next : List ℕ) (head from n : ℕ) → length (members_after next head from n) ≤ n
+few_after next head from zero = omega arith
+few_after next head from (suc n) = few_rest next head n (slice_get next from) (λ p. few_after next head p n)
+
+within_cond : (m p : ℕ) (t : Bool) (xs : List ℕ) → All (λ q. q < m) xs → All (λ q. q < m) (cond (t || leb m p) [] (p ∷ xs))
+within_cond m p true xs all = All-nil (λ q. q < m)
+within_cond m p false xs all = elim (cases_lt p m) [
+  | inl less ↦ (let P : Bool → Type 0 = λ u. All (λ q. q < m) (cond u [] (p ∷ xs)) in subst P (sym (lt-leb m p less)) (All-cons (λ q. q < m) p xs less all))
+  | inr past ↦ (let P : Bool → Type 0 = λ u. All (λ q. q < m) (cond u [] (p ∷ xs)) in subst P (sym (le-leb m p past)) (All-nil (λ q. q < m)))
+]
+
+within_rest : (next : List ℕ) (head n : ℕ) (o : Option ℕ) → ((p : ℕ) → All (λ q. q < length next) (members_after next head p n)) → All (λ q. q < length next) (rest_at next head n o)
+within_rest next head n None all = All-nil (λ q. q < length next)
+within_rest next head n (Some p) all = within_cond (length next) p (eqb p head) (members_after next head p n) (all p)
+
+pub within_after : (next : List ℕ) (head from n : ℕ) → All (λ q. q < length next) (members_after next head from n)
+within_after next head from zero = All-nil (λ q. q < length next)
+within_after next head from (suc n) = within_rest next head n (slice_get next from) (λ p. within_after next head p n)

@@ -19,7 +19,7 @@ pub struct Links<'m> {
 }
 
 impl<'m> Links<'m> {
-    ghost use Rattle.std.specs.Prelude.{◌≡◌, ◌≢◌, ◌↔◌, ℕ, ◌<◌, ◌≤◌, ◌^◌, ◌++◌, ◌∷◌, [], List, length, slice_get, slice_set, Some, IfSome, is_none, Contains, IsTrue, true, false};
+    ghost use Rattle.std.specs.Prelude.{◌≡◌, ◌≢◌, ◌↔◌, ℕ, ◌<◌, ◌≤◌, ◌^◌, ◌++◌, ◌∷◌, [], List, length, slice_get, slice_set, Some, IfSome, is_none, All, Contains, IsTrue, true, false};
     ghost use Rattle.ip_lists.specs.Lists.{AreLinked, AreNeighbours, HasNeighbours, IsAlone, CanAppend, IsList};
     ghost use Rattle.ip_lists.specs.Members.{members_after, members_left};
 
@@ -99,6 +99,8 @@ impl<'m> Links<'m> {
     #[inline(always)]
     pub fn members(&self, head: u32) -> Members<'_>
         ensures walk { members_left result ≡ members_after self.now.next.now head head (length self.now.next.now) }
+        ensures few { length (members_left result) ≤ length self.now.next.now }
+        ensures within { All (λ p. p < length self.now.next.now) (members_left result) }
         ensures list { (xs : List ℕ) → IsList self.now.next.now head xs → members_left result ≡ xs }
         ensures all { AreLinked self.now.next.now self.now.previous.now → head < length self.now.next.now
             → IsList self.now.next.now head (members_left result) }

@@ -1,4 +1,4 @@
-//! Circular lists through arrays.
+//! Circular lists through arrays of the caller's, for slots that are found by their hash and given up by their age.
 #![tactic(auto)]
 
 mod arrays;

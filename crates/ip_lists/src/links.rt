@@ -9,7 +9,10 @@ struct Neighbours {
     after: u32,
 }
 
-/// Circular lists of places, through two arrays.
+/// Circular lists of places, which are the indexes of two arrays. The caller chooses which places are heads of lists; each of
+/// the others is a member of a list or in none.
+///
+/// Whatever the arrays contain, no call fails. After `clear` they agree, and each call keeps it so.
 #[derive(Drop)]
 pub struct Links<'m> {
     /// The place after each place.
@@ -23,7 +26,7 @@ impl<'m> Links<'m> {
     ghost use Rattle.ip_lists.specs.Lists.{AreLinked, AreNeighbours, HasNeighbours, IsAlone, CanAppend, IsList};
     ghost use Rattle.ip_lists.specs.Members.{members_after, members_left};
 
-    /// Takes each place out of its list.
+    /// Takes each place out of its list, so that it leads to itself.
     pub fn clear(&mut self)
         requires as_many { length self.old.previous.now ≡ length self.old.next.now }
         requires few { length self.old.next.now ≤ 2 ^ 32 }
@@ -95,7 +98,8 @@ impl<'m> Links<'m> {
         member_after(self.next, head, place)
     }
 
-    /// Returns the members of the list of a head, one after another.
+    /// Returns the members of the list of a head, one after another. Of arrays that don't agree, these are at most as many
+    /// places as the arrays have.
     #[inline(always)]
     pub fn members(&self, head: u32) -> Members<'_>
         ensures walk { members_left result ≡ members_after self.now.next.now head head (length self.now.next.now) }
@@ -113,7 +117,8 @@ impl<'m> Links<'m> {
         }
     }
 
-    /// Takes a place out of its list.
+    /// Takes a place out of its list. Returns false, and changes nothing, if the place is beyond the arrays, or if its
+    /// neighbours don't lead back to it.
     pub fn remove(&mut self, place: u32) -> bool
         ensures len { length self.new.next.now ≡ length self.old.next.now }
         ensures result { IsTrue result ↔ HasNeighbours self.old.next.now self.old.previous.now place }
@@ -144,7 +149,8 @@ impl<'m> Links<'m> {
         }
     }
 
-    /// Appends a place that is in no list to the list of a head.
+    /// Appends a place that is in no list to the list of a head. Returns false, and changes nothing, if the place is in a list
+    /// or is the head, if it or the head is beyond the arrays, or if the place before the head doesn't lead back to it.
     pub fn push_back(&mut self, head: u32, place: u32) -> bool
         ensures len { length self.new.next.now ≡ length self.old.next.now }
         ensures result { IsTrue result ↔ CanAppend self.old.next.now self.old.previous.now head place }

@@ -14,6 +14,7 @@ pub mod from_etherparse;
 pub mod header_outcomes;
 pub mod headers;
 pub mod ipv4;
+pub mod lists;
 pub mod packet_outcomes;
 pub mod packets;
 pub mod places;

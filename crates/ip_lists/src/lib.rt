@@ -1,0 +1,13 @@
+//! Circular lists through arrays of the caller's, for slots that are found by their hash and given up by their age.
+#![tactic(auto)]
+
+mod arrays;
+mod links;
+mod list_laws;
+mod members;
+#[cfg(test)]
+mod tests;
+
+pub use links::Links;
+pub use list_laws::{each_head_has_one_list, lists_are_apart};
+pub use members::Members;

@@ -64,9 +64,8 @@ class Filter:
         host A                               A is an IPv4 or IPv6 address
         src port P, dst port P, port P       P is a port or a range such as 1024-65535
         no-transport                         the payload should start with ports, but is too short for both
-        icmp-type T, icmp-code N             the type and the code of an ICMP message of an IPv4 packet; T is a number, or a
-                                             name of libpcap's such as icmp-echo
-        icmp6-type T, icmp6-code N           those of an ICMPv6 message of an IPv6 packet; T may be a name such as icmp6-echo
+        icmp-type T, icmp-code N             the type and the code of an ICMP message of an IPv4 packet; T is a number or a name
+        icmp6-type T, icmp6-code N           those of an ICMPv6 message of an IPv6 packet
         tcp-flags LIST, tcp-flags LIST/LIST  these flags of TCP are set; of those after the slash, exactly these. LIST is a
                                              flag or several with commas between: fin, syn, rst, psh, ack, urg, ece, cwr
 
@@ -74,7 +73,8 @@ class Filter:
     extension headers may precede them. A later fragment has none, nor has a packet with an error or a truncated header. The
     terms about fragments hold of an IPv6 packet if they do of one of its fragment headers.
 
-    Numbers are decimal, or hexadecimal after 0x. Raises `FilterError`, a `ValueError`, for any other text.
+    The names of types are those of libpcap's expressions, such as icmp-echo and icmp6-neighborsolicit; `wolfaren.h` lists
+    them. Numbers are decimal, or hexadecimal after 0x. Raises `FilterError`, a `ValueError`, for any other text.
 
     Filters are equal if their texts compile to the same program, as `not (fault or truncated)` and
     `not fault and not truncated` do.

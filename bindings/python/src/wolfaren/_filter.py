@@ -74,7 +74,8 @@ class Filter:
     terms about fragments hold of an IPv6 packet if they do of one of its fragment headers. The names of types are libpcap's,
     such as icmp-echo or icmp6-echo.
 
-    Numbers are decimal, or hexadecimal after 0x. Raises `FilterError`, a `ValueError`, for any other text.
+    The names of types are those of libpcap's expressions, such as icmp-echo and icmp6-neighborsolicit; `wolfaren.h` lists
+    them. Numbers are decimal, or hexadecimal after 0x. Raises `FilterError`, a `ValueError`, for any other text.
 
     Filters are equal if their texts compile to the same program, as `not (fault or truncated)` and
     `not fault and not truncated` do.

@@ -1,4 +1,5 @@
 /* What the library has besides its proved code: the symbol that is named after the interface, and a check of the processor. */
+#define WOLFAREN_UNLINKED /* what defines the symbol needn't refer to it */
 #include "wolfaren.h"
 
 const char WOLFAREN_ABI_SYMBOL = 0;

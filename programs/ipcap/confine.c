@@ -91,18 +91,15 @@ static void allow_with(struct program *program, long number, size_t index, uint3
 /* The two calls that ask whether a file is a terminal. */
 static const uint32_t terminal_calls[] = {TCGETS, 0x802c542a /* TCGETS2 */};
 
-/* What each command needs: reading, writing, memory, time, signals, threads, and to end. */
+/* What each command needs: reading, writing, memory, time, signals, what threads call, and to end. */
 static const short calls[] = {
     SYS_read, SYS_write, SYS_readv, SYS_writev, SYS_lseek, SYS_ppoll, SYS_futex, SYS_close, SYS_fstat, SYS_newfstatat,
     SYS_fcntl, SYS_dup, SYS_munmap, SYS_mremap, SYS_madvise, SYS_brk, SYS_membarrier, SYS_getrandom, SYS_clock_gettime,
     SYS_clock_nanosleep, SYS_gettimeofday, SYS_nanosleep, SYS_restart_syscall, SYS_rt_sigaction, SYS_rt_sigprocmask,
-    SYS_rt_sigreturn, SYS_getpid, SYS_gettid, SYS_sched_getaffinity, SYS_sched_yield, SYS_set_robust_list, SYS_clone,
-    SYS_prlimit64, SYS_exit, SYS_exit_group,
+    SYS_rt_sigreturn, SYS_getpid, SYS_gettid, SYS_sched_getaffinity, SYS_sched_yield, SYS_set_robust_list, SYS_exit,
+    SYS_exit_group,
 #ifdef SYS_poll
     SYS_poll,
-#endif
-#ifdef SYS_clone3
-    SYS_clone3,
 #endif
 #ifdef SYS_rseq
     SYS_rseq,
@@ -128,6 +125,21 @@ static void allow_reading(struct program *program)
 #endif
 }
 
+/* Allows threads to be started, but no processes: by the call whose flags can be read, so that libraries don't use the other. */
+static void allow_threads(struct program *program)
+{
+    enum { IS_THREAD = 0x10000 };
+    add(program, JUMP_EQUAL, SYS_clone, 0, 4);
+    add(program, LOAD, argument_at(0), 0, 0);
+    add(program, JUMP_SET, IS_THREAD, 0, 1);
+    add(program, RETURN, SECCOMP_RET_ALLOW, 0, 0);
+    add(program, RETURN, refuse, 0, 0);
+#ifdef SYS_clone3
+    add(program, JUMP_EQUAL, SYS_clone3, 0, 1);
+    add(program, RETURN, SECCOMP_RET_ERRNO | ENOSYS, 0, 0);
+#endif
+}
+
 /* Makes the program of a command. */
 static void make_program(struct program *program, enum files_needed needed)
 {
@@ -141,7 +153,9 @@ static void make_program(struct program *program, enum files_needed needed)
     allow_without(program, SYS_mprotect, 2, PROT_EXEC);
     allow_with(program, SYS_ioctl, 1, terminal_calls[0], terminal_calls[1]);
     allow_with(program, SYS_tgkill, 0, (uint32_t)getpid(), (uint32_t)getpid());
+    allow_with(program, SYS_prlimit64, 0, 0, (uint32_t)getpid());
     if (needed == FILES_READ) allow_reading(program);
+    if (needed == FILES_READ) allow_threads(program);
     add(program, RETURN, refuse, 0, 0);
 }
 

@@ -4,7 +4,7 @@
 
 /* What the program still does besides reading and writing open files. */
 enum files_needed {
-    FILES_NONE, /* it opens no file */
+    FILES_NONE, /* it opens no file, and starts no thread */
     FILES_READ  /* it opens files for reading, also by threads that it starts later */
 };
 

@@ -36,6 +36,13 @@ static int has_threads(void)
     return is_done;
 }
 
+static int has_processes(void)
+{
+    pid_t process = fork();
+    if (process == 0) _exit(0);
+    return process > 0;
+}
+
 static int maps(int protection)
 {
     return mmap(NULL, 4096, protection, MAP_PRIVATE | MAP_ANONYMOUS, -1, 0) != MAP_FAILED;
@@ -52,8 +59,9 @@ int main(int count, char **arguments)
     print("write", write(file, "", 1) == 1);
     print("seek", lseek(file, 0, SEEK_SET) == 0);
     print("memory", maps(PROT_READ | PROT_WRITE));
-    print("threads", has_threads());
     print("terminal", !isatty(file) && errno == ENOTTY);
+    print("threads", has_threads());
+    print("process", has_processes());
     print("open", open(arguments[2], O_RDONLY) >= 0);
     print("open-to-write", open(arguments[2], O_WRONLY) >= 0);
     print("truncate", open(arguments[2], O_RDONLY | O_TRUNC) >= 0);

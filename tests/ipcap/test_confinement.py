@@ -13,9 +13,9 @@ from captures import *
 COMMANDS = [["show", "--one-line"], ["filter", "any"], ["defrag"], ["rewrite", "--without", "0"], ["stat", "--json"], ["sum"]]
 HEAD = file_header() + record(ethernet(ipv6_chain([0, 44])))
 SECCOMP_CALLS = {"x86_64": (157, 317, 444, 445, 446), "aarch64": (167, 277, 444, 445, 446)}
-CALLS = ["read", "write", "seek", "memory", "threads", "terminal", "open", "open-to-write", "truncate", "create", "remove", "mode", "code", "socket", "kill",
+CALLS = ["read", "write", "seek", "memory", "terminal", "threads", "process", "open", "open-to-write", "truncate", "create", "remove", "mode", "code", "socket", "kill",
          "program"]
-ALLOWED = CALLS[:6]
+ALLOWED = CALLS[:5]
 
 
 def has_means():
@@ -75,7 +75,7 @@ def calls(harness):
     if not has_means():
         print("calls of the system: skipped, this kernel or processor has no means to refuse them")
         return
-    for name, allowed in [("none", ALLOWED), ("reading", ALLOWED + ["open"])]:
+    for name, allowed in [("none", ALLOWED), ("reading", ALLOWED + ["threads", "open"])]:
         path = harness.file(b"some bytes")
         command = harness.commands("confined")[0]
         found = subprocess.run(command + [name, path], stdout=subprocess.PIPE, stderr=subprocess.PIPE, env=harness.environment)

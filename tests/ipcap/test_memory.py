@@ -143,9 +143,10 @@ def sizes(harness):
     path = harness.file(capture([]))
     commands = [["stat"], ["filter", "any"], ["show"], ["defrag"], ["rewrite", "--clear"]]
     for command in commands:
-        for size in ("64M", "67108864", "65536K", "1G", "100000M"):
+        is_first = command == commands[0]
+        for size in ("64M", "67108864", "65536K", "1G", "100000M")[:5 if is_first else 1]:
             harness.equal(harness.run(*command, "--memory", size, path)[0], 0, command, size)
-        for size in ("", "x", "63M", "67108863", "0", "-1", "64MB", "64m", "1T", "64 M", "1.5G", "99999999999999999999", "18446744073709551615K", "17179869184G"):
+        for size in ("", "x", "63M", "67108863", "0", "-1", "64MB", "64m", "1T", "64 M", "1.5G", "99999999999999999999", "18446744073709551615K", "17179869184G")[:14 if is_first else 3]:
             found = harness.run(*command, "--memory", size, path)
             words = "ipcap: --memory must be a number of bytes of at least 64M, such as 512M or 2G; see `ipcap %s --help`\n" % command[0]
             harness.equal(found, (2, b"", words, None), command, size)

@@ -1,5 +1,5 @@
 //! Callers of lists.
-ghost use Rattle.std.specs.Prelude.{◌≡◌, ◌≢◌, ℕ, ◌<◌, ◌++◌, ◌∷◌, [], List, length, Some, Contains};
+ghost use Rattle.std.specs.Prelude.{◌≡◌, ◌≢◌, ℕ, ◌++◌, ◌∷◌, [], List, Some, Contains};
 ghost use Rattle.ip_lists.specs.Lists.{AreLinked, IsList};
 
 use ip_lists::{Links, each_head_has_one_list, lists_are_apart};
@@ -7,7 +7,6 @@ use ip_lists::{Links, each_head_has_one_list, lists_are_apart};
 /// Moves the first member of a list to the end of another one, and returns it. Returns `None` if the list is empty.
 pub fn move_first(links: &mut Links<'_>, from: u32, to: u32) -> Option<u32>
     requires linked { AreLinked links.old.next.now links.old.previous.now }
-    requires within { to < length links.old.next.now }
     requires apart { from ≢ to }
     ensures linked { AreLinked links.new.next.now links.new.previous.now }
     ensures moved { (p : ℕ) (xs ys : List ℕ) → IsList links.old.next.now from (p ∷ xs)

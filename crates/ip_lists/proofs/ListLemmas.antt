@@ -1,10 +1,11 @@
 -- What holds of all lists.
 use Rattle.std.proofs.Common.{◌≡◌, ◌≢◌, ℕ, ◌<◌, ◌≤◌, List, [], ◌∷◌, Bool, true, false, length, get_or, sym, ap, ◌∙◌, subst, suc, zero, arith, inl, inr, eqb, ◌||◌}
-use Rattle.std.specs.Prelude.{Contains, AllPairs}
+use Rattle.std.specs.Prelude.{All, Contains, AllPairs}
 use Rattle.std.specs.List.{list_any, IsDistinct}
 use Rattle.std.proofs.lemmas.Bool.{ne_eqb, false≢true}
 use Rattle.std.proofs.lemmas.Bool.Decides.{eqb_tells}
 use Rattle.std.proofs.lemmas.List.{get_or_default}
+use Rattle.std.proofs.lemmas.List.Elements.{All-cons, All-nil}
 use Rattle.std.proofs.lemmas.Map.Keys.{IsDistinct-from_apart}
 use Rattle.std.proofs.lemmas.Map.Steps.{length-le_from_distinct_below}
 use Rattle.ip_lists.specs.Lists.{IsPath, IsList}
@@ -38,6 +39,10 @@ any_within next from end q (x ∷ xs) path any =
       | inl same ↦ (let is : q ≡ from = same.1 in omega arith)
       | inr other ↦ any_within next x end q xs path.2 (sym (ap (λ (t : Bool). t || list_any (eqb q) (x ∷ xs)) other.0) ∙ any)
     ]
+
+pub all_within : (next : List ℕ) (from end : ℕ) (xs : List ℕ) → IsPath next from xs end → All (λ p. p < length next) (from ∷ xs)
+all_within next from end [] path = All-cons (λ p. p < length next) from [] (start_within next from end [] path) (All-nil (λ p. p < length next))
+all_within next from end (x ∷ xs) path = All-cons (λ p. p < length next) from (x ∷ xs) (start_within next from end (x ∷ xs) path) (all_within next x end xs path.2)
 
 pub few : (next : List ℕ) (from end : ℕ) (xs : List ℕ) → IsPath next from xs end → length xs < length next
 few next from end xs path =

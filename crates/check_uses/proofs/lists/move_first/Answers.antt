@@ -22,13 +22,13 @@ moved c xs ys list other no_to no_from =
     let there : Contains (place ∷ xs) place = (0, omega arith, refl) in
     let not_from : c.args.from ≢ place = λ e. c.each_head_has_one_list.ensures.without_head next c.args.from (place ∷ xs) list (let P : ℕ → Type 0 = λ q. Contains (place ∷ xs) q in subst P (sym e) there) in
     let not_to : c.args.to ≢ place = λ e. no_to (let P : ℕ → Type 0 = λ q. Contains (place ∷ xs) q in subst P (sym e) there) in
-    let apart : Contains ys place → ⊥ = c.lists_are_apart.ensures next c.args.from c.args.to (place ∷ xs) ys list other c.requires.apart no_to no_from place there in
+    let apart : Contains ys place → ⊥ = c.lists_are_apart.ensures.heads next c.args.from c.args.to (place ∷ xs) ys list other c.requires.apart no_to no_from place there in
     let within : place < length next = ((c.in_ok-place.ensures.link place).0 refl).2 in
     let removed = c.remove.ensures.done c.requires.linked within in
     let linked = c.remove.ensures.linked c.requires.linked in
     let from_rest = c.remove.ensures.taken c.requires.linked c.args.from [] xs not_from list in
     let to_stays = c.remove.ensures.others c.requires.linked c.args.to ys not_to apart other in
-    let head_within : c.args.to < length c.remove.new.self.next.now = (let same = c.remove.ensures.len in let inside = c.requires.within in omega arith) in
+    let head_within : c.args.to < length c.remove.new.self.next.now = (let same = c.remove.ensures.len in let inside : c.args.to < length next = c.each_head_has_one_list.ensures.within next c.args.to ys other 0 0 (omega arith) in omega arith) in
     let pushed = c.push_back.ensures.done linked head_within (λ e. not_to (sym e)) (c.remove.ensures.alone removed) in (
       c.push_back.ensures.others linked pushed c.args.from xs c.requires.apart not_from (λ in_rest. no_to (in_longer place c.args.to xs in_rest)) from_rest,
       c.push_back.ensures.appended linked pushed ys to_stays,

@@ -4,6 +4,7 @@ import csv
 import json
 import random
 import re
+import shutil
 import socket
 import subprocess
 
@@ -302,6 +303,19 @@ def wrong_conditions(harness):
     harness.equal(found, (1, b"", "ipcap: /nonexistent/x: No such file or directory\n", None), "no such file")
 
 
+def tcpdump(path, *arguments):
+    """Returns what tcpdump prints of a capture, or None if it is missing."""
+    if not shutil.which("tcpdump"):
+        print("what tcpdump prints: skipped, tcpdump missing")
+        return None
+    return subprocess.run(["tcpdump", "-n", "-t", *arguments, "-r", path], stdout=subprocess.PIPE, stderr=subprocess.DEVNULL).stdout.decode()
+
+
+def has_our_names():
+    """Whether tcpdump is the version that has the names that ipcap has. Later ones may have more."""
+    return "4.99.3" in subprocess.run(["tcpdump", "--version"], stdout=subprocess.PIPE, stderr=subprocess.STDOUT).stdout.decode()
+
+
 def details(harness):
     """Ports, flags of TCP, types of ICMP messages, fragments and EtherTypes are those that tcpdump prints."""
     frames = [ethernet(outer(number, TCP if number == 6 else UDP + bytes(20))) for outer in (ipv4, ipv6) for number in (6, 17, 33, 132)]
@@ -312,10 +326,10 @@ def details(harness):
     frames += [ethernet(ipv4(6, TCP[:13] + bytes([flags]) + TCP[14:])) for flags in range(256)]
     path = harness.file(capture(frames))
     ours = harness.run("show", "--one-line", path)[1].decode().splitlines()
-    theirs = subprocess.run(["tcpdump", "-n", "-t", "-v", "-r", path], stdout=subprocess.PIPE, stderr=subprocess.DEVNULL).stdout.decode()
-    theirs = re.split(r"\n(?=IP)", re.sub(r"\n\s+(?!0x)", " ", theirs))
+    theirs = tcpdump(path, "-v")
+    theirs = ours if theirs is None else re.split(r"\n(?=IP)", re.sub(r"\n\s+(?!0x)", " ", theirs))
     harness.equal(len(ours), len(theirs), "packets")
-    for line, wanted in zip(ours, theirs):
+    for line, wanted in zip(ours, theirs if theirs is not ours else []):
         ends = re.search(r"([0-9a-f.:]+) > ([0-9a-f.:]+): ", wanted)
         source, destination = ends[1], ends[2]
         inner = re.search(r" (?:DSTOPT|RT6|frag|HBH).*? (\d+) > (\d+): ", wanted)
@@ -351,10 +365,11 @@ def icmp_types(harness):
     frames += [ethernet(ipv6(58, bytes([kind, 0, 0, 0]) + bytes(60))) for kind in range(256)]
     path = harness.file(capture(frames))
     ours = harness.run("show", "--one-line", path)[1].decode().splitlines()
-    theirs = subprocess.run(["tcpdump", "-n", "-t", "-r", path], stdout=subprocess.PIPE, stderr=subprocess.DEVNULL).stdout.decode()
-    theirs = [line for line in theirs.splitlines() if line.startswith("IP")]
-    harness.equal((len(ours), len(theirs)), (512, 512), "messages")
-    for kind, (line, wanted) in enumerate(zip(ours, theirs)):
+    theirs = tcpdump(path)
+    theirs = None if theirs is None else [line for line in theirs.splitlines() if line.startswith("IP")]
+    harness.equal((len(ours), theirs is None or len(theirs)), (512, theirs is None or 512), "messages")
+    has_names = theirs is not None and has_our_names()
+    for kind, (line, wanted) in enumerate(zip(ours, theirs or [])):
         name = line[line.index("ICMP"):]
         theirs_name = wanted[wanted.index("ICMP"):]
         begins = theirs_name.startswith(name)
@@ -362,7 +377,8 @@ def icmp_types(harness):
             begins = name == "ICMP unreachable" and " unreachable, " in theirs_name
         if kind in (256 + 139, 256 + 140):
             begins = name[len("ICMP6, "):] in theirs_name
-        harness.check(begins or kind - 256 in EXPERIMENTS, "type", kind, name, wanted)
+        is_named = not re.search(r"type-#|unknown icmp6 type", name)
+        harness.check(begins or kind - 256 in EXPERIMENTS or not (is_named or has_names), "type", kind, name, wanted)
     line = harness.run("show", "--one-line", content=capture([ethernet(ipv4(1, bytes([3, 4, 0, 0]) + quoted))]))[1]
     harness.check(line.endswith(b"-> 1, ICMP unreachable, code 4\n"), line)
     for part, wanted in [(b"", b"-> 58\n"), (b"\x80", b"-> 58, ICMP6, echo request\n"), (b"\xc8\3", b", ICMP6, unknown icmp6 type (200), code 3\n")]:
@@ -375,10 +391,13 @@ def names_of_ethertypes(harness):
     types = [it for it in range(0x600, 0x10000) if it not in (0x0800, 0x86DD, 0x8100, 0x88A8, 0x9100, 0x9200, 0x8847, 0x8848, 0x8864, 0x8870)]
     path = harness.file(capture([ethernet(bytes(46), (), it) for it in types]))
     ours = harness.run("show", "--one-line", path)[1].decode().splitlines()
-    theirs = subprocess.run(["tcpdump", "-n", "-t", "-e", "-q", "-r", path], stdout=subprocess.PIPE, stderr=subprocess.DEVNULL).stdout.decode()
-    theirs = [line for line in theirs.splitlines() if " > " in line and "length 60" in line]
-    harness.equal((len(ours), len(theirs)), (len(types), len(types)), "frames")
-    for number, line, wanted in zip(types, ours, theirs):
+    theirs = tcpdump(path, "-e", "-q")
+    theirs = None if theirs is None else [line for line in theirs.splitlines() if " > " in line and "length 60" in line]
+    harness.equal((len(ours), theirs is None or len(theirs)), (len(types), theirs is None or len(types)), "frames")
+    has_names = theirs is not None and has_our_names()
+    for number, line, wanted in zip(types, ours, theirs or []):
+        if "ethertype Unknown" in line and not has_names:
+            continue
         name = re.search(r"02:00:00:00:00:01, (.*?), length 60", wanted)[1]
         name = "Unknown" if name.startswith("Unknown Ethertype") else name
         harness.check(line.endswith(", 60 bytes, not IP, ethertype %s (0x%04x)" % (name, number)), number, line, wanted)

@@ -6,3 +6,4 @@ pub mod ListLemmas
 pub mod Walks
 pub mod Removed
 pub mod Appended
+pub mod Moved

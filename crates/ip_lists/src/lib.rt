@@ -5,9 +5,12 @@ mod arrays;
 mod links;
 mod list_laws;
 mod members;
+mod moves;
+mod table;
 #[cfg(test)]
 mod tests;
 
 pub use links::Links;
 pub use list_laws::{each_head_has_one_list, lists_are_apart};
 pub use members::Members;
+pub use table::{Table, Taken};

@@ -7,3 +7,7 @@ pub mod Walks
 pub mod Removed
 pub mod Appended
 pub mod Moved
+pub mod Filters
+pub mod Ages
+pub mod Chains
+pub mod Tables

@@ -21,3 +21,25 @@ pub struct Table<'m> {
     /// The places in use of each bucket (the head is `places + bucket`), the oldest first.
     pub chains: Links<'m>,
 }
+
+impl<'m> Table<'m> {
+    ghost use Rattle.std.specs.Prelude.{◌≡◌, ℕ, ◌+◌, ◌<◌, ◌++◌, ◌∷◌, [], List, length, slice_get, Some, None, IfSome, is_none, Contains, IsTrue, true, false};
+    ghost use Rattle.ip_lists.specs.Lists.{AreLinked, IsList};
+    ghost use Rattle.ip_lists.specs.Table.{IsTable, HasBucket, AreSame, in_bucket, with_bucket};
+
+    /// Frees a place that is in use: it is the last free one, and in no chain. Returns false, and changes nothing, if the
+    /// place isn't in use.
+    pub fn release(&mut self, place: u32) -> bool
+        ensures released { (free xs ys : List ℕ) (bucket_of : ℕ → ℕ) → IsTable self.old free (xs ++ place ∷ ys) bucket_of
+            → (result ≡ true) × IsTable self.new (free ++ place ∷ []) (xs ++ ys) bucket_of }
+        ensures unused { (free used : List ℕ) (bucket_of : ℕ → ℕ) → IsTable self.old free used bucket_of → ¬ Contains used place
+            → result ≡ false }
+        ensures refused { result ≡ false → AreSame self.old self.new }
+    {
+        if place >= self.places || self.chains.is_alone(place) || !self.chains.remove(place) {
+            return false;
+        }
+        move_to(&mut self.ages, self.places, place);
+        true
+    }
+}

@@ -1,0 +1,138 @@
+-- A table, when a place was taken or released.
+use Rattle.std.proofs.Common.{◌≡◌, ◌≢◌, ℕ, ◌+◌, ◌<◌, List, [], ◌∷◌, ◌++◌, length, refl, sym, ap, ◌∙◌, subst, arith, inl, inr, eqb, eq-eqb}
+use Rattle.std.specs.Prelude.{Contains, slice_get, Some}
+use Rattle.std.proofs.lemmas.List.Elements.{Contains-append_right}
+use Rattle.ip_lists.specs.Lists.{AreLinked, IsAlone, IsPath, IsList}
+use Rattle.ip_lists.specs.Moves.{without, IsTakenOut, IsMovedTo}
+use Rattle.ip_lists.specs.Table.{IsTable, in_bucket, with_bucket}
+use Rattle.ip_lists.specs.declared.table.Table.{Table}
+use Rattle.ip_lists.proofs.Lacking.{Lacks, lacks_cons, lacks_none}
+use Rattle.ip_lists.proofs.Paths.{path_from, lacks_start, lacks_alone}
+use Rattle.ip_lists.proofs.ListLemmas.{lists_apart}
+use Rattle.ip_lists.proofs.Moved.{without_same, without_lacking, without_between}
+use Rattle.ip_lists.proofs.Filters.{has_head, filter_keeps}
+use Rattle.ip_lists.proofs.Ages.{AreSplit, swapped, lacks_high, moved_first, moved_second}
+use Rattle.ip_lists.proofs.Chains.{AreChained, chained_moved, chained_without}
+
+-- A table, by its arrays.
+pub record AreTable (n : ℕ) (ages chains free used : List ℕ) (bucket_of : ℕ → ℕ) : Type 0 where
+  pub split : AreSplit ages n n (n + 1) free used
+  pub chained : AreChained chains n used bucket_of
+
+pub from_table : (table : Table) (free used : List ℕ) (bucket_of : ℕ → ℕ) → IsTable table free used bucket_of
+    → AreTable table.places table.ages.next.now table.chains.next.now free used bucket_of
+from_table table free used bucket_of is = record {
+  split = record {
+    high = omega arith;
+    other_high = omega arith;
+    apart = λ e. absurd (omega arith);
+    list = is.free_list;
+    other_list = is.used_list;
+    each = is.each;
+  };
+  chained = record {
+    below = λ p c. (is.each p).0 (inr c);
+    bucket = is.bucket;
+    chain = is.chain;
+    no_chain = λ p less none. elim ((is.each p).1 less) [ inl free ↦ is.no_chain p free | inr used ↦ absurd (none used) ];
+  };
+}
+
+-- A free place isn't in use.
+pub free_lacks : (n h k : ℕ) (ages free used : List ℕ) → AreSplit ages n h k free used → (p : ℕ) → Contains free p → Lacks used p
+free_lacks n h k ages free used split =
+    let no_k : Lacks free k = lacks_high ages n h k free used split k split.other_high in
+    let no_h : Lacks used h = lacks_high ages n k h used free (swapped _ _ _ _ _ _ split) h split.high in
+    lists_apart ages h k free used split.list split.other_list split.apart no_k no_h
+
+pub to_table : (table : Table) (free used : List ℕ) (bucket_of : ℕ → ℕ)
+    → AreLinked table.ages.next.now table.ages.previous.now → AreLinked table.chains.next.now table.chains.previous.now
+    → AreTable table.places table.ages.next.now table.chains.next.now free used bucket_of
+    → IsTable table free used bucket_of
+to_table table free used bucket_of ages_linked chains_linked is = record {
+  ages_linked = ages_linked;
+  chains_linked = chains_linked;
+  each = is.split.each;
+  free_list = is.split.list;
+  used_list = is.split.other_list;
+  bucket = is.chained.bucket;
+  chain = is.chained.chain;
+  no_chain = λ p c. is.chained.no_chain p ((is.split.each p).0 (inl c)) (free_lacks _ _ _ _ _ _ is.split p c);
+}
+
+-- The places around one of a path.
+without_first : (next : List ℕ) (from end p : ℕ) (xs : List ℕ) → IsPath next from (p ∷ xs) end → without p (p ∷ xs) ≡ xs
+without_first next from end p xs path = without_same p xs ∙ without_lacking p xs (lacks_start next p end xs path.2)
+
+lacks_before : (next : List ℕ) (from end p : ℕ) (xs ys : List ℕ) → IsPath next from (xs ++ p ∷ ys) end → Lacks xs p
+lacks_before next from end p [] ys path = lacks_none p
+lacks_before next from end p (x ∷ xs) ys path =
+    let none : Lacks (xs ++ p ∷ ys) x = lacks_start next x end (xs ++ p ∷ ys) path.2 in
+    let there : Contains (xs ++ p ∷ ys) p = Contains-append_right xs (p ∷ ys) p (has_head p ys) in
+    let apart : x ≢ p = λ e. none (let P : ℕ → Type 0 = λ z. Contains (xs ++ p ∷ ys) z in subst P (sym e) there) in
+    lacks_cons x p xs apart (lacks_before next x end p xs ys path.2)
+
+without_inner : (next : List ℕ) (from end p : ℕ) (xs ys : List ℕ) → IsPath next from (xs ++ p ∷ ys) end → without p (xs ++ p ∷ ys) ≡ xs ++ ys
+without_inner next from end p xs ys path =
+    without_between p xs ys (lacks_before next from end p xs ys path) (lacks_start next p end ys (path_from next from end p xs ys path))
+
+taken : (n p b : ℕ) (ages chains new_ages new_chains free used : List ℕ) (bucket_of : ℕ → ℕ) → AreTable n ages chains free used bucket_of
+    → p < n → n + b < length chains → length new_chains ≡ length chains → IsMovedTo ages new_ages (n + 1) p → IsMovedTo chains new_chains (n + b) p
+    → AreTable n new_ages new_chains (without p free) (without p used ++ p ∷ []) (with_bucket bucket_of p b)
+taken n p b ages chains new_ages new_chains free used bucket_of is within exists as_long aged chained = record {
+  split = moved_second ages new_ages n n (n + 1) p free used is.split within aged;
+  chained = chained_moved chains new_chains n p b used bucket_of is.chained within exists as_long chained;
+}
+
+-- A free place is in use from then on.
+pub taken_free : (n p b : ℕ) (ages chains new_ages new_chains free used : List ℕ) (bucket_of : ℕ → ℕ) → AreTable n ages chains (p ∷ free) used bucket_of
+    → n + b < length chains → length new_chains ≡ length chains → IsMovedTo ages new_ages (n + 1) p → IsMovedTo chains new_chains (n + b) p
+    → AreTable n new_ages new_chains free (used ++ p ∷ []) (with_bucket bucket_of p b)
+taken_free n p b ages chains new_ages new_chains free used bucket_of is exists as_long aged chained =
+    let there : Contains (p ∷ free) p = has_head p free in
+    let rest : without p (p ∷ free) ≡ free = without_first ages n n p free is.split.list in
+    let same : without p used ≡ used = without_lacking p used (free_lacks _ _ _ _ _ _ is.split p there) in
+    let P : List ℕ → Type 0 = λ xs. AreTable n new_ages new_chains xs (used ++ p ∷ []) (with_bucket bucket_of p b) in
+    let Q : List ℕ → Type 0 = λ xs. AreTable n new_ages new_chains (without p (p ∷ free)) (xs ++ p ∷ []) (with_bucket bucket_of p b) in
+    subst P rest (subst Q same (taken n p b ages chains new_ages new_chains (p ∷ free) used bucket_of is ((is.split.each p).0 (inl there)) exists as_long aged chained))
+
+-- The place that has been in use longest is in use anew.
+pub taken_used : (n p b : ℕ) (ages chains new_ages new_chains used : List ℕ) (bucket_of : ℕ → ℕ) → AreTable n ages chains [] (p ∷ used) bucket_of
+    → n + b < length chains → length new_chains ≡ length chains → IsMovedTo ages new_ages (n + 1) p → IsMovedTo chains new_chains (n + b) p
+    → AreTable n new_ages new_chains [] (used ++ p ∷ []) (with_bucket bucket_of p b)
+taken_used n p b ages chains new_ages new_chains used bucket_of is exists as_long aged chained =
+    let there : Contains (p ∷ used) p = has_head p used in
+    let rest : without p (p ∷ used) ≡ used = without_first ages (n + 1) (n + 1) p used is.split.other_list in
+    let P : List ℕ → Type 0 = λ xs. AreTable n new_ages new_chains [] (xs ++ p ∷ []) (with_bucket bucket_of p b) in
+    subst P rest (taken n p b ages chains new_ages new_chains [] (p ∷ used) bucket_of is ((is.split.each p).0 (inr there)) exists as_long aged chained)
+
+-- A place in use is free from then on.
+pub released : (n p : ℕ) (ages chains new_ages new_chains free xs ys : List ℕ) (bucket_of : ℕ → ℕ) → AreTable n ages chains free (xs ++ p ∷ ys) bucket_of
+    → length new_chains ≡ length chains → IsMovedTo ages new_ages n p → IsTakenOut chains new_chains p → IsList new_chains p []
+    → AreTable n new_ages new_chains (free ++ p ∷ []) (xs ++ ys) bucket_of
+released n p ages chains new_ages new_chains free xs ys bucket_of is as_long aged out alone =
+    let used : List ℕ = xs ++ p ∷ ys in
+    let there : Contains used p = Contains-append_right xs (p ∷ ys) p (has_head p ys) in
+    let within : p < n = is.chained.below p there in
+    let rest : without p used ≡ xs ++ ys = without_inner ages (n + 1) (n + 1) p xs ys is.split.other_list in
+    let same : without p free ≡ free = without_lacking p free (λ c. free_lacks _ _ _ _ _ _ is.split p c there) in
+    let all : AreTable n new_ages new_chains (without p free ++ p ∷ []) (without p used) bucket_of = record {
+      split = moved_first ages new_ages n n (n + 1) p free used is.split within aged;
+      chained = chained_without chains new_chains n p used bucket_of is.chained within as_long out alone;
+    } in
+    let P : List ℕ → Type 0 = λ zs. AreTable n new_ages new_chains (free ++ p ∷ []) zs bucket_of in
+    let Q : List ℕ → Type 0 = λ zs. AreTable n new_ages new_chains (zs ++ p ∷ []) (without p used) bucket_of in
+    subst P rest (subst Q same all)
+
+-- A place in use is in a chain.
+pub used_alone : (n p : ℕ) (ages chains free used : List ℕ) (bucket_of : ℕ → ℕ) → AreTable n ages chains free used bucket_of → Contains used p → slice_get chains p ≡ Some p → ⊥
+used_alone n p ages chains free used bucket_of is there alone =
+    let within : p < n = is.chained.below p there in
+    let exists : n + bucket_of p < length chains = is.chained.bucket p there in
+    let here : Contains (in_bucket bucket_of (bucket_of p) used) p = filter_keeps (λ q. eqb (bucket_of q) (bucket_of p)) used p (eq-eqb (bucket_of p) (bucket_of p) refl) there in
+    lacks_alone chains (n + bucket_of p) p (n + bucket_of p) (in_bucket bucket_of (bucket_of p) used) alone (λ e. absurd (omega arith)) (is.chained.chain (bucket_of p) exists) here
+
+pub unused_alone : (n p : ℕ) (ages chains previous free used : List ℕ) (bucket_of : ℕ → ℕ) → AreTable n ages chains free used bucket_of → AreLinked chains previous → p < n → Lacks used p → IsAlone chains previous p
+unused_alone n p ages chains previous free used bucket_of is linked within none =
+    let alone : slice_get chains p ≡ Some p = is.chained.no_chain p within none in
+    (alone, linked.back p p alone)

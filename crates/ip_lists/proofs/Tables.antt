@@ -136,3 +136,9 @@ pub unused_alone : (n p : ℕ) (ages chains previous free used : List ℕ) (buck
 unused_alone n p ages chains previous free used bucket_of is linked within none =
     let alone : slice_get chains p ≡ Some p = is.chained.no_chain p within none in
     (alone, linked.back p p alone)
+
+pub moved_as : (old new : List ℕ) (h k p q : ℕ) → h ≡ k → p ≡ q → IsMovedTo old new h p → IsMovedTo old new k q
+moved_as old new h k p q heads places moved =
+    let P : ℕ → Type 0 = λ x. IsMovedTo old new x q in
+    let Q : ℕ → Type 0 = λ x. IsMovedTo old new h x in
+    subst P heads (subst Q places moved)

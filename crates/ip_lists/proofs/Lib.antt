@@ -11,3 +11,4 @@ pub mod Filters
 pub mod Ages
 pub mod Chains
 pub mod Tables
+pub mod Ranges

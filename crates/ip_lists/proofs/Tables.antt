@@ -1,6 +1,8 @@
 -- A table, when a place was taken or released.
-use Rattle.std.proofs.Common.{◌≡◌, ◌≢◌, ℕ, ◌+◌, ◌<◌, List, [], ◌∷◌, ◌++◌, length, refl, sym, ap, ◌∙◌, subst, arith, inl, inr, eqb, eq-eqb}
+use Rattle.std.proofs.Common.{◌≡◌, ◌≢◌, ℕ, ◌+◌, ◌<◌, ◌≤◌, List, [], ◌∷◌, ◌++◌, Bool, length, refl, sym, ap, ◌∙◌, subst, arith, inl, inr, eqb, eq-eqb, cond}
 use Rattle.std.specs.Prelude.{Contains, slice_get, Some}
+use Rattle.std.specs.List.{range_with_len}
+use Rattle.std.proofs.lemmas.Bool.{ne_eqb}
 use Rattle.std.proofs.lemmas.List.Elements.{Contains-append_right}
 use Rattle.ip_lists.specs.Lists.{AreLinked, IsAlone, IsPath, IsList}
 use Rattle.ip_lists.specs.Moves.{without, IsTakenOut, IsMovedTo}
@@ -8,9 +10,10 @@ use Rattle.ip_lists.specs.Table.{IsTable, in_bucket, with_bucket}
 use Rattle.ip_lists.specs.declared.table.Table.{Table}
 use Rattle.ip_lists.proofs.Lacking.{Lacks, lacks_cons, lacks_none}
 use Rattle.ip_lists.proofs.Paths.{path_from, lacks_start, lacks_alone}
-use Rattle.ip_lists.proofs.ListLemmas.{lists_apart}
+use Rattle.ip_lists.proofs.ListLemmas.{distinct, lists_apart}
 use Rattle.ip_lists.proofs.Moved.{without_same, without_lacking, without_between}
-use Rattle.ip_lists.proofs.Filters.{has_head, filter_keeps}
+use Rattle.ip_lists.proofs.Filters.{has_head, has_tail, filter_keeps, filter_has}
+use Rattle.ip_lists.proofs.Ranges.{few_below, in_range, range_has}
 use Rattle.ip_lists.proofs.Ages.{AreSplit, swapped, lacks_high, moved_first, moved_second}
 use Rattle.ip_lists.proofs.Chains.{AreChained, chained_moved, chained_without}
 
@@ -142,3 +145,33 @@ moved_as old new h k p q heads places moved =
     let P : ℕ → Type 0 = λ x. IsMovedTo old new x q in
     let Q : ℕ → Type 0 = λ x. IsMovedTo old new h x in
     subst P heads (subst Q places moved)
+
+-- The chain of a bucket has at most as many places as there are.
+pub chain_fits : (n b : ℕ) (ages chains free used : List ℕ) (bucket_of : ℕ → ℕ) → AreTable n ages chains free used bucket_of → n + b < length chains → length (in_bucket bucket_of b used) ≤ n
+chain_fits n b ages chains free used bucket_of is exists =
+    few_below n (in_bucket bucket_of b used) (distinct chains (n + b) (n + b) (in_bucket bucket_of b used) (is.chained.chain b exists))
+    (λ q c. is.chained.below q (filter_has (λ p. eqb (bucket_of p) b) used q c).0)
+
+pub no_bucket : (bucket_of : ℕ → ℕ) (b : ℕ) (used : List ℕ) → ((p : ℕ) → Contains used p → bucket_of p ≢ b) → in_bucket bucket_of b used ≡ []
+no_bucket bucket_of b [] none = refl
+no_bucket bucket_of b (x ∷ xs) none =
+    ap (λ (t : Bool). cond t (x ∷ in_bucket bucket_of b xs) (in_bucket bucket_of b xs)) (ne_eqb (bucket_of x) b (none x (has_head x xs)))
+    ∙ no_bucket bucket_of b xs (λ p c. none p (has_tail x p xs c))
+
+-- All places are free.
+pub cleared : (table : Table) (bucket_of : ℕ → ℕ) → AreLinked table.ages.next.now table.ages.previous.now → AreLinked table.chains.next.now table.chains.previous.now
+    → table.places + 1 < length table.ages.next.now → table.places ≤ length table.chains.next.now
+    → IsList table.ages.next.now table.places (range_with_len 0 table.places)
+    → ((h : ℕ) → table.places < h → h < length table.ages.next.now → IsList table.ages.next.now h [])
+    → ((h : ℕ) → h < length table.chains.next.now → IsList table.chains.next.now h [])
+    → IsTable table (range_with_len 0 table.places) [] bucket_of
+cleared table bucket_of ages_linked chains_linked room chains_room free others empty = record {
+  ages_linked = ages_linked;
+  chains_linked = chains_linked;
+  each = λ p. (λ c. elim c [ inl here ↦ range_has table.places p here | inr none ↦ absurd (lacks_none p none) ], λ less. inl (in_range table.places p less));
+  free_list = free;
+  used_list = others (table.places + 1) (omega arith) room;
+  bucket = λ p c. absurd (lacks_none p c);
+  chain = λ b exists. empty (table.places + b) exists;
+  no_chain = λ p c. (let less : p < table.places = range_has table.places p c in empty p (omega arith));
+}

@@ -1,5 +1,5 @@
 -- A table of places, each of which is free, or in use and then in the chain of a bucket.
-use Rattle.std.specs.Prelude.{◌≡◌, ◌==◌, ℕ, ◌+◌, ◌<◌, ◌↔◌, ◌⊎◌, List, [], length, Contains, if◌then◌else◌}
+use Rattle.std.specs.Prelude.{◌≡◌, ◌==◌, ℕ, ◌+◌, ◌<◌, ◌≤◌, ◌^◌, ◌↔◌, ◌⊎◌, List, [], length, Contains, if◌then◌else◌}
 use Rattle.std.specs.List.{filter}
 use Rattle.ip_lists.specs.Lists.{AreLinked, IsList}
 use Rattle.ip_lists.specs.declared.table.Table.{Table}
@@ -7,6 +7,15 @@ use Rattle.ip_lists.specs.declared.table.Table.{Table}
 -- those of the places that are in the bucket
 abbrev pub in_bucket : (ℕ → ℕ) → ℕ → List ℕ → List ℕ
 in_bucket bucket_of b places = filter (λ p. bucket_of p == b) places
+
+-- The arrays have room for the places and the heads.
+pub record HasRoom (table : Table) : Type 0 where
+  pub ages : table.places + 1 < length table.ages.next.now
+  pub ages_as_many : length table.ages.previous.now ≡ length table.ages.next.now
+  pub ages_few : length table.ages.next.now ≤ 2 ^ 32
+  pub chains : table.places ≤ length table.chains.next.now
+  pub chains_as_many : length table.chains.previous.now ≡ length table.chains.next.now
+  pub chains_few : length table.chains.next.now ≤ 2 ^ 32
 
 -- The table has a chain for the bucket.
 abbrev pub HasBucket : Table → ℕ → Type 0

@@ -1,8 +1,9 @@
 //! A place that is moved from one list to another.
 use crate::Links;
 
-ghost use Rattle.std.specs.Prelude.{◌≡◌, ◌≢◌, ◌<◌, length, IsTrue, true};
-ghost use Rattle.ip_lists.specs.Lists.{AreLinked};
+ghost use Rattle.std.specs.Prelude.{◌≡◌, ◌≢◌, ℕ, ◌<◌, ◌≤◌, [], length};
+ghost use Rattle.ip_lists.specs.Lists.{AreLinked, IsList};
+ghost use Rattle.std.specs.List.{range_with_len};
 ghost use Rattle.ip_lists.specs.Moves.{IsMovedTo};
 
 /// Takes a place out of its list, and appends it to the list of a head.
@@ -13,6 +14,21 @@ pub(crate) fn move_to(links: &mut Links<'_>, head: u32, place: u32)
         → place ≢ head → IsMovedTo links.old.next.now links.new.next.now head place }
 {
     if links.remove(place) {
+        links.push_back(head, place);
+    }
+}
+
+/// Appends the places below a head to its list, in their order.
+pub(crate) fn push_below(links: &mut Links<'_>, head: u32)
+    requires linked { AreLinked links.old.next.now links.old.previous.now }
+    requires empty { (h : ℕ) → h < length links.old.next.now → IsList links.old.next.now h [] }
+    requires within { head < length links.old.next.now }
+    ensures len { length links.new.next.now ≡ length links.old.next.now }
+    ensures linked { AreLinked links.new.next.now links.new.previous.now }
+    ensures listed { IsList links.new.next.now head (range_with_len 0 head) }
+    ensures others { (h : ℕ) → head < h → h < length links.new.next.now → IsList links.new.next.now h [] }
+{
+    for place in 0..head {
         links.push_back(head, place);
     }
 }

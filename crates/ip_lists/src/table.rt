@@ -1,10 +1,12 @@
 //! A table of places that are found by their bucket and given up by their age.
-use crate::moves::move_to;
+use crate::moves::{move_to, push_below};
 use crate::{Links, Members};
 
-ghost use Rattle.std.specs.Prelude.{◌≡◌, ℕ, ◌+◌, ◌<◌, ◌++◌, ◌∷◌, [], ◌↔◌, ◌≢◌, List, length, Some, None, IfSome, is_none, Contains, true, false};
+ghost use Rattle.std.specs.Prelude.{◌≡◌, ℕ, ◌+◌, ◌<◌, ◌≤◌, ◌++◌, ◌∷◌, [], ◌↔◌, List, length, Some, None, IfSome, is_none, All, Contains, true, false};
+ghost use Rattle.std.specs.List.{range_with_len};
 ghost use Rattle.ip_lists.specs.Lists.{AreLinked, IsList};
-ghost use Rattle.ip_lists.specs.Table.{IsTable, HasBucket, AreSame, in_bucket, with_bucket};
+ghost use Rattle.ip_lists.specs.Members.{members_left};
+ghost use Rattle.ip_lists.specs.Table.{IsTable, HasRoom, HasBucket, AreSame, in_bucket, with_bucket};
 
 /// A place that was taken.
 #[derive(Clone, Copy, Debug, PartialEq)]
@@ -40,6 +42,40 @@ fn head_at(next: &[u32], first: u32, number: u32) -> Option<u32>
 }
 
 impl<'m> Table<'m> {
+    /// Frees all places, in their order, and empties the chains.
+    pub fn clear(&mut self)
+        requires { HasRoom self.old }
+        ensures cleared { (bucket_of : ℕ → ℕ) → IsTable self.new (range_with_len 0 self.old.places) [] bucket_of }
+        ensures places { self.new.places ≡ self.old.places }
+        ensures buckets { (b : ℕ) → HasBucket self.new b ↔ HasBucket self.old b }
+    {
+        self.ages.clear();
+        self.chains.clear();
+        let places = self.places;
+        push_below(&mut self.ages, places);
+    }
+
+    /// Returns the places in use of a bucket, the oldest first. Of arrays that don't agree, these are at most as many as the
+    /// table has places.
+    pub fn chain(&self, bucket: u32) -> Members<'_>
+        ensures chain { (free used : List ℕ) (bucket_of : ℕ → ℕ) → IsTable self.now free used bucket_of
+            → members_left result ≡ in_bucket bucket_of bucket used }
+        ensures no_bucket { ¬ HasBucket self.now bucket → members_left result ≡ [] }
+        ensures few { length (members_left result) ≤ self.now.places }
+        ensures within { All (λ p. p < length self.now.chains.next.now) (members_left result) }
+    {
+        let (head, left) = match self.chain_head(bucket) {
+            Some(head) => (head, self.places as usize),
+            None => (bucket, 0),
+        };
+        Members {
+            next: self.chains.next,
+            head,
+            place: head,
+            left,
+        }
+    }
+
     /// Returns the head of the chain of a bucket, if the table has the bucket.
     fn chain_head(&self, bucket: u32) -> Option<u32>
         ensures found { IfSome result (λ h. (h ≡ self.now.places + bucket) × (h < length self.now.chains.next.now)) }

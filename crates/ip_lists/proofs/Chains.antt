@@ -1,7 +1,6 @@
 -- The chains of the buckets, when a place in use changed.
-use Rattle.std.proofs.Common.{◌≡◌, ◌≢◌, ℕ, ◌+◌, ◌<◌, ◌≤◌, List, [], ◌∷◌, ◌++◌, Bool, true, false, length, refl, sym, ap, ◌∙◌, subst, arith, inl, inr, eqb, eq-eqb, cond, ◌⊎◌}
-use Rattle.std.specs.Prelude.{Contains, not}
-use Rattle.std.specs.List.{filter}
+use Rattle.std.proofs.Common.{◌≡◌, ◌≢◌, ℕ, ◌+◌, ◌<◌, List, [], ◌∷◌, ◌++◌, Bool, true, false, length, refl, sym, ap, ◌∙◌, subst, arith, inl, inr, eqb, eq-eqb, cond}
+use Rattle.std.specs.Prelude.{Contains}
 use Rattle.std.proofs.lemmas.Bool.{ne_eqb, cases_eq}
 use Rattle.std.proofs.lemmas.Bool.Decides.{eqb_tells}
 use Rattle.std.proofs.lemmas.List.{append-nil}
@@ -42,16 +41,16 @@ bucket_without old new b p same (x ∷ xs) = elim (cases_eq x p) [
   | inl own ↦
       let dropped : without p (x ∷ xs) ≡ without p xs = ap (λ (y : ℕ). without p (y ∷ xs)) own ∙ without_same p xs in
       let right : without p (in_bucket old b (x ∷ xs)) ≡ without p (in_bucket old b xs) =
-          ap (λ (y : ℕ). without p (cond (eqb (old x) b) (y ∷ in_bucket old b xs) (in_bucket old b xs))) own
-          ∙ without_cond_same (eqb (old x) b) p (in_bucket old b xs) in
+      ap (λ (y : ℕ). without p (cond (eqb (old x) b) (y ∷ in_bucket old b xs) (in_bucket old b xs))) own
+      ∙ without_cond_same (eqb (old x) b) p (in_bucket old b xs) in
       ap (in_bucket new b) dropped ∙ (bucket_without old new b p same xs ∙ sym right)
   | inr other ↦
       let kept : without p (x ∷ xs) ≡ x ∷ without p xs = without_other p x xs other in
       let rest : in_bucket new b (without p xs) ≡ without p (in_bucket old b xs) = bucket_without old new b p same xs in
       let test : cond (eqb (new x) b) (x ∷ in_bucket new b (without p xs)) (in_bucket new b (without p xs)) ≡ cond (eqb (old x) b) (x ∷ in_bucket new b (without p xs)) (in_bucket new b (without p xs)) =
-          ap (λ (c : ℕ). cond (eqb c b) (x ∷ in_bucket new b (without p xs)) (in_bucket new b (without p xs))) (same x other) in
+      ap (λ (c : ℕ). cond (eqb c b) (x ∷ in_bucket new b (without p xs)) (in_bucket new b (without p xs))) (same x other) in
       let along : cond (eqb (old x) b) (x ∷ in_bucket new b (without p xs)) (in_bucket new b (without p xs)) ≡ cond (eqb (old x) b) (x ∷ without p (in_bucket old b xs)) (without p (in_bucket old b xs)) =
-          ap (λ (ys : List ℕ). cond (eqb (old x) b) (x ∷ ys) ys) rest in
+      ap (λ (ys : List ℕ). cond (eqb (old x) b) (x ∷ ys) ys) rest in
       ap (in_bucket new b) kept ∙ (test ∙ (along ∙ sym (without_cond (eqb (old x) b) p x (in_bucket old b xs) other)))
 ]
 

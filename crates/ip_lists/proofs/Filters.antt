@@ -1,12 +1,12 @@
 -- What is among some of the places.
-use Rattle.std.proofs.Common.{◌≡◌, ◌≢◌, ℕ, ◌+◌, ◌<◌, List, [], ◌∷◌, ◌++◌, Bool, true, false, length, get_or, refl, sym, ap, ◌∙◌, subst, suc, zero, arith, inl, inr, eqb, eq-eqb, cond, ◌⊎◌}
+use Rattle.std.proofs.Common.{◌≡◌, ◌≢◌, ℕ, ◌<◌, List, [], ◌∷◌, ◌++◌, Bool, true, false, length, get_or, refl, sym, ap, ◌∙◌, subst, suc, zero, arith, inl, inr, eqb, eq-eqb, cond, ◌⊎◌}
 use Rattle.std.specs.Prelude.{Contains, not}
 use Rattle.std.specs.List.{filter}
 use Rattle.std.proofs.lemmas.Bool.{ne_eqb, false≢true}
 use Rattle.std.proofs.lemmas.Bool.Decides.{eqb_tells}
 use Rattle.std.proofs.lemmas.List.Elements.{Contains-append_left, Contains-append_right, Contains-append_cases}
 use Rattle.ip_lists.specs.Moves.{without}
-use Rattle.ip_lists.proofs.Lacking.{Lacks, lacks_none}
+use Rattle.ip_lists.proofs.Lacking.{lacks_none}
 
 pub has_head : (x : ℕ) (xs : List ℕ) → Contains (x ∷ xs) x
 has_head x xs = (0, omega arith, refl)

@@ -1,10 +1,9 @@
 -- Lists when a place was moved.
-use Rattle.std.proofs.Common.{◌≡◌, ◌≢◌, ℕ, List, [], ◌∷◌, ◌++◌, Bool, true, false, refl, sym, ap, ◌∙◌, subst, inl, inr, eqb, eq-eqb, cond, ◌⊎◌}
-use Rattle.std.specs.Prelude.{Contains, not}
-use Rattle.std.specs.List.{filter}
+use Rattle.std.proofs.Common.{◌≡◌, ◌≢◌, ℕ, List, [], ◌∷◌, ◌++◌, Bool, refl, sym, ap, ◌∙◌, subst, inl, inr, eqb, eq-eqb, cond, ◌⊎◌}
+use Rattle.std.specs.Prelude.{not}
 use Rattle.std.proofs.lemmas.Bool.{ne_eqb, cases_eq}
 use Rattle.std.proofs.lemmas.List.Elements.{filter-append}
-use Rattle.ip_lists.specs.Lists.{AreLinked, IsPath, IsList}
+use Rattle.ip_lists.specs.Lists.{IsList}
 use Rattle.ip_lists.specs.Moves.{without, IsTakenOut, IsMovedTo}
 use Rattle.ip_lists.proofs.Lacking.{Lacks, lacks_head, lacks_tail, lacks_cons, lacks_none}
 use Rattle.ip_lists.proofs.Paths.{path_from, lacks_start}

@@ -1,5 +1,5 @@
 -- Places that are appended in their order.
-use Rattle.std.proofs.Common.{◌≡◌, ◌≢◌, ℕ, ◌+◌, ◌<◌, ◌≤◌, List, [], ◌∷◌, ◌++◌, Bool, true, false, length, get_or, refl, sym, ap, ◌∙◌, subst, suc, zero, arith, inl, inr, eqb, ◌||◌, ◌⊎◌}
+use Rattle.std.proofs.Common.{◌≡◌, ◌≢◌, ℕ, ◌+◌, ◌<◌, ◌≤◌, List, [], ◌∷◌, ◌++◌, Bool, true, length, get_or, sym, ap, ◌∙◌, subst, suc, zero, arith, inl, inr, eqb, ◌||◌}
 use Rattle.std.specs.Prelude.{AllPairs, Contains, slice_get, Some}
 use Rattle.std.specs.List.{list_any, range_with_len, IsDistinct}
 use Rattle.std.proofs.lemmas.Bool.{ne_eqb, false≢true}
@@ -54,11 +54,11 @@ pushed_more next previous new new_previous head n pushed less as_long linked app
       linked = linked;
       within = omega arith;
       listed =
-        (let P : List ℕ → Type 0 = λ xs. IsList new head xs in
-        let last : 0 + n ≡ n = omega arith in
-        let count : suc n ≡ n + 1 = omega arith in
-        let e : range_with_len 0 n ++ n ∷ [] ≡ range_with_len 0 (n + 1) = ap (λ (x : ℕ). range_with_len 0 n ++ x ∷ []) (sym last) ∙ (sym (range_more 0 n) ∙ ap (range_with_len 0) count) in
-        subst P e (appended (range_with_len 0 n) pushed.listed));
+          (let P : List ℕ → Type 0 = λ xs. IsList new head xs in
+          let last : 0 + n ≡ n = omega arith in
+          let count : suc n ≡ n + 1 = omega arith in
+          let e : range_with_len 0 n ++ n ∷ [] ≡ range_with_len 0 (n + 1) = ap (λ (x : ℕ). range_with_len 0 n ++ x ∷ []) (sym last) ∙ (sym (range_more 0 n) ∙ ap (range_with_len 0) count) in
+          subst P e (appended (range_with_len 0 n) pushed.listed));
       others = λ h least inside apart. others h [] apart (λ e. absurd (omega arith)) (lacks_none head) (pushed.others h (omega arith) (omega arith) apart);
     }
 

@@ -1,15 +1,15 @@
 -- A table, when a place was taken or released.
 use Rattle.std.proofs.Common.{◌≡◌, ◌≢◌, ℕ, ◌+◌, ◌<◌, ◌≤◌, List, [], ◌∷◌, ◌++◌, Bool, length, refl, sym, ap, ◌∙◌, subst, arith, inl, inr, eqb, eq-eqb, cond}
-use Rattle.std.specs.Prelude.{Contains, slice_get, Some}
+use Rattle.std.specs.Prelude.{Contains, slice_get, Some, ◌↔◌}
 use Rattle.std.specs.List.{range_with_len}
-use Rattle.std.proofs.lemmas.Bool.{ne_eqb}
+use Rattle.std.proofs.lemmas.Bool.{ne_eqb, eqb-true}
 use Rattle.std.proofs.lemmas.List.Elements.{Contains-append_right}
 use Rattle.ip_lists.specs.Lists.{AreLinked, IsAlone, IsPath, IsList}
 use Rattle.ip_lists.specs.Moves.{without, IsTakenOut, IsMovedTo}
 use Rattle.ip_lists.specs.Table.{IsTable, in_bucket, with_bucket}
 use Rattle.ip_lists.specs.declared.table.Table.{Table}
 use Rattle.ip_lists.proofs.Lacking.{Lacks, lacks_cons, lacks_none}
-use Rattle.ip_lists.proofs.Paths.{path_from, lacks_start, lacks_alone}
+use Rattle.ip_lists.proofs.Paths.{path_from, same_path, lacks_start, lacks_alone}
 use Rattle.ip_lists.proofs.ListLemmas.{distinct, lists_apart}
 use Rattle.ip_lists.proofs.Moved.{without_same, without_lacking, without_between}
 use Rattle.ip_lists.proofs.Filters.{has_head, has_tail, filter_keeps, filter_has}
@@ -175,3 +175,45 @@ cleared table bucket_of ages_linked chains_linked room chains_room free others e
   chain = λ b exists. empty (table.places + b) exists;
   no_chain = λ p c. (let less : p < table.places = range_has table.places p c in empty p (omega arith));
 }
+
+pub bucket_has : (bucket_of : ℕ → ℕ) (b p : ℕ) (used : List ℕ) → Contains (in_bucket bucket_of b used) p ↔ (Contains used p × (bucket_of p ≡ b))
+bucket_has bucket_of b p used = (
+  λ c. (let both = filter_has (λ q. eqb (bucket_of q) b) used p c in (both.0, eqb-true (bucket_of p) b both.1)),
+  λ both. filter_keeps (λ q. eqb (bucket_of q) b) used p (eq-eqb (bucket_of p) b both.1) both.0,
+)
+
+pub same_bucket : (a b : ℕ → ℕ) (bucket : ℕ) (used : List ℕ) → ((p : ℕ) → Contains used p → b p ≡ a p) → in_bucket b bucket used ≡ in_bucket a bucket used
+same_bucket a b bucket [] same = refl
+same_bucket a b bucket (x ∷ xs) same =
+    let rest : in_bucket b bucket xs ≡ in_bucket a bucket xs = same_bucket a b bucket xs (λ p c. same p (has_tail x p xs c)) in
+    ap (λ (t : ℕ). cond (eqb t bucket) (x ∷ in_bucket b bucket xs) (in_bucket b bucket xs)) (same x (has_head x xs))
+    ∙ ap (λ (ys : List ℕ). cond (eqb (a x) bucket) (x ∷ ys) ys) rest
+
+-- The buckets of free places don't matter.
+pub other_buckets : (table : Table) (free used : List ℕ) (a b : ℕ → ℕ) → IsTable table free used a → ((p : ℕ) → Contains used p → b p ≡ a p) → IsTable table free used b
+other_buckets table free used a b is same = record {
+  ages_linked = is.ages_linked;
+  chains_linked = is.chains_linked;
+  each = is.each;
+  free_list = is.free_list;
+  used_list = is.used_list;
+  bucket = λ p c. (let P : ℕ → Type 0 = λ x. table.places + x < length table.chains.next.now in subst P (sym (same p c)) (is.bucket p c));
+  chain = λ bucket exists. (let P : List ℕ → Type 0 = λ xs. IsList table.chains.next.now (table.places + bucket) xs in subst P (sym (same_bucket a b bucket used same)) (is.chain bucket exists));
+  no_chain = is.no_chain;
+}
+
+-- A table has only one list of places in use, and one bucket of each.
+pub one_bucket : (table : Table) (free used other_free : List ℕ) (a b : ℕ → ℕ) → IsTable table free used a → IsTable table other_free used b → (p : ℕ) → Contains used p → b p ≡ a p
+one_bucket table free used other_free a b is other p c =
+    let exists : table.places + a p < length table.chains.next.now = is.bucket p c in
+    let here : Contains (in_bucket a (a p) used) p = (bucket_has a (a p) p used).1 (c, refl) in
+    let same : in_bucket a (a p) used ≡ in_bucket b (a p) used = same_path table.chains.next.now _ _ _ _ (is.chain (a p) exists) (other.chain (a p) exists) in
+    ((bucket_has b (a p) p used).0 (let P : List ℕ → Type 0 = λ xs. Contains xs p in subst P same here)).1
+
+pub one_meaning : (table : Table) (free used other_free other_used : List ℕ) (a b : ℕ → ℕ) → IsTable table free used a → IsTable table other_free other_used b
+    → (other_free ≡ free) × (other_used ≡ used) × ((p : ℕ) → Contains used p → b p ≡ a p)
+one_meaning table free used other_free other_used a b is other =
+    let free_same : other_free ≡ free = same_path table.ages.next.now _ _ _ _ other.free_list is.free_list in
+    let used_same : other_used ≡ used = same_path table.ages.next.now _ _ _ _ other.used_list is.used_list in
+    let P : List ℕ → Type 0 = λ xs. IsTable table other_free xs b in
+    (free_same, used_same, one_bucket table free used other_free a b is (subst P used_same other))

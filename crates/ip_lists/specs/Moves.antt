@@ -1,5 +1,5 @@
 -- Lists when a place was moved to the end of one of them.
-use Rattle.std.specs.Prelude.{◌≡◌, ◌≢◌, ◌==◌, ℕ, List, [], ◌∷◌, ◌++◌, Contains, not}
+use Rattle.std.specs.Prelude.{◌≢◌, ◌==◌, ℕ, List, [], ◌∷◌, ◌++◌, Contains, not}
 use Rattle.std.specs.List.{filter}
 use Rattle.ip_lists.specs.Lists.{IsList}
 

@@ -8,7 +8,7 @@ use Rattle.ip_lists.specs.declared.table.Table.{Table}
 abbrev pub in_bucket : (ℕ → ℕ) → ℕ → List ℕ → List ℕ
 in_bucket bucket_of b places = filter (λ p. bucket_of p == b) places
 
--- The arrays have room for the places and the heads.
+-- The arrays have room for the places and for the heads of the lists.
 pub record HasRoom (table : Table) : Type 0 where
   pub ages : table.places + 1 < length table.ages.next.now
   pub ages_as_many : length table.ages.previous.now ≡ length table.ages.next.now
@@ -21,15 +21,15 @@ pub record HasRoom (table : Table) : Type 0 where
 abbrev pub HasBucket : Table → ℕ → Type 0
 HasBucket table b = table.places + b < length table.chains.next.now
 
--- These places are free and in use, those that have been so longest first, and each of the latter is in this bucket.
+-- The places `free` are free, and the places `used` are in use, the oldest first, each in the chain of its bucket.
 pub record IsTable (table : Table) (free used : List ℕ) (bucket_of : ℕ → ℕ) : Type 0 where
   pub ages_linked : AreLinked table.ages.next.now table.ages.previous.now
   pub chains_linked : AreLinked table.chains.next.now table.chains.previous.now
-  -- Each place below the number of places is free or in use, and no other one.
+  -- Each place is free or in use, and nothing else is.
   pub each : (p : ℕ) → (Contains free p ⊎ Contains used p) ↔ (p < table.places)
   pub free_list : IsList table.ages.next.now table.places free
   pub used_list : IsList table.ages.next.now (table.places + 1) used
-  -- The chain of a bucket has those in use that are in it, the oldest first. A free place is in none.
+  -- The chain of a bucket has the places in use that are in it, the oldest first. A free place is in no chain.
   pub bucket : (p : ℕ) → Contains used p → HasBucket table (bucket_of p)
   pub chain : (b : ℕ) → HasBucket table b → IsList table.chains.next.now (table.places + b) (in_bucket bucket_of b used)
   pub no_chain : (p : ℕ) → Contains free p → IsList table.chains.next.now p []
@@ -38,7 +38,7 @@ pub record IsTable (table : Table) (free used : List ℕ) (bucket_of : ℕ → �
 abbrev pub with_bucket : (ℕ → ℕ) → ℕ → ℕ → ℕ → ℕ
 with_bucket bucket_of place b p = if p == place then b else bucket_of p
 
--- Nothing was written.
+-- Both tables have the same contents.
 pub record AreSame (old new : Table) : Type 0 where
   pub places : new.places ≡ old.places
   pub ages_next : new.ages.next.now ≡ old.ages.next.now

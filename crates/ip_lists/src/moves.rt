@@ -1,10 +1,10 @@
 //! A place that is moved from one list to another.
-use crate::Links;
-
 ghost use Rattle.std.specs.Prelude.{◌≡◌, ◌≢◌, ℕ, ◌<◌, ◌≤◌, [], length};
 ghost use Rattle.ip_lists.specs.Lists.{AreLinked, IsList};
 ghost use Rattle.std.specs.List.{range_with_len};
 ghost use Rattle.ip_lists.specs.Moves.{IsMovedTo};
+
+use crate::Links;
 
 /// Takes a place out of its list, and appends it to the list of a head.
 pub(crate) fn move_to(links: &mut Links<'_>, head: u32, place: u32)

@@ -1,12 +1,12 @@
 //! A table of places that are found by their bucket and given up by their age.
-use crate::moves::{move_to, push_below};
-use crate::{Links, Members};
-
 ghost use Rattle.std.specs.Prelude.{◌≡◌, ℕ, ◌+◌, ◌<◌, ◌≤◌, ◌++◌, ◌∷◌, [], ◌↔◌, List, length, Some, None, IfSome, is_none, All, Contains, true, false};
 ghost use Rattle.std.specs.List.{range_with_len};
 ghost use Rattle.ip_lists.specs.Lists.{AreLinked, IsList};
 ghost use Rattle.ip_lists.specs.Members.{members_left};
 ghost use Rattle.ip_lists.specs.Table.{IsTable, HasRoom, HasBucket, AreSame, in_bucket, with_bucket};
+
+use crate::moves::{move_to, push_below};
+use crate::{Links, Members};
 
 /// A place that was taken.
 #[derive(Clone, Copy, Debug, PartialEq)]
@@ -17,10 +17,13 @@ pub struct Taken {
     pub was_used: bool,
 }
 
-/// A table of places, each of which is free, or in use and in the chain of a bucket.
+/// A table of places, each of which is free, or in use and in the chain of a bucket. The caller keeps a slot for each place,
+/// and chooses the bucket by a hash of what is in the slot.
+///
+/// Whatever the arrays contain, no call fails. After `clear` they agree, and each call keeps it so.
 #[derive(Drop)]
 pub struct Table<'m> {
-    /// How many places there are. They are the numbers below this one.
+    /// The number of places, which are 0, 1, .. below it.
     pub places: u32,
     /// The free places (the head is `places`) and those in use (the head is `places + 1`), the oldest first.
     pub ages: Links<'m>,

@@ -1,6 +1,4 @@
-use Rattle.std.proofs.Common.{◌≡◌, ◌≢◌, ℕ, ◌<◌, ◌≤◌, [], length}
-use Rattle.std.specs.List.{range_with_len}
-use Rattle.ip_lists.specs.Lists.{AreLinked, IsList}
+use Rattle.std.proofs.Common.{◌≡◌, length}
 use Rattle.ip_lists.proofs.Ranges.{IsPushed}
 use Rattle.ip_lists.proofs.moves.push_below.Given as goal
 

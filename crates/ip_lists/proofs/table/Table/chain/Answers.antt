@@ -1,6 +1,6 @@
-use Rattle.std.proofs.Common.{◌≡◌, ◌≢◌, ℕ, ◌+◌, ◌<◌, ◌≤◌, List, [], ◌∷◌, length, refl, sym, ◌∙◌, subst, arith}
+use Rattle.std.proofs.Common.{◌≡◌, ℕ, ◌+◌, ◌<◌, ◌≤◌, [], length, refl, sym, subst, arith}
 use Rattle.ip_lists.specs.Members.{members_after}
-use Rattle.ip_lists.specs.Table.{IsTable, in_bucket}
+use Rattle.ip_lists.specs.Table.{in_bucket}
 use Rattle.ip_lists.proofs.Walks.{along, few_after, within_after}
 use Rattle.ip_lists.proofs.Tables.{from_table, chain_fits, no_bucket}
 use Rattle.ip_lists.proofs.table.Table.chain.Goals as goal

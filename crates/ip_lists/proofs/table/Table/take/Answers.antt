@@ -1,8 +1,5 @@
-use Rattle.std.proofs.Common.{◌≡◌, ◌≢◌, ℕ, ◌+◌, ◌<◌, List, [], ◌∷◌, ◌++◌, length, Some, None, true, false, refl, ap, sym, arith, inl, inr}
-use Rattle.std.specs.Prelude.{Contains}
+use Rattle.std.proofs.Common.{◌≡◌, ◌+◌, ◌<◌, [], ◌∷◌, length, Some, true, false, refl, ap, arith, inl, inr}
 use Rattle.std.proofs.lemmas.Option.{none-some, same_Some}
-use Rattle.ip_lists.specs.Moves.{IsMovedTo}
-use Rattle.ip_lists.specs.Table.{IsTable}
 use Rattle.ip_lists.specs.declared.table.Taken.{Taken}
 use Rattle.ip_lists.proofs.Paths.{start_within}
 use Rattle.ip_lists.proofs.Filters.{has_head}
@@ -37,10 +34,12 @@ returns-clause-free c = λ p free used bucket_of table exists.
     let chain : c.in_ok-chain.chain ≡ old.places + c.args.bucket = c.in_ok-chain.ensures.found.0 in
     let chain_within : c.in_ok-chain.chain < length old.chains.next.now = c.in_ok-chain.ensures.found.1 in
     let aged = c.move_to.ensures.moved table.ages_linked head_within (omega arith) (λ e. absurd (omega arith)) in
-    let chained = c.move_to-2.ensures.moved table.chains_linked chain_within (omega arith) (λ e. absurd (omega arith)) in
-    (is, to_table _ _ _ _ (c.move_to.ensures.linked table.ages_linked) (c.move_to-2.ensures.linked table.chains_linked)
-      (taken_free old.places p c.args.bucket old.ages.next.now old.chains.next.now _ _ free used bucket_of (from_table old (p ∷ free) used bucket_of table) exists (c.move_to-2.ensures.len)
-        (moved_as _ _ _ _ _ _ head place aged) (moved_as _ _ _ _ _ _ chain place chained)))
+    let chained = c.move_to-2.ensures.moved table.chains_linked chain_within (omega arith) (λ e. absurd (omega arith)) in (
+      is,
+      to_table _ _ _ _ (c.move_to.ensures.linked table.ages_linked) (c.move_to-2.ensures.linked table.chains_linked)
+          (taken_free old.places p c.args.bucket old.ages.next.now old.chains.next.now _ _ free used bucket_of (from_table old (p ∷ free) used bucket_of table) exists (c.move_to-2.ensures.len)
+          (moved_as _ _ _ _ _ _ head place aged) (moved_as _ _ _ _ _ _ chain place chained)),
+    )
 
 pub returns-clause-oldest : goal.returns-clause-oldest
 returns-clause-oldest c = λ p used bucket_of table exists.
@@ -54,7 +53,9 @@ returns-clause-oldest c = λ p used bucket_of table exists.
     let chain : c.in_ok-chain.chain ≡ old.places + c.args.bucket = c.in_ok-chain.ensures.found.0 in
     let chain_within : c.in_ok-chain.chain < length old.chains.next.now = c.in_ok-chain.ensures.found.1 in
     let aged = c.move_to.ensures.moved table.ages_linked head_within (omega arith) (λ e. absurd (omega arith)) in
-    let chained = c.move_to-2.ensures.moved table.chains_linked chain_within (omega arith) (λ e. absurd (omega arith)) in
-    (is, to_table _ _ _ _ (c.move_to.ensures.linked table.ages_linked) (c.move_to-2.ensures.linked table.chains_linked)
-      (taken_used old.places p c.args.bucket old.ages.next.now old.chains.next.now _ _ used bucket_of (from_table old [] (p ∷ used) bucket_of table) exists (c.move_to-2.ensures.len)
-        (moved_as _ _ _ _ _ _ head place aged) (moved_as _ _ _ _ _ _ chain place chained)))
+    let chained = c.move_to-2.ensures.moved table.chains_linked chain_within (omega arith) (λ e. absurd (omega arith)) in (
+      is,
+      to_table _ _ _ _ (c.move_to.ensures.linked table.ages_linked) (c.move_to-2.ensures.linked table.chains_linked)
+          (taken_used old.places p c.args.bucket old.ages.next.now old.chains.next.now _ _ used bucket_of (from_table old [] (p ∷ used) bucket_of table) exists (c.move_to-2.ensures.len)
+          (moved_as _ _ _ _ _ _ head place aged) (moved_as _ _ _ _ _ _ chain place chained)),
+    )

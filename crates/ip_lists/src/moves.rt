@@ -9,6 +9,7 @@ use crate::Links;
 /// Takes a place out of its list, and appends it to the list of a head.
 pub(crate) fn move_to(links: &mut Links<'_>, head: u32, place: u32)
     ensures len { length links.new.next.now ≡ length links.old.next.now }
+    ensures previous_len { length links.new.previous.now ≡ length links.old.previous.now }
     ensures linked { AreLinked links.old.next.now links.old.previous.now → AreLinked links.new.next.now links.new.previous.now }
     ensures moved { AreLinked links.old.next.now links.old.previous.now → head < length links.old.next.now → place < length links.old.next.now
         → place ≢ head → IsMovedTo links.old.next.now links.new.next.now head place }

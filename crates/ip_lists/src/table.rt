@@ -51,6 +51,7 @@ impl<'m> Table<'m> {
         ensures cleared { (bucket_of : ℕ → ℕ) → IsTable self.new (range_with_len 0 self.old.places) [] bucket_of }
         ensures places { self.new.places ≡ self.old.places }
         ensures buckets { (b : ℕ) → HasBucket self.new b ↔ HasBucket self.old b }
+        ensures room { HasRoom self.new }
     {
         self.ages.clear();
         self.chains.clear();
@@ -130,6 +131,7 @@ impl<'m> Table<'m> {
         ensures within { IfSome result (λ t. t.place < self.old.places) }
         ensures places { self.new.places ≡ self.old.places }
         ensures buckets { (b : ℕ) → HasBucket self.new b ↔ HasBucket self.old b }
+        ensures room { HasRoom self.old → HasRoom self.new }
     {
         let chain = self.chain_head(bucket)?;
         let used = self.used_head()?;
@@ -149,6 +151,7 @@ impl<'m> Table<'m> {
         ensures refused { result ≡ false → AreSame self.old self.new }
         ensures places { self.new.places ≡ self.old.places }
         ensures buckets { (b : ℕ) → HasBucket self.new b ↔ HasBucket self.old b }
+        ensures room { HasRoom self.old → HasRoom self.new }
     {
         if place >= self.places || self.chains.is_alone(place) || !self.chains.remove(place) {
             return false;

@@ -1,5 +1,5 @@
 -- Places that aren't among others.
-use Rattle.std.proofs.Common.{◌≡◌, ◌≢◌, ℕ, ◌<◌, List, ◌∷◌, length, get_or, suc, zero, arith}
+use Rattle.std.proofs.Common.{◌≡◌, ◌≢◌, ℕ, ◌<◌, List, [], ◌∷◌, length, get_or, suc, zero, arith}
 use Rattle.std.specs.Prelude.{Contains}
 
 -- The place is none of these.
@@ -18,3 +18,6 @@ lacks_at x p xs head tail (suc k) within is = tail (k, omega arith, is)
 
 pub lacks_cons : (x p : ℕ) (xs : List ℕ) → x ≢ p → Lacks xs p → Lacks (x ∷ xs) p
 lacks_cons x p xs head tail = λ c. lacks_at x p xs head tail c.0 c.1 c.2
+
+pub lacks_none : (p : ℕ) → Lacks [] p
+lacks_none p = λ c. absurd (omega arith)

@@ -6,3 +6,9 @@ pub mod ListLemmas
 pub mod Walks
 pub mod Removed
 pub mod Appended
+pub mod Moved
+pub mod Filters
+pub mod Ages
+pub mod Chains
+pub mod Tables
+pub mod Ranges

@@ -1,7 +1,7 @@
 -- Neighbours in arrays that agree.
-use Rattle.std.proofs.Common.{◌≡◌, ℕ, ◌<◌, List, length, get_or, subst, sym}
+use Rattle.std.proofs.Common.{◌≡◌, ℕ, ◌<◌, List, length, get_or, subst, sym, ◌∙◌}
 use Rattle.std.specs.Prelude.{slice_get, Some}
-use Rattle.std.proofs.lemmas.Option.{slice_get-get_or}
+use Rattle.std.proofs.lemmas.Option.{same_Some, slice_get-get_or, slice_get_within}
 use Rattle.ip_lists.specs.Lists.{AreLinked, AreNeighbours, HasNeighbours}
 
 pub before : (next previous : List ℕ) (p : ℕ) → AreLinked next previous → p < length next → AreNeighbours next previous (get_or previous p 0) p
@@ -16,3 +16,10 @@ after next previous p linked within =
 
 pub neighbours : (next previous : List ℕ) (p : ℕ) → AreLinked next previous → p < length next → HasNeighbours next previous p
 neighbours next previous p linked within = (get_or previous p 0, get_or next p 0, before next previous p linked within, after next previous p linked within)
+
+-- Each place is a link.
+pub link_to : (next previous : List ℕ) (p : ℕ) → AreLinked next previous → p < length next → (a : ℕ) × (get_or next a 0 ≡ p)
+link_to next previous p linked within =
+    let a : ℕ = get_or previous p 0 in
+    let there : slice_get next a ≡ Some p = (before next previous p linked within).0 in
+    (a, same_Some _ _ (sym (slice_get-get_or next a 0 (slice_get_within next a p there)) ∙ there))

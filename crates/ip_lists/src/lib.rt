@@ -5,9 +5,16 @@ mod arrays;
 mod links;
 mod list_laws;
 mod members;
+mod moves;
+mod table;
+mod table_laws;
+#[cfg(test)]
+mod table_tests;
 #[cfg(test)]
 mod tests;
 
 pub use links::Links;
 pub use list_laws::{each_head_has_one_list, lists_are_apart};
 pub use members::Members;
+pub use table::{Table, Taken};
+pub use table_laws::{each_place_is_free_or_in_one_chain, each_table_has_one_meaning};

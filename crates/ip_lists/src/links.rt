@@ -121,6 +121,7 @@ impl<'m> Links<'m> {
     /// neighbours don't lead back to it.
     pub fn remove(&mut self, place: u32) -> bool
         ensures len { length self.new.next.now ≡ length self.old.next.now }
+        ensures previous_len { length self.new.previous.now ≡ length self.old.previous.now }
         ensures result { IsTrue result ↔ HasNeighbours self.old.next.now self.old.previous.now place }
         ensures refused { result ≡ false → (self.new.next.now ≡ self.old.next.now) × (self.new.previous.now ≡ self.old.previous.now) }
         ensures next { (a b : ℕ) → AreNeighbours self.old.next.now self.old.previous.now a place
@@ -153,6 +154,7 @@ impl<'m> Links<'m> {
     /// or is the head, if it or the head is beyond the arrays, or if the place before the head doesn't lead back to it.
     pub fn push_back(&mut self, head: u32, place: u32) -> bool
         ensures len { length self.new.next.now ≡ length self.old.next.now }
+        ensures previous_len { length self.new.previous.now ≡ length self.old.previous.now }
         ensures result { IsTrue result ↔ CanAppend self.old.next.now self.old.previous.now head place }
         ensures refused { result ≡ false → (self.new.next.now ≡ self.old.next.now) × (self.new.previous.now ≡ self.old.previous.now) }
         ensures next { (l : ℕ) → result ≡ true → AreNeighbours self.old.next.now self.old.previous.now l head

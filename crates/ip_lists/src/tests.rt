@@ -3,7 +3,7 @@ use crate::Links;
 use std::process::Abort;
 
 /// Checks what the arrays have.
-fn assert_links(rt: &impl Abort, links: &Links<'_>, next: &[u32], previous: &[u32]) {
+pub(crate) fn assert_links(rt: &impl Abort, links: &Links<'_>, next: &[u32], previous: &[u32]) {
     assert!(rt; *links.next == *next, "{:?} for {next:?}", links.next);
     assert!(rt;
         *links.previous == *previous,

@@ -4,7 +4,7 @@ use Rattle.std.specs.Prelude.{Contains, slice_get, Some}
 use Rattle.std.proofs.lemmas.Bool.{cases_eq}
 use Rattle.std.proofs.lemmas.Option.{slice_get_within}
 use Rattle.std.proofs.lemmas.List.Elements.{Contains-append_right}
-use Rattle.ip_lists.specs.Lists.{AreLinked, AreNeighbours, IsAlone, IsPath, IsList}
+use Rattle.ip_lists.specs.Lists.{AreInverse, AreNeighbours, IsAlone, IsPath, IsList}
 use Rattle.ip_lists.proofs.Lacking.{Lacks, lacks_head, lacks_tail}
 use Rattle.ip_lists.proofs.Paths.{path_stays, lacks_alone, lacks_start}
 use Rattle.ip_lists.proofs.Rewired.{rewired, length_rewired, at_first, at_second, at_others}
@@ -52,7 +52,7 @@ swapped next previous l p h can = record {
   other = λ e. not_last next previous l p h can (sym e);
 }
 
-pub appended_linked : (next previous : List ℕ) (l p h : ℕ) → AreLinked next previous → IsAppendable next previous l p h → AreLinked (rewired next l p p h) (rewired previous h p p l)
+pub appended_linked : (next previous : List ℕ) (l p h : ℕ) → AreInverse next previous → IsAppendable next previous l p h → AreInverse (rewired next l p p h) (rewired previous h p p l)
 appended_linked next previous l p h linked can = record {
   as_many = length_rewired previous h p p l ∙ (linked.as_many ∙ sym (length_rewired next l p p h));
   back = half_linked next previous l p h linked.back can;
@@ -67,7 +67,7 @@ appended_keeps next previous l p h can s t not_from not_to step =
     at_others next l p p h s not_from not_last ∙ step
 
 -- A step to the head goes through the place afterwards.
-appended_step : (next previous : List ℕ) (l p h : ℕ) → AreLinked next previous → IsAppendable next previous l p h
+appended_step : (next previous : List ℕ) (l p h : ℕ) → AreInverse next previous → IsAppendable next previous l p h
     → (s : ℕ) → slice_get next s ≡ Some h → slice_get (rewired next l p p h) s ≡ Some p
 appended_step next previous l p h linked can s step =
     let back : slice_get previous h ≡ Some s = linked.back s h step in
@@ -76,7 +76,7 @@ appended_step next previous l p h linked can s step =
     cc
 
 -- A path to the head goes through the place last.
-path_appended : (next previous : List ℕ) (l p h : ℕ) → AreLinked next previous → IsAppendable next previous l p h
+path_appended : (next previous : List ℕ) (l p h : ℕ) → AreInverse next previous → IsAppendable next previous l p h
     → (from : ℕ) (xs : List ℕ) → from ≢ p → Lacks xs p → IsPath next from xs h → IsPath (rewired next l p p h) from (xs ++ p ∷ []) h
 path_appended next previous l p h linked can from [] start none path = (
   appended_step next previous l p h linked can from path,
@@ -90,7 +90,7 @@ path_appended next previous l p h linked can from (x ∷ xs) start none path = (
 )
 
 -- The list of the head gets the place as its last member.
-pub list_appended : (next previous : List ℕ) (l p h : ℕ) → AreLinked next previous → IsAppendable next previous l p h
+pub list_appended : (next previous : List ℕ) (l p h : ℕ) → AreInverse next previous → IsAppendable next previous l p h
     → (xs : List ℕ) → IsList next h xs → IsList (rewired next l p p h) h (xs ++ p ∷ [])
 list_appended next previous l p h linked can xs path =
     path_appended next previous l p h linked can h xs (λ e. can.other (sym e)) (lacks_alone next h p h xs can.alone can.other path) path
@@ -103,7 +103,7 @@ list_stays next previous l p h can k zs not_head not_place none path =
     (lacks_alone next k p k zs can.alone (λ e. not_place (sym e)) path) none path
 
 -- A path through the head goes through the place right before it.
-path_through : (next previous : List ℕ) (l p h : ℕ) → AreLinked next previous → IsAppendable next previous l p h
+path_through : (next previous : List ℕ) (l p h : ℕ) → AreInverse next previous → IsAppendable next previous l p h
     → (from end : ℕ) (xs ys : List ℕ) → from ≢ p → end ≢ p → end ≢ h → Lacks (xs ++ h ∷ ys) p → IsPath next from (xs ++ h ∷ ys) end
     → IsPath (rewired next l p p h) from (xs ++ p ∷ h ∷ ys) end
 path_through next previous l p h linked can from end [] ys start stop not_head none path =
@@ -126,7 +126,7 @@ path_through next previous l p h linked can from end (x ∷ xs) ys start stop no
     )
 
 -- The list of another head, which is in the list, gets the place right before the head.
-pub list_through : (next previous : List ℕ) (l p h : ℕ) → AreLinked next previous → IsAppendable next previous l p h
+pub list_through : (next previous : List ℕ) (l p h : ℕ) → AreInverse next previous → IsAppendable next previous l p h
     → (k : ℕ) (xs ys : List ℕ) → k ≢ h → k ≢ p → IsList next k (xs ++ h ∷ ys) → IsList (rewired next l p p h) k (xs ++ p ∷ h ∷ ys)
 list_through next previous l p h linked can k xs ys not_head not_place path =
     path_through next previous l p h linked can k k xs ys not_place not_place not_head (lacks_alone next k p k (xs ++ h ∷ ys) can.alone (λ e. not_place (sym e)) path) path

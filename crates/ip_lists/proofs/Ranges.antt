@@ -7,7 +7,7 @@ use Rattle.std.proofs.lemmas.Bool.Decides.{eqb_tells}
 use Rattle.std.proofs.lemmas.List.FromFn.{length-range_with_len, get_or-range_with_len}
 use Rattle.std.proofs.lemmas.Map.Keys.{IsDistinct-from_apart}
 use Rattle.std.proofs.lemmas.Map.Steps.{length-le_from_distinct_below}
-use Rattle.ip_lists.specs.Lists.{AreLinked, IsAlone, IsList}
+use Rattle.ip_lists.specs.Lists.{AreInverse, IsAlone, IsList}
 use Rattle.ip_lists.proofs.Filters.{has_tail}
 use Rattle.ip_lists.proofs.Lacking.{Lacks, lacks_none}
 
@@ -32,7 +32,7 @@ range_has n p c =
 
 -- The first places were appended to the list of the head, and the others are in no list.
 pub record IsPushed (next previous : List ℕ) (head n : ℕ) : Type 0 where
-  pub linked : AreLinked next previous
+  pub linked : AreInverse next previous
   pub within : head < length next
   pub listed : IsList next head (range_with_len 0 n)
   pub others : (h : ℕ) → n ≤ h → h < length next → h ≢ head → IsList next h []
@@ -44,7 +44,7 @@ next_alone next previous head n pushed less =
     (alone, pushed.linked.back n n alone)
 
 pub pushed_more : (next previous new new_previous : List ℕ) (head n : ℕ) → IsPushed next previous head n → n < head
-    → length new ≡ length next → AreLinked new new_previous
+    → length new ≡ length next → AreInverse new new_previous
     → ((xs : List ℕ) → IsList next head xs → IsList new head (xs ++ n ∷ []))
     → ((h : ℕ) (zs : List ℕ) → h ≢ head → h ≢ n → Lacks zs head → IsList next h zs → IsList new h zs)
     → IsPushed new new_previous head (n + 1)

@@ -4,7 +4,7 @@ use Rattle.std.specs.Prelude.{Contains, slice_get, Some}
 use Rattle.std.proofs.lemmas.Bool.{cases_eq}
 use Rattle.std.proofs.lemmas.Option.{slice_get_within}
 use Rattle.std.proofs.lemmas.List.Elements.{Contains-append_right}
-use Rattle.ip_lists.specs.Lists.{AreLinked, AreNeighbours, IsAlone, IsPath, IsList}
+use Rattle.ip_lists.specs.Lists.{AreInverse, AreNeighbours, IsAlone, IsPath, IsList}
 use Rattle.ip_lists.proofs.Lacking.{Lacks, lacks_head, lacks_tail}
 use Rattle.ip_lists.proofs.Paths.{path_stays, lacks_start}
 use Rattle.ip_lists.proofs.Rewired.{rewired, length_rewired, at_first, at_second, at_others}
@@ -51,7 +51,7 @@ swapped next previous a p b between = record {
   back_from_place = between.from_place;
 }
 
-pub removed_linked : (next previous : List ℕ) (a p b : ℕ) → AreLinked next previous → IsBetween next previous a p b → AreLinked (rewired next a b p p) (rewired previous b a p p)
+pub removed_linked : (next previous : List ℕ) (a p b : ℕ) → AreInverse next previous → IsBetween next previous a p b → AreInverse (rewired next a b p p) (rewired previous b a p p)
 removed_linked next previous a p b linked between = record {
   as_many = length_rewired previous b a p p ∙ (linked.as_many ∙ sym (length_rewired next a b p p));
   back = half_linked next previous a p b linked.back between;
@@ -59,14 +59,14 @@ removed_linked next previous a p b linked between = record {
 }
 
 -- Each step stays, but for those from the place and to it.
-removed_keeps : (next previous : List ℕ) (a p b : ℕ) → AreLinked next previous → IsBetween next previous a p b
+removed_keeps : (next previous : List ℕ) (a p b : ℕ) → AreInverse next previous → IsBetween next previous a p b
     → (s t : ℕ) → s ≢ p → t ≢ p → slice_get next s ≡ Some t → slice_get (rewired next a b p p) s ≡ Some t
 removed_keeps next previous a p b linked between s t not_from not_to step =
     let first : s ≢ a = λ e. not_to (cc (between.to_place)) in
     at_others next a b p p s not_from first ∙ step
 
 -- A step to the place and one from it are one step afterwards.
-removed_skips : (next previous : List ℕ) (a p b : ℕ) → AreLinked next previous → IsBetween next previous a p b
+removed_skips : (next previous : List ℕ) (a p b : ℕ) → AreInverse next previous → IsBetween next previous a p b
     → (s t : ℕ) → s ≢ p → slice_get next s ≡ Some p → slice_get next p ≡ Some t → slice_get (rewired next a b p p) s ≡ Some t
 removed_skips next previous a p b linked between s t not_from to_place from_place =
     let back : slice_get previous p ≡ Some s = linked.back s p to_place in
@@ -76,7 +76,7 @@ removed_skips next previous a p b linked between s t not_from to_place from_plac
     cc
 
 -- A path loses the place.
-pub path_without : (next previous : List ℕ) (a p b : ℕ) → AreLinked next previous → IsBetween next previous a p b
+pub path_without : (next previous : List ℕ) (a p b : ℕ) → AreInverse next previous → IsBetween next previous a p b
     → (from end : ℕ) (xs ys : List ℕ) → from ≢ p → end ≢ p → IsPath next from (xs ++ p ∷ ys) end → IsPath (rewired next a b p p) from (xs ++ ys) end
 path_without next previous a p b linked between from end [] [] start stop path = removed_skips next previous a p b linked between from end start path.0 path.2
 path_without next previous a p b linked between from end [] (y ∷ ys) start stop path =
@@ -95,12 +95,12 @@ path_without next previous a p b linked between from end (x ∷ xs) ys start sto
     )
 
 -- The list of each other head loses the place.
-pub list_without : (next previous : List ℕ) (a p b : ℕ) → AreLinked next previous → IsBetween next previous a p b
+pub list_without : (next previous : List ℕ) (a p b : ℕ) → AreInverse next previous → IsBetween next previous a p b
     → (h : ℕ) (xs ys : List ℕ) → h ≢ p → IsList next h (xs ++ p ∷ ys) → IsList (rewired next a b p p) h (xs ++ ys)
 list_without next previous a p b linked between h xs ys other path = path_without next previous a p b linked between h h xs ys other other path
 
 -- A list without the place stays.
-pub list_stays : (next previous : List ℕ) (a p b : ℕ) → AreLinked next previous → IsBetween next previous a p b
+pub list_stays : (next previous : List ℕ) (a p b : ℕ) → AreInverse next previous → IsBetween next previous a p b
     → (h : ℕ) (zs : List ℕ) → h ≢ p → Lacks zs p → IsList next h zs → IsList (rewired next a b p p) h zs
 list_stays next previous a p b linked between h zs other none path = path_stays next (rewired next a b p p) p p (removed_keeps next previous a p b linked between) h h zs other other none none path
 

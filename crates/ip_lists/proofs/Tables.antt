@@ -4,7 +4,7 @@ use Rattle.std.specs.Prelude.{Contains, slice_get, Some, ◌↔◌}
 use Rattle.std.specs.List.{range_with_len}
 use Rattle.std.proofs.lemmas.Bool.{ne_eqb, eqb-true}
 use Rattle.std.proofs.lemmas.List.Elements.{Contains-append_right}
-use Rattle.ip_lists.specs.Lists.{AreLinked, IsAlone, IsPath, IsList}
+use Rattle.ip_lists.specs.Lists.{AreInverse, IsAlone, IsPath, IsList}
 use Rattle.ip_lists.specs.Moves.{without, IsTakenOut, IsMovedTo}
 use Rattle.ip_lists.specs.Table.{IsTable, in_bucket, with_bucket}
 use Rattle.ip_lists.specs.declared.table.Table.{Table}
@@ -49,7 +49,7 @@ free_lacks n h k ages free used split =
     lists_apart ages h k free used split.list split.other_list split.apart no_k no_h
 
 pub to_table : (table : Table) (free used : List ℕ) (bucket_of : ℕ → ℕ)
-    → AreLinked table.ages.next.now table.ages.previous.now → AreLinked table.chains.next.now table.chains.previous.now
+    → AreInverse table.ages.next.now table.ages.previous.now → AreInverse table.chains.next.now table.chains.previous.now
     → AreTable table.places table.ages.next.now table.chains.next.now free used bucket_of
     → IsTable table free used bucket_of
 to_table table free used bucket_of ages_linked chains_linked is = record {
@@ -135,7 +135,7 @@ used_alone n p ages chains free used bucket_of is there alone =
     let here : Contains (in_bucket bucket_of (bucket_of p) used) p = filter_keeps (λ q. eqb (bucket_of q) (bucket_of p)) used p (eq-eqb (bucket_of p) (bucket_of p) refl) there in
     lacks_alone chains (n + bucket_of p) p (n + bucket_of p) (in_bucket bucket_of (bucket_of p) used) alone (λ e. absurd (omega arith)) (is.chained.chain (bucket_of p) exists) here
 
-pub unused_alone : (n p : ℕ) (ages chains previous free used : List ℕ) (bucket_of : ℕ → ℕ) → AreTable n ages chains free used bucket_of → AreLinked chains previous → p < n → Lacks used p → IsAlone chains previous p
+pub unused_alone : (n p : ℕ) (ages chains previous free used : List ℕ) (bucket_of : ℕ → ℕ) → AreTable n ages chains free used bucket_of → AreInverse chains previous → p < n → Lacks used p → IsAlone chains previous p
 unused_alone n p ages chains previous free used bucket_of is linked within none =
     let alone : slice_get chains p ≡ Some p = is.chained.no_chain p within none in
     (alone, linked.back p p alone)
@@ -159,7 +159,7 @@ no_bucket bucket_of b (x ∷ xs) none =
     ∙ no_bucket bucket_of b xs (λ p c. none p (has_tail x p xs c))
 
 -- All places are free.
-pub cleared : (table : Table) (bucket_of : ℕ → ℕ) → AreLinked table.ages.next.now table.ages.previous.now → AreLinked table.chains.next.now table.chains.previous.now
+pub cleared : (table : Table) (bucket_of : ℕ → ℕ) → AreInverse table.ages.next.now table.ages.previous.now → AreInverse table.chains.next.now table.chains.previous.now
     → table.places + 1 < length table.ages.next.now → table.places ≤ length table.chains.next.now
     → IsList table.ages.next.now table.places (range_with_len 0 table.places)
     → ((h : ℕ) → table.places < h → h < length table.ages.next.now → IsList table.ages.next.now h [])

@@ -10,7 +10,7 @@ use Rattle.std.proofs.lemmas.Option.{none-some, slice_get-get_or, slice_get_with
 use Rattle.std.proofs.lemmas.List.Elements.{All-nil, All-cons}
 use Rattle.std.proofs.lemmas.Map.Keys.{IsDistinct-from_apart}
 use Rattle.std.proofs.lemmas.Map.Steps.{length-le_from_distinct_below}
-use Rattle.ip_lists.specs.Lists.{AreLinked, IsPath, IsList}
+use Rattle.ip_lists.specs.Lists.{AreInverse, IsPath, IsList}
 use Rattle.ip_lists.specs.Members.{members_after}
 use Rattle.ip_lists.proofs.Lacking.{Lacks, lacks_cons}
 use Rattle.ip_lists.proofs.Paths.{start_within}
@@ -62,7 +62,7 @@ record IsWalk (next : List ℕ) (head from n : ℕ) (xs : List ℕ) : Type 0 whe
   lacks : Lacks xs head
   ends : IsPath next from xs head ⊎ (length xs ≡ n)
 
-walked : (next previous : List ℕ) → AreLinked next previous → (head from n : ℕ) → from < length next → IsWalk next head from n (members_after next head from n)
+walked : (next previous : List ℕ) → AreInverse next previous → (head from n : ℕ) → from < length next → IsWalk next head from n (members_after next head from n)
 walked next previous linked head from zero within = record { chain = tt; lacks = λ c. absurd (omega arith); ends = inr refl }
 walked next previous linked head from (suc n) within =
     let p = get_or next from 0 in
@@ -90,7 +90,7 @@ chain_at next from d (x ∷ xs) chain zero within = chain.0
 chain_at next from d (x ∷ xs) chain (suc i) within = chain_at next x d xs chain.1 i (omega arith)
 
 -- A chain that doesn't come back to its start comes back to no place.
-chain_apart : (next previous : List ℕ) → AreLinked next previous → (from d : ℕ) (xs : List ℕ) → IsChain next from xs → Lacks xs from
+chain_apart : (next previous : List ℕ) → AreInverse next previous → (from d : ℕ) (xs : List ℕ) → IsChain next from xs → Lacks xs from
     → (i j : ℕ) → i < j → j < length (from ∷ xs) → get_or (from ∷ xs) i d ≢ get_or (from ∷ xs) j d
 chain_apart next previous linked from d xs chain none zero zero less within = absurd (omega arith)
 chain_apart next previous linked from d xs chain none zero (suc j) less within =
@@ -102,7 +102,7 @@ chain_apart next previous linked from d xs chain none (suc i) (suc j) less withi
     let back_j : slice_get previous (get_or (from ∷ xs) (suc j) d) ≡ Some (get_or (from ∷ xs) j d) = linked.back _ _ (chain_at next from d xs chain j (omega arith)) in
     chain_apart next previous linked from d xs chain none i j (omega arith) (omega arith) (cc)
 
-chain_within : (next previous : List ℕ) → AreLinked next previous → (from q : ℕ) (xs : List ℕ) → from < length next → IsChain next from xs → list_any (eqb q) (from ∷ xs) ≡ true → q < length next
+chain_within : (next previous : List ℕ) → AreInverse next previous → (from q : ℕ) (xs : List ℕ) → from < length next → IsChain next from xs → list_any (eqb q) (from ∷ xs) ≡ true → q < length next
 chain_within next previous linked from q [] within chain any =
     elim (eqb_tells q from) [
       | inl same ↦ (let is : q ≡ from = same.1 in omega arith)
@@ -116,14 +116,14 @@ chain_within next previous linked from q (x ∷ xs) within chain any =
       | inr other ↦ chain_within next previous linked x q xs inside chain.1 (sym (ap (λ (t : Bool). t || list_any (eqb q) (x ∷ xs)) other.0) ∙ any)
     ]
 
-chain_few : (next previous : List ℕ) → AreLinked next previous → (from : ℕ) (xs : List ℕ) → from < length next → IsChain next from xs → Lacks xs from → length xs < length next
+chain_few : (next previous : List ℕ) → AreInverse next previous → (from : ℕ) (xs : List ℕ) → from < length next → IsChain next from xs → Lacks xs from → length xs < length next
 chain_few next previous linked from xs within chain none =
     let apart_all : IsDistinct eqb (from ∷ xs) = IsDistinct-from_apart eqb (from ∷ xs) (λ i j d less inside. ne_eqb _ _ (chain_apart next previous linked from d xs chain none i j less inside)) in
     let bound : length (from ∷ xs) ≤ length next = length-le_from_distinct_below (from ∷ xs) (length next) apart_all (λ q any. chain_within next previous linked from q xs within chain any) in
     omega arith
 
 -- In arrays that agree each place is the head of a list.
-pub has_list : (next previous : List ℕ) → AreLinked next previous → (h : ℕ) → h < length next → IsList next h (members_after next h h (length next))
+pub has_list : (next previous : List ℕ) → AreInverse next previous → (h : ℕ) → h < length next → IsList next h (members_after next h h (length next))
 has_list next previous linked h within =
     let walk = walked next previous linked h h (length next) within in
     elim walk.ends [

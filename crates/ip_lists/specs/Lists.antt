@@ -7,7 +7,7 @@ AreNeighbours next previous p q = (slice_get next p ≡ Some q) × (slice_get pr
 
 -- The arrays agree: by one of them a place comes right after another exactly if it does by the other one. So each link is
 -- to a place of the arrays.
-pub record AreLinked (next previous : List ℕ) : Type 0 where
+pub record AreInverse (next previous : List ℕ) : Type 0 where
   pub as_many : length previous ≡ length next
   pub back : (p q : ℕ) → slice_get next p ≡ Some q → slice_get previous q ≡ Some p
   pub forth : (p q : ℕ) → slice_get previous q ≡ Some p → slice_get next p ≡ Some q

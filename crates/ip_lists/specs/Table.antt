@@ -1,7 +1,7 @@
 -- A table of places, each of which is free, or in use and then in the chain of a bucket.
 use Rattle.std.specs.Prelude.{◌≡◌, ◌==◌, ℕ, ◌+◌, ◌<◌, ◌≤◌, ◌^◌, ◌↔◌, ◌⊎◌, List, [], length, Contains, if◌then◌else◌}
 use Rattle.std.specs.List.{filter}
-use Rattle.ip_lists.specs.Lists.{AreLinked, IsList}
+use Rattle.ip_lists.specs.Lists.{AreInverse, IsList}
 use Rattle.ip_lists.specs.declared.table.Table.{Table}
 
 -- those of the places that are in the bucket
@@ -23,8 +23,8 @@ HasBucket table b = table.places + b < length table.chains.next.now
 
 -- The places `free` are free, and the places `used` are in use, the oldest first, each in the chain of its bucket.
 pub record IsTable (table : Table) (free used : List ℕ) (bucket_of : ℕ → ℕ) : Type 0 where
-  pub ages_linked : AreLinked table.ages.next.now table.ages.previous.now
-  pub chains_linked : AreLinked table.chains.next.now table.chains.previous.now
+  pub ages_linked : AreInverse table.ages.next.now table.ages.previous.now
+  pub chains_linked : AreInverse table.chains.next.now table.chains.previous.now
   -- Each place is free or in use, and nothing else is.
   pub each : (p : ℕ) → (Contains free p ⊎ Contains used p) ↔ (p < table.places)
   pub free_list : IsList table.ages.next.now table.places free

@@ -23,7 +23,7 @@ pub struct Links<'m> {
 
 impl<'m> Links<'m> {
     ghost use Rattle.std.specs.Prelude.{◌≡◌, ◌≢◌, ◌↔◌, ℕ, ◌<◌, ◌≤◌, ◌^◌, ◌++◌, ◌∷◌, [], List, length, slice_get, slice_set, Some, IfSome, is_none, All, Contains, IsTrue, true, false};
-    ghost use Rattle.ip_lists.specs.Lists.{AreLinked, AreNeighbours, HasNeighbours, IsAlone, CanAppend, IsList};
+    ghost use Rattle.ip_lists.specs.Lists.{AreInverse, AreNeighbours, HasNeighbours, IsAlone, CanAppend, IsList};
     ghost use Rattle.ip_lists.specs.Members.{members_after, members_left};
 
     /// Takes each place out of its list, so that it leads to itself.
@@ -31,7 +31,7 @@ impl<'m> Links<'m> {
         requires as_many { length self.old.previous.now ≡ length self.old.next.now }
         requires few { length self.old.next.now ≤ 2 ^ 32 }
         ensures len { length self.new.next.now ≡ length self.old.next.now }
-        ensures linked { AreLinked self.new.next.now self.new.previous.now }
+        ensures linked { AreInverse self.new.next.now self.new.previous.now }
         ensures empty { (h : ℕ) → h < length self.new.next.now → IsList self.new.next.now h [] }
     {
         make_alone(self.next);
@@ -106,7 +106,7 @@ impl<'m> Links<'m> {
         ensures few { length (members_left result) ≤ length self.now.next.now }
         ensures within { All (λ p. p < length self.now.next.now) (members_left result) }
         ensures list { (xs : List ℕ) → IsList self.now.next.now head xs → members_left result ≡ xs }
-        ensures all { AreLinked self.now.next.now self.now.previous.now → head < length self.now.next.now
+        ensures all { AreInverse self.now.next.now self.now.previous.now → head < length self.now.next.now
             → IsList self.now.next.now head (members_left result) }
     {
         Members {
@@ -132,12 +132,12 @@ impl<'m> Links<'m> {
             → self.new.previous.now ≡ slice_set (slice_set self.old.previous.now b a) place place }
 
         // In arrays that agree:
-        ensures done { AreLinked self.old.next.now self.old.previous.now → place < length self.old.next.now → result ≡ true }
-        ensures linked { AreLinked self.old.next.now self.old.previous.now → AreLinked self.new.next.now self.new.previous.now }
+        ensures done { AreInverse self.old.next.now self.old.previous.now → place < length self.old.next.now → result ≡ true }
+        ensures linked { AreInverse self.old.next.now self.old.previous.now → AreInverse self.new.next.now self.new.previous.now }
         ensures alone { result ≡ true → IsAlone self.new.next.now self.new.previous.now place }
-        ensures taken { AreLinked self.old.next.now self.old.previous.now → (h : ℕ) (xs ys : List ℕ) → h ≢ place
+        ensures taken { AreInverse self.old.next.now self.old.previous.now → (h : ℕ) (xs ys : List ℕ) → h ≢ place
             → IsList self.old.next.now h (xs ++ place ∷ ys) → IsList self.new.next.now h (xs ++ ys) }
-        ensures others { AreLinked self.old.next.now self.old.previous.now → (h : ℕ) (zs : List ℕ) → h ≢ place → ¬ Contains zs place
+        ensures others { AreInverse self.old.next.now self.old.previous.now → (h : ℕ) (zs : List ℕ) → h ≢ place → ¬ Contains zs place
             → IsList self.old.next.now h zs → IsList self.new.next.now h zs }
     {
         match self.neighbours(place) {
@@ -163,14 +163,14 @@ impl<'m> Links<'m> {
             → self.new.previous.now ≡ slice_set (slice_set self.old.previous.now head place) place l }
 
         // In arrays that agree:
-        ensures done { AreLinked self.old.next.now self.old.previous.now → head < length self.old.next.now
+        ensures done { AreInverse self.old.next.now self.old.previous.now → head < length self.old.next.now
             → place ≢ head → IsAlone self.old.next.now self.old.previous.now place → result ≡ true }
-        ensures linked { AreLinked self.old.next.now self.old.previous.now → AreLinked self.new.next.now self.new.previous.now }
-        ensures appended { AreLinked self.old.next.now self.old.previous.now → result ≡ true → (xs : List ℕ)
+        ensures linked { AreInverse self.old.next.now self.old.previous.now → AreInverse self.new.next.now self.new.previous.now }
+        ensures appended { AreInverse self.old.next.now self.old.previous.now → result ≡ true → (xs : List ℕ)
             → IsList self.old.next.now head xs → IsList self.new.next.now head (xs ++ place ∷ []) }
-        ensures others { AreLinked self.old.next.now self.old.previous.now → result ≡ true → (h : ℕ) (zs : List ℕ) → h ≢ head → h ≢ place
+        ensures others { AreInverse self.old.next.now self.old.previous.now → result ≡ true → (h : ℕ) (zs : List ℕ) → h ≢ head → h ≢ place
             → ¬ Contains zs head → IsList self.old.next.now h zs → IsList self.new.next.now h zs }
-        ensures through { AreLinked self.old.next.now self.old.previous.now → result ≡ true → (h : ℕ) (xs ys : List ℕ) → h ≢ head → h ≢ place
+        ensures through { AreInverse self.old.next.now self.old.previous.now → result ≡ true → (h : ℕ) (xs ys : List ℕ) → h ≢ head → h ≢ place
             → IsList self.old.next.now h (xs ++ head ∷ ys) → IsList self.new.next.now h (xs ++ place ∷ head ∷ ys) }
     {
         match self.last_for(head, place) {

@@ -1,11 +1,11 @@
 //! Laws of lists, each proved as the contract of a call.
 ghost use Rattle.std.specs.Prelude.{◌≡◌, ◌≢◌, ℕ, ◌<◌, ◌∷◌, List, length, All, AllPairs, Contains};
-ghost use Rattle.ip_lists.specs.Lists.{AreLinked, IsAlone, IsList};
+ghost use Rattle.ip_lists.specs.Lists.{AreInverse, IsAlone, IsList};
 
 /// Proves that a place of arrays that agree is the head of one list. It has no member twice, and so has fewer members than
 /// there are places.
 pub fn each_head_has_one_list()
-    ensures some { (next previous : List ℕ) (h : ℕ) → AreLinked next previous → h < length next → (xs : List ℕ) × IsList next h xs }
+    ensures some { (next previous : List ℕ) (h : ℕ) → AreInverse next previous → h < length next → (xs : List ℕ) × IsList next h xs }
     ensures only { (next : List ℕ) (h : ℕ) (xs ys : List ℕ) → IsList next h xs → IsList next h ys → xs ≡ ys }
     ensures distinct { (next : List ℕ) (h : ℕ) (xs : List ℕ) → IsList next h xs → AllPairs (λ x y. x ≢ y) xs }
     ensures without_head { (next : List ℕ) (h : ℕ) (xs : List ℕ) → IsList next h xs → ¬ Contains xs h }

@@ -1,7 +1,7 @@
 //! A table of places that are found by their bucket and given up by their age.
 ghost use Rattle.std.specs.Prelude.{◌≡◌, ℕ, ◌+◌, ◌<◌, ◌≤◌, ◌++◌, ◌∷◌, [], ◌↔◌, List, length, Some, None, IfSome, is_none, All, Contains, true, false};
 ghost use Rattle.std.specs.List.{range_with_len};
-ghost use Rattle.ip_lists.specs.Lists.{AreLinked, IsList};
+ghost use Rattle.ip_lists.specs.Lists.{AreInverse, IsList};
 ghost use Rattle.ip_lists.specs.Members.{members_left};
 ghost use Rattle.ip_lists.specs.Table.{IsTable, HasRoom, HasBucket, AreSame, in_bucket, with_bucket};
 
@@ -34,7 +34,7 @@ pub struct Table<'m> {
 /// Returns the place that comes so many after another one, if there is such a place.
 fn head_at(next: &[u32], first: u32, number: u32) -> Option<u32>
     ensures found { IfSome result (λ h. (h ≡ first + number) × (h < length next.now)) }
-    ensures none { is_none result ≡ true → (previous : List ℕ) → AreLinked next.now previous → ¬ (first + number < length next.now) }
+    ensures none { is_none result ≡ true → (previous : List ℕ) → AreInverse next.now previous → ¬ (first + number < length next.now) }
 {
     let head = first.checked_add(number)?;
     if (head as usize) < next.len() {
@@ -83,7 +83,7 @@ impl<'m> Table<'m> {
     /// Returns the head of the chain of a bucket, if the table has the bucket.
     fn chain_head(&self, bucket: u32) -> Option<u32>
         ensures found { IfSome result (λ h. (h ≡ self.now.places + bucket) × (h < length self.now.chains.next.now)) }
-        ensures none { is_none result ≡ true → (previous : List ℕ) → AreLinked self.now.chains.next.now previous → ¬ HasBucket self.now bucket }
+        ensures none { is_none result ≡ true → (previous : List ℕ) → AreInverse self.now.chains.next.now previous → ¬ HasBucket self.now bucket }
     {
         head_at(self.chains.next, self.places, bucket)
     }
@@ -91,7 +91,7 @@ impl<'m> Table<'m> {
     /// Returns the head of the places in use.
     fn used_head(&self) -> Option<u32>
         ensures found { IfSome result (λ h. (h ≡ self.now.places + 1) × (h < length self.now.ages.next.now)) }
-        ensures none { is_none result ≡ true → (previous : List ℕ) → AreLinked self.now.ages.next.now previous
+        ensures none { is_none result ≡ true → (previous : List ℕ) → AreInverse self.now.ages.next.now previous
             → ¬ (self.now.places + 1 < length self.now.ages.next.now) }
     {
         head_at(self.ages.next, self.places, 1)

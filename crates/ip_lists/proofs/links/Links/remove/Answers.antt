@@ -1,5 +1,5 @@
 use Rattle.std.proofs.Common.{◌<◌, length, refl}
-use Rattle.ip_lists.specs.Lists.{AreLinked}
+use Rattle.ip_lists.specs.Lists.{AreInverse}
 use Rattle.ip_lists.proofs.Paths.{path_from, start_within}
 use Rattle.ip_lists.proofs.Linked.{neighbours}
 use Rattle.ip_lists.proofs.Removed.{IsBetween, between, removed_alone, removed_linked, list_without, list_stays}
@@ -20,7 +20,7 @@ returns-in-Some-clause-taken c = λ linked h xs ys other path. rw (c.rewire.ensu
 pub returns-in-Some-clause-others : goal.returns-in-Some-clause-others
 returns-in-Some-clause-others c = λ linked h zs other none path. rw (c.rewire.ensures) (list_stays _ _ _ _ _ linked (found c) h zs other none path)
 
-absent : (c : goal.In-None) → AreLinked c.args.self.now.next.now c.args.self.now.previous.now → c.args.place < length c.args.self.now.next.now → ⊥
+absent : (c : goal.In-None) → AreInverse c.args.self.now.next.now c.args.self.now.previous.now → c.args.place < length c.args.self.now.next.now → ⊥
 absent c linked within = c.in-None.ensures.none refl (neighbours _ _ _ linked within)
 
 pub returns-in-None-clause-done : goal.returns-in-None-clause-done

@@ -4,8 +4,8 @@ Each run has to end by itself, with a status that the manual has. If the status 
 by ipcap, and by Wireshark's reader, which capinfos uses, if that reads the capture. Blocks of pcapng that are neither
 packets nor of the file's structure are copied as they are.
 
-usage: fuzz.py IPCAP MINUTES SEED FOLDER. Prints the number of runs. At the first error, prints the capture, which stays in
-FOLDER, and what was wrong.
+usage: fuzz.py IPCAP MINUTES SEED FOLDER. Takes so many minutes of all processors together. Prints the number of runs. At the
+first error, prints the capture, which stays in FOLDER, and what was wrong.
 """
 
 import concurrent.futures
@@ -14,7 +14,6 @@ import random
 import struct
 import subprocess
 import sys
-import tempfile
 import time
 
 from blocks import block, interface, obsolete, option, packet, section, simple
@@ -180,7 +179,8 @@ def work(ipcap, seed, until, folder):
 
 def main():
     ipcap, minutes, seed, folder = sys.argv[1:]
-    until, count = time.monotonic() + 60 * float(minutes), os.cpu_count() or 1
+    count = len(os.sched_getaffinity(0))
+    until = time.monotonic() + 60 * float(minutes) / count
     with concurrent.futures.ProcessPoolExecutor(count) as pool:
         jobs = [pool.submit(work, ipcap, f"{seed} {it}", until, os.path.join(folder, f"worker-{it}")) for it in range(count)]
         try:

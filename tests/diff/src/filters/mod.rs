@@ -126,9 +126,9 @@ pub enum Expected {
     NetworkOrPort,
     Address,
     Ports,
-    TcpFlags,
     IcmpType,
     Icmp6Type,
+    TcpFlags,
     FewerTerms,
     LessNesting,
 }

@@ -91,7 +91,7 @@ static void put_numbers(struct writer *writer, const struct loss *loss)
     if (loss->count == loss->kept) return;
     put_text(writer, loss->kept > 0 ? " and " : "");
     put_number(writer, loss->count - loss->kept);
-    put_text(writer, " more");
+    put_text(writer, " others");
 }
 
 /* Writes the key of the packet. */

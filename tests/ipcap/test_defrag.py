@@ -509,7 +509,7 @@ def reports(harness):
         harness.equal(reported(harness, made(3, a, b, c) + [other]), [], "nothing lost")
         found = reported(harness, made(3, a, *[b] * 3000), times=[1000] * 3001)
         numbers = ", ".join(map(str, range(1, 1025)))
-        harness.equal(found, ["packets %s and 1977 more: %s: %s" % (numbers, key % 3, NOT_WHOLE)], "many")
+        harness.equal(found, ["packets %s and 1977 others: %s: %s" % (numbers, key % 3, NOT_WHOLE)], "many")
     for part, key, at in [(ipv4_part, V4_KEY, 8188), (ipv6_part, V6_KEY, 8190)]:
         found = reported(harness, [frame(part(3, at, False, data[:8])), frame(part(3, at, False, data[:7]))])
         harness.equal(found, ["packet 1: %s: refused: it makes its packet too long for its length field" % (key % 3), "packet 2: %s: %s" % (key % 3, NOT_WHOLE)], "too long")

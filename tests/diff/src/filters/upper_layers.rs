@@ -18,10 +18,15 @@ pub fn packet(random: &mut Random) -> Vec<u8> {
     packet
 }
 
-/// Makes the start of an upper-layer header, which may lack its ports, and its number.
+/// Makes the start of an upper-layer header, which may lack its ports, and its number. Often the first two bytes, the type
+/// and the code of an ICMP message, are small.
 fn upper_layer(random: &mut Random) -> (u8, Vec<u8>) {
-    let len = random.below(10);
-    (NUMBERS[random.below(NUMBERS.len())], random.bytes(len))
+    let len = random.below(20);
+    let mut bytes = random.bytes(len);
+    if random.percent(30) {
+        bytes.iter_mut().take(2).for_each(|byte| *byte %= 4);
+    }
+    (NUMBERS[random.below(NUMBERS.len())], bytes)
 }
 
 fn ipv4(random: &mut Random) -> Vec<u8> {
@@ -67,10 +72,13 @@ fn extension(next: u8, random: &mut Random) -> (u8, Vec<u8>) {
     }
 }
 
-/// Makes a header of `8 * (units + 1)` bytes.
+/// Makes a header of `8 * (units + 1)` bytes. Now and then its first option has a type that is in use.
 fn options(next: u8, units: u8, random: &mut Random) -> Vec<u8> {
     let mut bytes = vec![next, units];
     bytes.extend(random.bytes(6 + 8 * usize::from(units)));
+    if random.percent(20) {
+        bytes[2] = [0, 1, 5, 194][random.below(4)];
+    }
     bytes
 }
 

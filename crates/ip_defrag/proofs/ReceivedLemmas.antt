@@ -17,7 +17,8 @@ use Rattle.std.specs.Prelude.{Ok, Err}
 use Rattle.std.proofs.lemmas.List.{get_or-replicate, get_or_past, length-replicate}
 use Rattle.ip_defrag.specs.Refusal.{is_conflict}
 use Rattle.ip_defrag.specs.Received.{Received, received_none, with_fragment, progress_of, outcome_by, outcome_of, received_by, received_after}
-use Rattle.ip_defrag.specs.Reassembly.{Fields, AreReceived, IsNew}
+use Rattle.ip_defrag.specs.Reassembly.{Fields, AreReceived, AreZeros, HasArrived, IsNew, IsZero, is_set, state_fields}
+use Rattle.ip_defrag.specs.declared.state.ReassemblyState.{ReassemblyState}
 use Rattle.ip_defrag.proofs.FragmentLemmas.{same_among, whole_units, in_bounds, is_in_bounds, out_of_bounds, overlaps_at}
 use Rattle.ip_defrag.proofs.MemberLemmas.{any_from_member, member_sound, member_within, member_ended, member_last, ends_elsewhere, two_ends_from, one_end_from, member_one_end}
 use Rattle.ip_defrag.proofs.MarkLemmas.{HasShape, first_mark_in, later_mark_in, mark_at_in, mark_at_out, none_overlaps, unmarked, IsMarked, has_shape, member_marks, member_mark_ends, unmarked_after}
@@ -305,6 +306,24 @@ zeros n i = elim (cases_lt i n) [
 -- Bytes of 0 have no marks.
 pub no_marks : (n i : ℕ) → mark_of (replicate n 0) i ≡ 0
 no_marks n i = ap (λ (b : ℕ). b / 2 ^ (2 * (i % 4)) % 4) (zeros n (i / 4)) ∙ ap (λ (b : ℕ). b % 4) (zero-div (2 ^ (2 * (i % 4))))
+
+-- Zeros of an array, and their marks.
+pub zeros_are : (n : ℕ) → AreZeros n (replicate n 0)
+zeros_are n = (length-replicate n (let zero : ℕ = 0 in zero), λ k d less. get_or-replicate n k 0 d (omega (arith, length-replicate n (let zero : ℕ = 0 in zero), less)))
+
+marks_of_zeros : (n : ℕ) (bytes : List ℕ) (i : ℕ) → AreZeros n bytes → mark_of bytes i ≡ 0
+marks_of_zeros n bytes i zero =
+    let byte : get_or bytes (i / 4) 0 ≡ 0 = elim (cases_lt (i / 4) (length bytes)) [
+      | inl below ↦ zero.1 (i / 4) 0 below
+      | inr past ↦ get_or_past bytes (i / 4) 0 past
+    ] in
+    ap (λ (b : ℕ). b / 2 ^ (2 * (i % 4)) % 4) byte ∙ ap (λ (b : ℕ). b % 4) (zero-div (2 ^ (2 * (i % 4))))
+
+-- Nothing has arrived in a state of zeros.
+pub zero_is_new : (r : ReassemblyState) (b : List ℕ) → IsZero r → HasArrived r b (received_none (min (length b) 65535) true)
+zero_is_new r b zero =
+    let none : r.run.units * r.run.count ≡ 0 = (let e : r.run.units * r.run.count ≡ 0 * r.run.count = ap (λ (n : ℕ). n * r.run.count) zero.units in omega (arith, e)) in
+    has_nothing (state_fields r b) true (λ i. marks_of_zeros 2048 r.marks i zero.marks) none zero.reach zero.count (ap is_set zero.ended) (ap is_set zero.abandoned) (ap (λ (n : ℕ). not (is_set n)) zero.kept)
 
 -- The state of the fields says whether the payload is whole.
 pub whole_is : (r : Fields) (s : Received) → AreReceived r s → (r.is_ended && eqb r.count r.reach) ≡ is_some (payload_of s.fragments)

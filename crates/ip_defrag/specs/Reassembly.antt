@@ -1,6 +1,6 @@
 -- What the fields of a reassembly say.
 use Rattle.std.specs.Prelude.{◌≡◌, ℕ, ◌+◌, ◌*◌, ◌%◌, ◌<◌, ◌≤◌, ◌==◌, not, max, min, length, slice_index, Bool, false, List, [], ◌∷◌, Some, if◌then◌else◌}
-use Rattle.std.specs.List.{list_any}
+use Rattle.std.specs.List.{All, list_any}
 use Rattle.ip_defrag.specs.Fragment.{Fragment, end_of, is_in, overlaps, has_two_ends, is_unaligned}
 use Rattle.ip_defrag.specs.Payload.{byte_at}
 use Rattle.ip_defrag.specs.Received.{Received}
@@ -100,6 +100,25 @@ HasArrived r buffer s = AreReceived (state_fields r buffer) s
 -- The reassembly has received this.
 abbrev pub HasReceived : Reassembly → Received → Type 0
 HasReceived r s = HasArrived r.state r.buffer.now s
+
+-- the bytes of its buffer
+abbrev pub buffer_of : Reassembly → List ℕ
+buffer_of r = r.buffer.now
+
+-- These are n zeros.
+abbrev pub AreZeros : ℕ → List ℕ → Type 0
+AreZeros n bytes = (length bytes ≡ n) × All (λ byte. byte ≡ 0) bytes
+
+-- All numbers of the state are 0, as in memory whose bytes are 0.
+pub record IsZero (r : ReassemblyState) : Type 0 where
+  pub marks : AreZeros 2048 r.marks
+  pub reach : r.reach ≡ 0
+  pub count : r.count ≡ 0
+  pub ended : r.ended ≡ 0
+  pub abandoned : r.abandoned ≡ 0
+  pub kept : r.kept ≡ 0
+  pub units : r.run.units ≡ 0
+  pub fragments : r.run.count ≡ 0
 
 -- The fragment can be stored: nothing speaks against it.
 pub record IsNew (s : Received) (f : Fragment) : Type 0 where

@@ -9,8 +9,10 @@ mod run;
 mod state;
 #[cfg(test)]
 mod tests;
+mod zero_laws;
 
 pub use err::AddError;
 pub use progress::Progress;
 pub use reassembly::Reassembly;
 pub use state::ReassemblyState;
+pub use zero_laws::zeros_are_a_new_state;

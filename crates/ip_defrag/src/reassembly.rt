@@ -16,12 +16,12 @@ pub struct Reassembly<'a> {
 }
 
 impl<'a> Reassembly<'a> {
-    ghost use Rattle.std.specs.Prelude.{◌≡◌, ◌≤◌, ◌<◌, if◌then◌else◌, ℕ, [], ◌∷◌, min, length, true, false, Ok, None, Some, IfSome, slice_index};
+    ghost use Rattle.std.specs.Prelude.{◌≡◌, ◌+◌, ◌*◌, ◌≤◌, ◌<◌, ◌⊎◌, if◌then◌else◌, ℕ, [], ◌∷◌, min, length, true, false, Ok, None, Some, IfSome, OnErr, slice_index};
     ghost use Rattle.std.specs.List.{list_any};
     ghost use Rattle.std.specs.Option.{option_copied};
     ghost use Rattle.ip_defrag.specs.Fragment.{fragment_at, has_byte};
     ghost use Rattle.ip_defrag.specs.Received.{given_up, payload_in, outcome_of, received_after};
-    ghost use Rattle.ip_defrag.specs.Reassembly.{HasReceived};
+    ghost use Rattle.ip_defrag.specs.Reassembly.{HasReceived, buffer_of};
     ghost use Rattle.ip_defrag.specs.Split.{IsSplit, are_among, WasGiven};
 
     /// Returns a reassembly that has received nothing. The payload can be as long as the buffer, and at most 65,535
@@ -29,23 +29,30 @@ impl<'a> Reassembly<'a> {
     ///
     /// After a conflict, an overlap or two ends, the caller calls `abandon` (RFC 5722; RFC 8200, section 4.5).
     pub fn new(buffer: &'a mut [u8]) -> Reassembly<'a>
-        ensures { WasGiven result (min (length buffer.old) 65535) false [] }
+        ensures given { WasGiven result (min (length buffer.old) 65535) false [] }
+        ensures buffer { buffer_of result ≡ buffer.old }
     {
-        Reassembly {
-            buffer,
-            state: ReassemblyState::new(false),
-        }
+        Reassembly::begun(buffer, false)
     }
 
     /// Returns a reassembly that has received nothing, and that abandons the packet by itself after a conflict: an
     /// overlap or two ends (RFC 5722; RFC 8200, section 4.5). The payload can be as long as the buffer, and at most
     /// 65,535 bytes.
     pub fn abandoning(buffer: &'a mut [u8]) -> Reassembly<'a>
-        ensures { WasGiven result (min (length buffer.old) 65535) true [] }
+        ensures given { WasGiven result (min (length buffer.old) 65535) true [] }
+        ensures buffer { buffer_of result ≡ buffer.old }
+    {
+        Reassembly::begun(buffer, true)
+    }
+
+    /// Returns a reassembly that has received nothing, and that abandons the packet by itself or not.
+    fn begun(buffer: &'a mut [u8], abandons: bool) -> Reassembly<'a>
+        ensures given { WasGiven result (min (length buffer.old) 65535) abandons [] }
+        ensures buffer { buffer_of result ≡ buffer.old }
     {
         Reassembly {
             buffer,
-            state: ReassemblyState::new(true),
+            state: ReassemblyState::new(abandons),
         }
     }
 
@@ -64,6 +71,11 @@ impl<'a> Reassembly<'a> {
             → result ≡ outcome_of s (fragment_at offset more bytes.now) }
         ensures received { (s : _) → HasReceived self.old s
             → HasReceived self.new (received_after s (fragment_at offset more bytes.now)) }
+
+        // Only the fragment's bytes are written, and none if it is refused.
+        ensures outside { (i : ℕ) → (i < 8 * offset) ⊎ (8 * offset + length bytes.now ≤ i)
+            → slice_index (buffer_of self.new) i ≡ slice_index (buffer_of self.old) i }
+        ensures refused { OnErr result (buffer_of self.new ≡ buffer_of self.old) }
         ensures given { (limit abandons given : _) → WasGiven self.old limit abandons given
             → WasGiven self.new limit abandons (fragment_at offset more bytes.now ∷ given) }
 
@@ -99,7 +111,8 @@ impl<'a> Reassembly<'a> {
     /// Abandons the packet, as after a conflict (RFC 5722). `add` refuses every further fragment, and `payload` returns
     /// `None`, until `clear` is called.
     pub fn abandon(&mut self)
-        ensures { (s : _) → HasReceived self.old s → HasReceived self.new (given_up s) }
+        ensures received { (s : _) → HasReceived self.old s → HasReceived self.new (given_up s) }
+        ensures buffer { buffer_of self.new ≡ buffer_of self.old }
     {
         self.state.abandon();
     }
@@ -111,9 +124,11 @@ impl<'a> Reassembly<'a> {
         self.state.is_abandoned()
     }
 
-    /// Forgets all fragments, so that another packet can be reassembled in the same buffer. It isn't abandoned.
+    /// Forgets all fragments, so that another packet can be reassembled in the same buffer, whose bytes stay. It isn't
+    /// abandoned.
     pub fn clear(&mut self)
-        ensures { (s : _) → HasReceived self.old s → WasGiven self.new s.limit s.abandons [] }
+        ensures given { (s : _) → HasReceived self.old s → WasGiven self.new s.limit s.abandons [] }
+        ensures buffer { buffer_of self.new ≡ buffer_of self.old }
     {
         self.state.clear();
     }

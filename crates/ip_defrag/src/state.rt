@@ -1,5 +1,5 @@
 //! What has arrived of a payload, whose bytes are in a buffer of the caller's.
-ghost use Rattle.std.specs.Prelude.{◌≡◌, ◌%◌, ◌==◌, ◌&&◌, ◌||◌, not};
+ghost use Rattle.std.specs.Prelude.{◌≡◌, ◌%◌, ◌==◌, ◌&&◌, ◌||◌, not, false};
 ghost use Rattle.ip_defrag.specs.Reassembly.{first_mark, is_set};
 
 use crate::marks::{are_free_by, is_fragment, mark_by_run, store, unmark};
@@ -37,10 +37,11 @@ fn is_set(flag: u8) -> bool
     flag != 0
 }
 
-/// Returns a flag that is set, or not.
+/// Returns a flag that is set, or 0.
 #[inline(always)]
 fn flag_of(value: bool) -> u8
-    ensures { is_set result ≡ value }
+    ensures set { is_set result ≡ value }
+    ensures zero { value ≡ false → result ≡ 0 }
 {
     if value { 1 } else { 0 }
 }
@@ -84,14 +85,15 @@ impl ReassemblyState {
     ghost use Rattle.ip_defrag.specs.Fragment.{fragment_at, is_same};
     ghost use Rattle.ip_defrag.specs.Refusal.{refusal, is_conflict};
     ghost use Rattle.ip_defrag.specs.Received.{given_up, payload_in, received_none, with_fragment, progress_of, outcome_of, received_after};
-    ghost use Rattle.ip_defrag.specs.Reassembly.{HasArrived, IsNew, IsSound, is_set, reach_of};
+    ghost use Rattle.ip_defrag.specs.Reassembly.{HasArrived, IsNew, IsSound, IsZero, is_set, reach_of};
     ghost use Rattle.ip_defrag.specs.Marks.{mark_of};
     ghost use Rattle.ip_defrag.specs.Run.{mark_by};
 
     /// Returns a state in which nothing has arrived, of a packet that a conflict abandons or not: an overlap or two ends
     /// (RFC 5722; RFC 8200, section 4.5). The payload can be as long as the buffer, and at most 65,535 bytes.
     pub fn new(abandons: bool) -> ReassemblyState
-        ensures { (b : _) → HasArrived result b (received_none (min (length b) 65535) abandons) }
+        ensures arrived { (b : _) → HasArrived result b (received_none (min (length b) 65535) abandons) }
+        ensures zero { abandons ≡ true → IsZero result }
     {
         ReassemblyState {
             marks: [0; MARKS],
@@ -106,7 +108,8 @@ impl ReassemblyState {
 
     /// Forgets whatever the state was, so that nothing has arrived, of a packet that a conflict abandons or not.
     pub fn reset(&mut self, abandons: bool)
-        ensures { (b : _) → HasArrived self.new b (received_none (min (length b) 65535) abandons) }
+        ensures arrived { (b : _) → HasArrived self.new b (received_none (min (length b) 65535) abandons) }
+        ensures zero { abandons ≡ true → IsZero self.new }
     {
         *self = ReassemblyState::new(abandons);
     }

@@ -4,7 +4,7 @@ use Rattle.std.proofs.lemmas.Bool.{and_parts, and_from, eq-eqb, eqb-true}
 use Rattle.std.proofs.lemmas.Slice.Eq.{bytes_eq-Decides}
 use Rattle.std.specs.Str.{bytes_eq}
 use Rattle.ip_base.specs.declared.ip_number_impl.IpNumber.{IpNumber}
-use Rattle.ip_defragmenter.specs.Key.{IsKey}
+use Rattle.ip_defragmenter.specs.Key.{IsKey, same_key}
 use Rattle.ip_defragmenter.specs.Slot.{front_of, padded, slot_with}
 use Rattle.ip_defragmenter.specs.Slots.{has_key}
 use Rattle.ip_defragmenter.specs.declared.key.FragmentKey.{FragmentKey}
@@ -68,3 +68,15 @@ only_key since c d (Ipv6 a b i) (Ipv6 e f l) j k found =
     let all = and_parts (eqb l i && bytes_eq e a) (bytes_eq f b) (and_parts (eqb d c) _ found).1 in
     let first = and_parts (eqb l i) (bytes_eq e a) all.0 in
     same_ipv6 a b e f i l (sym (are_bytes e a first.1)) (sym (are_bytes f b all.1)) (sym (eqb-true l i first.0))
+
+-- Keys that are found equal are.
+pub same_keys : (j k : FragmentKey) → same_key j k ≡ true → j ≡ k
+same_keys (Ipv4 a b p i) (Ipv4 e f q l) is =
+    let parts = four_parts (eqb i l) (eqb p.0 q.0) (bytes_eq a e) (bytes_eq b f) is in
+    same_ipv4 a b e f p q i l (are_bytes a e parts.2) (are_bytes b f parts.3) (eqb-true p.0 q.0 parts.1) (eqb-true i l parts.0)
+same_keys (Ipv4 a b p i) (Ipv6 e f l) is = absurd (cc)
+same_keys (Ipv6 a b i) (Ipv4 e f q l) is = absurd (cc)
+same_keys (Ipv6 a b i) (Ipv6 e f l) is =
+    let all = and_parts (eqb i l && bytes_eq a e) (bytes_eq b f) is in
+    let first = and_parts (eqb i l) (bytes_eq a e) all.0 in
+    same_ipv6 a b e f i l (are_bytes a e first.1) (are_bytes b f all.1) (eqb-true i l first.0)

@@ -2,9 +2,11 @@ pub mod FinderLemmas
 pub mod FragmentLemmas
 pub mod HeaderLemmas
 pub mod KeyLemmas
+pub mod SlotLemmas
+pub mod SoundLemmas
 pub mod MemoryLemmas
 pub mod WholeLemmas
 pub mod PiecesLemmas
-pub mod OldestLemmas
 pub mod ReadLemmas
 pub mod SentLemmas
+pub mod PointLemmas

@@ -1,8 +1,9 @@
 -- Explicit congestion notification in fragments (RFC 3168, sections 5 and 5.3). A code point has two bits: 0 says that the
 -- sender isn't ECN-capable (Not-ECT), 1 and 2 that it is (ECT), and 3 that there is congestion (CE).
-use Rattle.std.specs.Prelude.{ℕ, ◌==◌, ◌&&◌, Bool, not, List, slice_index, slice_set, bit_or, Option, Some, None, if◌then◌else◌}
+use Rattle.std.specs.Prelude.{ℕ, ◌%◌, ◌==◌, ◌&&◌, Bool, not, List, slice_index, slice_set, bit_or, Option, Some, None, if◌then◌else◌}
 use Rattle.std.specs.List.{list_any}
 use Rattle.ip_base.specs.Ipv4Header.{version}
+use Rattle.ip_base.specs.BaseHeaderFields.{ipv4_ecn, ipv6_traffic_class}
 
 -- The sender is ECN-capable.
 abbrev pub is_capable : ℕ → Bool
@@ -20,6 +21,10 @@ is_congested points = list_any (λ point. point == 3) points
 -- the mark of congestion would be lost on a packet that isn't ECN-capable.
 abbrev pub whole_point : ℕ → List ℕ → Option ℕ
 whole_point first points = if are_mixed points then None else if is_congested points then Some 3 else Some first
+
+-- the code point of a base header
+abbrev pub point_of : List ℕ → ℕ
+point_of b = if version b == 4 then ipv4_ecn b else ipv6_traffic_class b % 4
 
 -- a base header with the code point 3: in the lowest bits of byte 1 in IPv4, in the high half of byte 1 in IPv6
 abbrev pub with_congestion : List ℕ → List ℕ

@@ -12,4 +12,5 @@ pub mod Points
 pub mod Memory
 pub mod Memories
 pub mod Added
+pub mod Sound
 pub mod Counts

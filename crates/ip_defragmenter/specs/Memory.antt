@@ -1,17 +1,17 @@
 -- What the memory of a packet holds.
 use Rattle.std.specs.List.{All}
-use Rattle.std.specs.Prelude.{◌≡◌, ℕ, ◌≤◌, Bool, true, false, map, ◌&&◌, ◌==◌, nat_lt, nat_le, max, List, [], ◌∷◌, length, take, Option, Some, None, is_some, not, Result, Ok, Err, if◌then◌else◌}
+use Rattle.std.specs.Prelude.{◌≡◌, ℕ, ◌≤◌, Bool, true, false, map, ◌&&◌, ◌==◌, nat_lt, nat_le, max, List, [], ◌∷◌, length, take, drop, Option, Some, None, is_some, not, Result, Ok, Err, if◌then◌else◌}
 use Rattle.std.specs.Option.{option_map, option_map_or, option_or}
 use Rattle.ip_defrag.specs.Fragment.{Fragment, fragment_at, end_of, is_unaligned}
 use Rattle.ip_defrag.specs.Refusal.{refusal, is_conflict}
 use Rattle.ip_defrag.specs.Payload.{payload_of}
 use Rattle.ip_defrag.specs.Received.{Received, received_none, with_fragment, payload_in}
-use Rattle.ip_defrag.specs.Reassembly.{HasArrived, is_set, reach_of}
+use Rattle.ip_defrag.specs.Reassembly.{AreZeros, HasArrived, IsZero, is_set, reach_of}
 use Rattle.ip_defrag.specs.declared.err.AddError.TheVariants.{Unaligned, TooLong, Abandoned}
 use Rattle.ip_defrag.specs.declared.progress.Progress.{Progress}
 use Rattle.ip_defrag.specs.declared.progress.Progress.TheVariants.{MoreWanted, Whole}
 use Rattle.ip_defragmenter.specs.Ecn.{are_mixed}
-use Rattle.ip_defragmenter.specs.Points.{HoldsPoints}
+use Rattle.ip_defragmenter.specs.Points.{HoldsPoints, no_points}
 use Rattle.ip_defragmenter.specs.FragmentOf.{FragmentParts}
 use Rattle.ip_defragmenter.specs.Whole.{are_headers, stated_by}
 use Rattle.ip_defragmenter.specs.declared.err.StoreError.{StoreError}
@@ -141,6 +141,39 @@ pub record HoldsStored (m : PacketMemory) (s : Stored) : Type 0 where
   pub first : first_in m ≡ s.first
   pub headers : AreHeaders s.first
   pub points : HoldsPoints m.points s.points
+
+-- All numbers of the memory are 0, as in memory whose bytes are 0.
+pub record IsZeroMemory (m : PacketMemory) : Type 0 where
+  pub state : IsZero m.state
+  pub head_len : m.head_len ≡ 0
+  pub link : m.link ≡ 0
+  pub first_here : m.first_here ≡ 0
+  pub next_header : m.next_header ≡ 0
+  pub points : m.points ≡ no_points
+  pub short_head : AreZeros 64 m.short_head
+  pub payload : AreZeros 65536 m.payload
+  pub head : AreZeros 4096 m.head
+  pub unused : AreZeros 912 m.unused
+
+-- the bytes that the memory has for the payload
+abbrev pub payload_buffer : PacketMemory → List ℕ
+payload_buffer m = m.payload
+
+-- The memory's arrays of bytes are as they were.
+pub record HasSameBytes (old new : PacketMemory) : Type 0 where
+  pub payload : new.payload ≡ old.payload
+  pub short_head : new.short_head ≡ old.short_head
+  pub head : new.head ≡ old.head
+  pub unused : new.unused ≡ old.unused
+
+-- Its arrays for headers are as they were, but for n bytes at the start of the one that has room for them.
+pub record HasSameHeads (n : ℕ) (old new : PacketMemory) : Type 0 where
+  pub short_head : drop (if nat_le n 64 then n else 0) new.short_head ≡ drop (if nat_le n 64 then n else 0) old.short_head
+  pub head : drop (if nat_le n 64 then 0 else n) new.head ≡ drop (if nat_le n 64 then 0 else n) old.head
+
+-- how many bytes of headers are stored for a fragment
+abbrev pub kept_len : FragmentParts → ℕ
+kept_len f = if f.offset == 0 then length f.headers else 0
 
 -- The memory was new, with room for so many bytes of payload, and then these fragments were added, the newest first.
 abbrev pub WasStored : PacketMemory → ℕ → List FragmentParts → Type 0

@@ -1,18 +1,18 @@
 //! Packets from their fragments.
-ghost use Rattle.std.specs.Prelude.{◌≡◌, ◌<◌, ◌≤◌, length, Ok, Err, None, Some};
+ghost use Rattle.std.specs.Prelude.{◌≡◌, ◌<◌, ◌≤◌, ℕ, List, length, Contains, Option, Ok, Err, None, Some};
 ghost use Rattle.ip_defragmenter.specs.Memory.{own_refusal};
 ghost use Rattle.ip_dissect.specs.Dissection.{dissected};
 ghost use Rattle.ip_defragmenter.specs.FragmentOf.{FragmentParts, parts_of, packet_fragment};
-ghost use Rattle.ip_defragmenter.specs.Added.{outcome_in, is_whole, freed, IsAdded, IsAddedBy, added_nothing};
-ghost use Rattle.ip_defragmenter.specs.Slots.{place_of};
+ghost use Rattle.ip_defragmenter.specs.Added.{outcome_in, is_whole, freed, free_with, used_without, IsAdded, IsAddedBy, added_nothing};
+ghost use Rattle.ip_defragmenter.specs.Slots.{HoldsPackets, IsPlaced, IsUnchanged};
+ghost use Rattle.ip_defragmenter.specs.declared.slots.Placement.{Placement as IsPlacement};
 ghost use Rattle.ip_defragmenter.specs.declared.err.FragmentError.{FragmentError};
 
 use crate::fragment::Reading;
 use crate::memory::own_refusal;
-use crate::slots::place_by;
 use crate::store::store;
 use crate::{
-    Added, DefragmenterCounts, DropReason, IpFragment, Outcome, PacketMemory, Settings, Slot,
+    Added, DefragmenterCounts, DropReason, IpFragment, Outcome, PacketMemory, Settings, SlotTable,
     StoreError,
 };
 use ip_defrag::Progress;
@@ -31,26 +31,29 @@ fn outcome_of(index: usize, stored: Result<Progress, StoreError>) -> Outcome
 
 /// Frees a slot if its packet is whole.
 #[inline(always)]
-fn free_if_whole(slots: &mut [Slot], index: usize, stored: &Result<Progress, StoreError>)
-    requires { index < length slots.old }
-    ensures { slots.new ≡ freed (is_whole stored.now) index slots.old }
+fn free_if_whole(slots: &mut SlotTable<'_>, index: usize, stored: &Result<Progress, StoreError>)
+    requires within { index < length slots.old.slots.now }
+    requires small { index < 4294967296 }
+    ensures slots { slots.new.slots.now ≡ freed (is_whole stored.now) index slots.old.slots.now }
+    ensures packets { (seed free used : List ℕ) → HoldsPackets slots.old seed free used → Contains used index
+        → HoldsPackets slots.new seed (free_with (is_whole stored.now) index free) (used_without (is_whole stored.now) index used) }
 {
     if let Ok(Progress::Whole) = stored {
-        slots[index] = Slot::free();
+        slots.release(index);
     }
 }
 
 /// Adds a fragment that arrived at this time in this context, as `defragment` does. Returns what became of it, and the packet
 /// that was given up for it.
 pub fn add_fragment(
-    slots: &mut [Slot],
+    slots: &mut SlotTable<'_>,
     memories: &mut [PacketMemory],
     settings: &Settings,
     context: u32,
     time: u64,
     fragment: &IpFragment<'_>,
 ) -> Added
-    requires { length slots.old ≡ length memories.old }
+    requires { length slots.old.slots.now ≡ length memories.old }
     ensures { IsAdded slots.old memories.old settings.now context time (parts_of fragment.now)
         slots.new memories.new result }
 {
@@ -75,21 +78,21 @@ fn nothing_added(outcome: Outcome) -> Added
 /// Adds a fragment that isn't refused by itself.
 #[inline(always)]
 fn add_sound(
-    slots: &mut [Slot],
+    slots: &mut SlotTable<'_>,
     memories: &mut [PacketMemory],
     settings: &Settings,
     context: u32,
     time: u64,
     fragment: &IpFragment<'_>,
 ) -> Added
-    requires as_many { length slots.old ≡ length memories.old }
+    requires as_many { length slots.old.slots.now ≡ length memories.old }
     requires sound { own_refusal (parts_of fragment.now) ≡ None }
     requires short { length fragment.now.bytes.now ≤ 65535 }
     requires head { fragment.now.offset ≡ 0 → length fragment.now.headers.now ≤ 4096 }
-    ensures { IsAddedBy slots.old memories.old context (parts_of fragment.now)
-        (place_of slots.old settings.now context (parts_of fragment.now).key time) slots.new memories.new result }
+    ensures { (o : Option IsPlacement) × IsPlaced slots.old settings.now context (parts_of fragment.now).key time o
+        × IsAddedBy slots.old memories.old settings.now.seed context (parts_of fragment.now) o slots.new memories.new result }
 {
-    match place_by(slots, settings, context, &fragment.key, time) {
+    match slots.place_by(settings, context, &fragment.key, time) {
         Some(found) => {
             let stored = store(memories, found.index, found.is_known, fragment);
             free_if_whole(slots, found.index, &stored);
@@ -110,18 +113,18 @@ fn add_sound(
 /// 4.5); `place` says which slot, and what a context is. A fragment that is refused by itself takes no slot. All other slots
 /// and memories stay as they are, but for the packet that was given up.
 pub fn defragment(
-    slots: &mut [Slot],
+    slots: &mut SlotTable<'_>,
     memories: &mut [PacketMemory],
     settings: &Settings,
     context: u32,
     time: u64,
     bytes: &[u8],
 ) -> Added
-    requires { length slots.old ≡ length memories.old }
+    requires { length slots.old.slots.now ≡ length memories.old }
     ensures not_fragment { packet_fragment (dissected bytes.now) ≡ Ok None
-        → (result ≡ added_nothing Outcome.NotFragment) × (slots.new ≡ slots.old) × (memories.new ≡ memories.old) }
+        → (result ≡ added_nothing Outcome.NotFragment) × IsUnchanged slots.old slots.new × (memories.new ≡ memories.old) }
     ensures unusable { (e : FragmentError) → packet_fragment (dissected bytes.now) ≡ Err e
-        → (result ≡ added_nothing (Outcome.Dropped (DropReason.Unusable e))) × (slots.new ≡ slots.old) × (memories.new ≡ memories.old) }
+        → (result ≡ added_nothing (Outcome.Dropped (DropReason.Unusable e))) × IsUnchanged slots.old slots.new × (memories.new ≡ memories.old) }
     ensures added { (f : FragmentParts) → packet_fragment (dissected bytes.now) ≡ Ok (Some f)
         → IsAdded slots.old memories.old settings.now context time f slots.new memories.new result }
 {
@@ -138,10 +141,11 @@ pub fn defragment(
 ///
 /// A slot that isn't free has the key of a packet which isn't whole yet, and the time of its first fragment. The memory with
 /// the slot's index has the packet's fragments.
+#[repr(C)]
 #[derive(Drop)]
 pub struct Defragmenter<'m> {
-    /// The slots, free at first.
-    pub slots: &'m mut [Slot],
+    /// The slots.
+    pub slots: SlotTable<'m>,
     /// The memory of each slot.
     pub memories: &'m mut [PacketMemory],
     /// What became of the packets that were added.
@@ -151,32 +155,53 @@ pub struct Defragmenter<'m> {
 }
 
 impl<'m> Defragmenter<'m> {
-    ghost use Rattle.std.specs.Prelude.{◌≡◌, length, Ok, Err, None, Some};
+    ghost use Rattle.std.specs.Prelude.{◌≡◌, ◌↔◌, ℕ, List, [], length, IsTrue, if◌then◌else◌, true, false, Ok, Err, None, Some};
+    ghost use Rattle.std.specs.List.{range_with_len};
     ghost use Rattle.ip_dissect.specs.Dissection.{dissected};
     ghost use Rattle.ip_defragmenter.specs.FragmentOf.{FragmentParts, packet_fragment};
     ghost use Rattle.ip_defragmenter.specs.Added.{IsAdded, added_nothing};
-    ghost use Rattle.ip_defragmenter.specs.Counts.{counted};
+    ghost use Rattle.ip_defragmenter.specs.Slots.{HoldsPackets, HasRoomForSlots, IsUnchanged};
+    ghost use Rattle.ip_defragmenter.specs.Counts.{counted, no_counts};
     ghost use Rattle.ip_defragmenter.specs.declared.err.FragmentError.{FragmentError};
+
+    /// Frees all slots and sets the counts to 0, whatever the memory contains. Returns false, and changes nothing, if the
+    /// slots' table has no room for them, as `SlotTable::clear` says.
+    pub fn clear(&mut self) -> bool
+        ensures room { IsTrue result ↔ HasRoomForSlots self.old.slots }
+        ensures cleared { result ≡ true → (seed : List ℕ)
+            → HoldsPackets self.new.slots seed (range_with_len 0 (length self.old.slots.slots.now)) [] }
+        ensures len { length self.new.slots.slots.now ≡ length self.old.slots.slots.now }
+        ensures counts { self.new.counts.now ≡ (if result then no_counts else self.old.counts.now) }
+        ensures memories { self.new.memories.now ≡ self.old.memories.now }
+        ensures settings { self.new.settings ≡ self.old.settings }
+        ensures refused { result ≡ false → IsUnchanged self.old.slots self.new.slots }
+    {
+        let is_cleared = self.slots.clear();
+        if is_cleared {
+            *self.counts = DefragmenterCounts::new();
+        }
+        is_cleared
+    }
 
     /// Adds the packet at the start of `bytes`, which arrived at this time in this context, in nanoseconds since any moment, as
     /// `defragment` does. Counts what became of it, and the packet that was given up for it.
     #[inline(always)]
     pub fn add(&mut self, context: u32, time: u64, bytes: &[u8]) -> Added
-        requires { length self.old.slots.now ≡ length self.old.memories.now }
+        requires { length self.old.slots.slots.now ≡ length self.old.memories.now }
         ensures not_fragment { packet_fragment (dissected bytes.now) ≡ Ok None
             → (result ≡ added_nothing Outcome.NotFragment)
-            × (self.new.slots.now ≡ self.old.slots.now) × (self.new.memories.now ≡ self.old.memories.now) }
+            × IsUnchanged self.old.slots self.new.slots × (self.new.memories.now ≡ self.old.memories.now) }
         ensures unusable { (e : FragmentError) → packet_fragment (dissected bytes.now) ≡ Err e
             → (result ≡ added_nothing (Outcome.Dropped (DropReason.Unusable e)))
-            × (self.new.slots.now ≡ self.old.slots.now) × (self.new.memories.now ≡ self.old.memories.now) }
+            × IsUnchanged self.old.slots self.new.slots × (self.new.memories.now ≡ self.old.memories.now) }
         ensures added { (f : FragmentParts) → packet_fragment (dissected bytes.now) ≡ Ok (Some f)
-            → IsAdded self.old.slots.now self.old.memories.now self.old.settings context time f
-            self.new.slots.now self.new.memories.now result }
+            → IsAdded self.old.slots self.old.memories.now self.old.settings context time f
+            self.new.slots self.new.memories.now result }
         ensures counts { self.new.counts.now ≡ counted self.old.counts.now result }
         ensures settings { self.new.settings ≡ self.old.settings }
     {
         let added = defragment(
-            self.slots,
+            &mut self.slots,
             self.memories,
             &self.settings,
             context,

@@ -1,7 +1,7 @@
 //! What all fragments of a packet have in common.
 
 ghost use Rattle.std.specs.Prelude.{◌≡◌, ◌<◌, ◌+◌, ◌*◌, length};
-ghost use Rattle.ip_defragmenter.specs.Key.{hash_of, word_at, long_at};
+ghost use Rattle.ip_defragmenter.specs.Key.{IsKey, hash_of, word_at, long_at};
 
 use crate::siphash::sip_hash;
 use ip_base::IpNumber;
@@ -58,7 +58,8 @@ fn joined(high: u32, low: u32) -> u64
 #[inline(always)]
 fn long_at(bytes: &[u8; 16], index: usize) -> u64
     requires { index < 9 }
-    ensures { result ≡ long_at bytes.now index }
+    ensures long { result ≡ long_at bytes.now index }
+    ensures len { length bytes.now ≡ 16 }
 {
     joined(word_at(bytes, index), word_at(bytes, index + 4))
 }
@@ -75,7 +76,8 @@ impl FragmentKey {
     /// Returns the hash of the key in a context, by a seed that only the caller knows.
     #[inline(always)]
     pub(crate) fn hash(&self, seed: &[u64; 2], context: u32) -> u64
-        ensures { result ≡ hash_of seed.now context self.now }
+        ensures hash { result ≡ hash_of seed.now context self.now }
+        ensures key { IsKey self.now }
     {
         match self {
             FragmentKey::Ipv4 {

@@ -1,12 +1,15 @@
 //! Fragments of IP packets, and the packets that they make whole.
 #![tactic(auto)]
 
+mod codes;
 mod counts;
 mod defragmenter;
 mod err;
 mod fields;
 mod finder;
 mod fragment;
+#[cfg(test)]
+mod hash_tests;
 mod key;
 mod memory;
 mod outcome;
@@ -22,6 +25,7 @@ mod store;
 #[cfg(test)]
 mod tests;
 mod whole;
+mod zero_laws;
 
 pub use counts::DefragmenterCounts;
 pub use defragmenter::{Defragmenter, add_fragment, defragment};
@@ -32,9 +36,13 @@ pub use key::FragmentKey;
 pub use memory::PacketMemory;
 pub use outcome::{Added, DropReason, Outcome};
 pub use pending::{Loss, LossReason, Pending};
-pub use sent_laws::whole_packet_is_the_one_sent;
+pub use sent_laws::{whole_packet_is_the_one_sent, whole_packets_have_their_code_point};
 pub use settings::{DEFAULT_TIMEOUT, Settings};
 pub use slot::Slot;
-pub use slot_laws::slots_are_found_by_their_keys;
-pub use slots::{Placement, give_up, place};
+pub use slot_laws::{
+    memories_have_fragments_of_their_packets, packets_are_given_up_for_a_reason,
+    packets_expire_by_their_age, slots_are_found_by_their_keys, slots_in_use_are_found,
+};
+pub use slots::{Placement, SlotTable};
 pub use whole::write_packet;
+pub use zero_laws::zeros_are_a_new_memory;

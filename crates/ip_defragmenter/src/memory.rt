@@ -20,6 +20,9 @@ const SHORT_HEAD: usize = 64;
 /// How long a payload can be, in bytes; one byte more than the longest one.
 const PAYLOAD: usize = 65536;
 
+/// How many bytes are missing to a multiple of 1,024.
+const UNUSED: usize = 912;
+
 /// The fragments of one packet: the headers of the first fragment, of at most 4,096 bytes, and the payload.
 ///
 /// It consists of numbers alone, so that it can lie in memory of other languages. If all of them are 0, there are no
@@ -28,7 +31,8 @@ const PAYLOAD: usize = 65536;
 #[derive(Drop)]
 pub struct PacketMemory {
     /// What has arrived of the payload. Its last bytes, all fields up to the payload and the payload's first ones are in
-    /// one page of memory or two: a short packet needs no others.
+    /// one page of memory or two: a short packet needs no others, nor does one of two fragments of 1,500 bytes, if the
+    /// memory begins at a multiple of 1,024.
     state: ReassemblyState,
     /// The length in bytes of the headers of the first fragment.
     head_len: usize,
@@ -46,6 +50,9 @@ pub struct PacketMemory {
     payload: [u8; 65536],
     /// Longer headers of the first fragment, at the start.
     head: [u8; 4096],
+    /// What fills the memory up to a multiple of 1,024 bytes. With whole pages, the fields of all packets would be in the
+    /// same few lines of a cache.
+    unused: [u8; 912],
 }
 
 /// Returns the end of a fragment in the payload, in bytes.
@@ -103,7 +110,7 @@ pub(crate) fn own_refusal(fragment: &IpFragment<'_>) -> Option<StoreError>
 }
 
 impl PacketMemory {
-    ghost use Rattle.std.specs.Prelude.{is_some, ◌≡◌, ◌+◌, ◌*◌, ◌++◌, ◌≤◌, ◌==◌, ◌||◌, ℕ, List, [], ◌∷◌, length, max, true, false, None, Some, Ok, OnOk, OnErr, IfOk, IfSome, drop, if◌then◌else◌};
+    ghost use Rattle.std.specs.Prelude.{is_some, slice_index, ◌≡◌, ◌+◌, ◌*◌, ◌++◌, ◌<◌, ◌≤◌, ◌==◌, ◌||◌, ◌⊎◌, ℕ, List, [], ◌∷◌, length, max, true, false, None, Some, Ok, OnOk, OnErr, IfOk, IfSome, drop, if◌then◌else◌};
     ghost use Rattle.std.specs.List.{list_any};
     ghost use Rattle.std.specs.Result.{result_err, is_ok};
     ghost use Rattle.ip_defrag.specs.Fragment.{Fragment, end_of};
@@ -113,12 +120,13 @@ impl PacketMemory {
     ghost use Rattle.ip_defragmenter.specs.Ecn.{is_congested, marked};
     ghost use Rattle.ip_defragmenter.specs.Points.{HoldsPoints};
     ghost use Rattle.ip_defragmenter.specs.FragmentOf.{FragmentParts, parts_of};
-    ghost use Rattle.ip_defragmenter.specs.Memory.{HoldsStored, WasStored, FirstParts, IsWritable, AreJoinable, pieces_of, points_of, stored_all, kept_headers, first_in, first_of, first_after, exceeds, own_refusal, piece_of, refusal_after, stored_none, stored_outcome, stored_after, outcome_by, stored_by};
+    ghost use Rattle.ip_defragmenter.specs.Memory.{HasSameBytes, HasSameHeads, HoldsStored, IsZeroMemory, WasStored, FirstParts, kept_len, payload_buffer, IsWritable, AreJoinable, pieces_of, points_of, stored_all, kept_headers, first_in, first_of, first_after, exceeds, own_refusal, piece_of, refusal_after, stored_none, stored_outcome, stored_after, outcome_by, stored_by};
     ghost use Rattle.ip_defragmenter.specs.Whole.{whole_packet, whole_fault};
 
     /// Returns a memory without fragments.
     pub fn new() -> PacketMemory
-        ensures { HoldsStored result (stored_none 65535) }
+        ensures stored { HoldsStored result (stored_none 65535) }
+        ensures zero { IsZeroMemory result }
     {
         PacketMemory {
             state: ReassemblyState::new(true),
@@ -130,22 +138,26 @@ impl PacketMemory {
             short_head: [0; SHORT_HEAD],
             payload: [0; PAYLOAD],
             head: [0; HEAD],
+            unused: [0; UNUSED],
         }
     }
 
-    /// Forgets whatever the memory was, so that there are no fragments.
+    /// Forgets whatever the memory was, so that there are no fragments. The bytes of headers and payload
+    /// stay.
     pub fn reset(&mut self)
-        ensures { HoldsStored self.new (stored_none 65535) }
+        ensures stored { HoldsStored self.new (stored_none 65535) }
+        ensures bytes { HasSameBytes self.old self.new }
     {
         self.forget_headers();
         self.state.reset(true);
     }
 
-    /// Forgets all fragments.
+    /// Forgets all fragments. The bytes of headers and payload stay.
     pub fn clear(&mut self)
         ensures stored { (s : _) → HoldsStored self.old s
             → HoldsStored self.new (stored_none s.payload.limit) }
         ensures first { first_in self.new ≡ None }
+        ensures bytes { HasSameBytes self.old self.new }
     {
         self.forget_headers();
         self.state.clear();
@@ -157,7 +169,7 @@ impl PacketMemory {
         ensures first { first_in self.new ≡ None }
         ensures points { HoldsPoints self.new.points [] }
         ensures state { self.new.state ≡ self.old.state }
-        ensures payload { self.new.payload ≡ self.old.payload }
+        ensures bytes { HasSameBytes self.old self.new }
     {
         self.first_here = 0;
         self.points = no_points();
@@ -177,6 +189,12 @@ impl PacketMemory {
             → HoldsStored self.new (stored_after s (parts_of fragment.now)) }
         ensures first { first_in self.new ≡ (if is_ok result
             then first_after (first_in self.old) (parts_of fragment.now) else first_in self.old) }
+
+        // Only the fragment's bytes are written, and the headers of a first one; nothing if it is refused.
+        ensures outside { (i : ℕ) → (i < 8 * fragment.now.offset) ⊎ (8 * fragment.now.offset + length fragment.now.bytes.now ≤ i)
+            → slice_index (payload_buffer self.new) i ≡ slice_index (payload_buffer self.old) i }
+        ensures heads { HasSameHeads (kept_len (parts_of fragment.now)) self.old self.new }
+        ensures refused { OnErr result (HasSameBytes self.old self.new) }
 
         // A whole packet can be written.
         ensures whole { (s : _) → HoldsStored self.old s → result ≡ Ok Progress.Whole
@@ -208,6 +226,10 @@ impl PacketMemory {
             (stored_by s (parts_of fragment.now) (refusal_after s (parts_of fragment.now))) }
         ensures first { first_in self.new ≡ (if is_ok result
             then first_after (first_in self.old) (parts_of fragment.now) else first_in self.old) }
+        ensures outside { (i : ℕ) → (i < 8 * fragment.now.offset) ⊎ (8 * fragment.now.offset + length fragment.now.bytes.now ≤ i)
+            → slice_index (payload_buffer self.new) i ≡ slice_index (payload_buffer self.old) i }
+        ensures heads { HasSameHeads (kept_len (parts_of fragment.now)) self.old self.new }
+        ensures refused { OnErr result (HasSameBytes self.old self.new) }
     {
         if self.state.is_abandoned() {
             return Err(StoreError::Payload(AddError::Abandoned));
@@ -269,6 +291,7 @@ impl PacketMemory {
             → HoldsPoints self.new.points (fragment.now.ecn ∷ ps) }
         ensures state { self.new.state ≡ self.old.state }
         ensures payload { self.new.payload ≡ self.old.payload }
+        ensures heads { HasSameHeads (kept_len (parts_of fragment.now)) self.old self.new }
     {
         if fragment.offset.value() == 0 && !self.has_first() {
             self.keep_first(fragment);
@@ -294,6 +317,7 @@ impl PacketMemory {
         ensures state { self.new.state ≡ self.old.state }
         ensures payload { self.new.payload ≡ self.old.payload }
         ensures points { self.new.points ≡ self.old.points }
+        ensures heads { HasSameHeads (length headers.now) self.old self.new }
     {
         self.head_len = headers.len();
         if headers.len() <= SHORT_HEAD {
@@ -323,6 +347,7 @@ impl PacketMemory {
         ensures state { self.new.state ≡ self.old.state }
         ensures payload { self.new.payload ≡ self.old.payload }
         ensures points { self.new.points ≡ self.old.points }
+        ensures heads { HasSameHeads (length fragment.now.headers.now) self.old self.new }
     {
         self.keep_headers(fragment.headers);
         self.first_here = 1;

@@ -1,6 +1,7 @@
 //! Packets of which fragments have arrived.
 
 use crate::FragmentKey;
+use thiserror::Error;
 
 /// A packet that isn't whole yet.
 #[derive(Clone, Copy, Debug, PartialEq, Eq)]
@@ -25,10 +26,12 @@ pub struct Loss {
 }
 
 /// Why a packet was given up.
-#[derive(Clone, Copy, Debug, PartialEq, Eq)]
+#[derive(Clone, Copy, Debug, PartialEq, Eq, Error)]
 pub enum LossReason {
     /// It wasn't whole in time after its first fragment (RFC 8200, section 4.5).
+    #[error("the packet was not whole in time")]
     TimedOut,
     /// All slots were in use, and it was the oldest.
+    #[error("all slots were in use, and the packet was the oldest")]
     Displaced,
 }

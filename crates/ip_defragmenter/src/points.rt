@@ -1,7 +1,7 @@
 //! The ECN code points of a packet's fragments.
 ghost use Rattle.std.specs.Prelude.{◌≡◌, ◌∷◌, [], List, ℕ};
 ghost use Rattle.ip_defragmenter.specs.Ecn.{are_mixed, is_congested};
-ghost use Rattle.ip_defragmenter.specs.Points.{HoldsPoints};
+ghost use Rattle.ip_defragmenter.specs.Points.{HoldsPoints, no_points};
 
 /// Which ECN code points the fragments of a packet have (RFC 3168, section 5): numbers alone, with C's layout, all 0 at first.
 #[repr(C)]
@@ -18,7 +18,8 @@ pub(crate) struct Points {
 /// Returns those of no fragments.
 #[inline(always)]
 pub(crate) fn no_points() -> Points
-    ensures { HoldsPoints result [] }
+    ensures none { HoldsPoints result [] }
+    ensures zero { result ≡ no_points }
 {
     Points {
         incapable: 0,

@@ -1,7 +1,7 @@
 //! Slots of packets.
 ghost use Rattle.std.specs.Prelude.{◌≡◌, ◌<◌, length, Some, true};
-ghost use Rattle.ip_defragmenter.specs.Slots.{has_key, since_of};
-ghost use Rattle.ip_defragmenter.specs.Slot.{pending_in, is_free, free_slot, slot_with, front_of, padded};
+ghost use Rattle.ip_defragmenter.specs.Slots.{has_key};
+ghost use Rattle.ip_defragmenter.specs.Slot.{pending_in, free_slot, slot_with, front_of, padded};
 
 use crate::{FragmentKey, Pending};
 use ip_base::IpNumber;
@@ -86,22 +86,6 @@ impl Slot {
             key,
             since: self.since,
         })
-    }
-
-    /// Returns whether the slot is free.
-    #[inline(always)]
-    pub(crate) fn is_free(&self) -> bool
-        ensures { result ≡ is_free self.now }
-    {
-        self.version != 4 && self.version != 6
-    }
-
-    /// Returns when the first fragment of its packet arrived, or 0 if the slot is free.
-    #[inline(always)]
-    pub(crate) fn since(&self) -> u64
-        ensures { result ≡ since_of self.now }
-    {
-        if self.is_free() { 0 } else { self.since }
     }
 
     /// Returns whether the slot is that of the packet with this key in this context. Compares the identification first, which

@@ -2,11 +2,12 @@
 //! RFC 8200.
 use crate::{
     Added, Defragmenter, DefragmenterCounts, DropReason, FragmentError, FragmentKey, Loss,
-    LossReason, Outcome, PacketMemory, Pending, Settings, Slot, StoreError, WholeError, defragment,
-    give_up, place, write_packet,
+    LossReason, Outcome, PacketMemory, Pending, Settings, Slot, SlotTable, StoreError, WholeError,
+    defragment, write_packet,
 };
 use ip_base::{IpNumber, ip_number};
 use ip_defrag::AddError;
+use ip_lists::{Links, Table};
 use std::process::Abort;
 use std::test::Fail;
 
@@ -166,17 +167,49 @@ fn losing(time: u64, packet: Changed, identification: u32, reason: LossReason) -
     }
 }
 
+/// How many links each array of a table has in these tests. Before the table is cleared, they are any numbers.
+const LINKS: usize = 700;
+
+/// Returns a table of slots, as many as places, which is to be cleared.
+fn table_of<'m>(
+    slots: &'m mut [Slot],
+    places: u32,
+    ages: Links<'m>,
+    chains: Links<'m>,
+) -> SlotTable<'m> {
+    SlotTable {
+        slots,
+        table: Table {
+            places,
+            ages,
+            chains,
+        },
+    }
+}
+
 /// Adds packets to two slots, and compares what becomes of them, and each whole packet, with what is wanted.
 fn assert_rows(rt: &impl Abort, rows: &[Row], wholes: &[&[u8]]) -> Result<(), Fail> {
     let mut slots = [Slot::free(); 2];
+    let (mut next, mut previous) = ([7; LINKS], [1; LINKS]);
+    let (mut chain_next, mut chain_previous) = ([0; LINKS], [5; LINKS]);
+    let ages = Links {
+        next: &mut next,
+        previous: &mut previous,
+    };
+    let chains = Links {
+        next: &mut chain_next,
+        previous: &mut chain_previous,
+    };
     let mut memories = [PacketMemory::new(), PacketMemory::new()];
     let mut counts = DefragmenterCounts::new();
+    counts.outcomes = [9; 14];
     let mut defragmenter = Defragmenter {
-        slots: &mut slots,
+        slots: table_of(&mut slots, 2, ages, chains),
         memories: &mut memories,
         counts: &mut counts,
         settings: Settings::new([12_345, 67_890]),
     };
+    assert!(rt; defragmenter.clear());
     assert_added(rt, &mut defragmenter, rows, wholes)?;
     assert_counts(rt, &counts, rows, wholes.len());
     Ok(())
@@ -191,7 +224,7 @@ fn assert_added(
 ) -> Result<(), Fail> {
     let mut count = 0usize;
     for row in rows {
-        assert!(rt; defragmenter.slots.len() == defragmenter.memories.len());
+        assert!(rt; defragmenter.slots.slots.len() == defragmenter.memories.len());
         let added = defragmenter.add(row.context, row.time, row.packet.bytes());
         assert_same(rt, added, row);
         if let Outcome::Whole(index) = added.outcome {
@@ -326,37 +359,56 @@ fn sixty_seconds(rt: HostRuntime) -> Result<(), Fail> {
             LossReason::TimedOut,
         ),
         keeping(end + 2, copy_of(&IPV6_0), MoreWanted),
-        keeping(end + 3, copy_of(&IPV6_1), Whole(0)),
+        keeping(end + 3, copy_of(&IPV6_1), Whole(1)),
     ];
     assert_rows(&rt, &rows, &[&WHOLE_IPV6, &WHOLE_IPV6])
 }
 
 #[test]
+fn a_packet_of_time_0_expires(rt: HostRuntime) -> Result<(), Fail> {
+    use Outcome::{MoreWanted, Whole};
+    let rows = [
+        keeping(0, copy_of(&IPV6_0), MoreWanted),
+        keeping(60 * SECOND, copy_of(&IPV6_1), MoreWanted),
+        losing(
+            60 * SECOND + 1,
+            copy_of(&IPV6_2),
+            IDENTIFICATION,
+            LossReason::TimedOut,
+        ),
+        keeping(60 * SECOND + 2, copy_of(&IPV6_0), MoreWanted),
+        keeping(60 * SECOND + 3, copy_of(&IPV6_1), Whole(0)),
+    ];
+    assert_rows(&rt, &rows, &[&WHOLE_IPV6])
+}
+
+#[test]
 fn all_slots_in_use(rt: HostRuntime) -> Result<(), Fail> {
     use Outcome::{MoreWanted, Whole};
+    // Packet 1 has been in its slot longest, though the time of packet 2 is an earlier one.
     let rows = [
         keeping(5, ipv6_other(&IPV6_0, 1), MoreWanted),
         keeping(4, ipv6_other(&IPV6_0, 2), MoreWanted),
         losing(
             6,
             ipv6_other(&IPV6_0, 3),
-            0xa1b2_c302,
-            LossReason::Displaced,
-        ),
-        keeping(7, ipv6_other(&IPV6_1, 1), MoreWanted),
-        losing(
-            8,
-            ipv6_other(&IPV6_1, 2),
             0xa1b2_c301,
             LossReason::Displaced,
         ),
+        keeping(7, ipv6_other(&IPV6_1, 2), MoreWanted),
+        losing(
+            8,
+            ipv6_other(&IPV6_1, 1),
+            0xa1b2_c302,
+            LossReason::Displaced,
+        ),
         keeping(9, ipv6_other(&IPV6_1, 3), MoreWanted),
-        keeping(10, ipv6_other(&IPV6_2, 3), Whole(1)),
+        keeping(10, ipv6_other(&IPV6_2, 3), Whole(0)),
         keeping(11, ipv6_other(&IPV6_0, 4), MoreWanted),
         losing(
             8 + 60 * SECOND + 1,
             ipv6_other(&IPV6_0, 5),
-            0xa1b2_c302,
+            0xa1b2_c301,
             LossReason::TimedOut,
         ),
     ];
@@ -445,7 +497,7 @@ fn overlaps_and_repetitions(rt: HostRuntime) -> Result<(), Fail> {
         keeping(60 * SECOND + 3, copy_of(&IPV6_0), Whole(0)),
         keeping(60 * SECOND + 4, copy_of(&IPV6_0), MoreWanted),
         keeping(60 * SECOND + 5, copy_of(&IPV6_1), MoreWanted),
-        keeping(60 * SECOND + 6, copy_of(&IPV6_2), Whole(0)),
+        keeping(60 * SECOND + 6, copy_of(&IPV6_2), Whole(1)),
     ];
     assert_rows(&rt, &rows, &[&WHOLE_IPV6, &WHOLE_IPV6])
 }
@@ -473,15 +525,27 @@ fn with_options(len: u8) -> Result<[u8; 4160], Fail> {
 }
 
 /// Returns what becomes of a packet that is added first, and counts it.
-fn first_outcome(packet: &[u8], counts: &mut DefragmenterCounts) -> Outcome {
+fn first_outcome(rt: &impl Abort, packet: &[u8], counts: &mut DefragmenterCounts) -> Outcome {
     let mut slots = [Slot::free(); 1];
+    let (mut next, mut previous) = ([7; LINKS], [1; LINKS]);
+    let (mut chain_next, mut chain_previous) = ([0; LINKS], [5; LINKS]);
+    let ages = Links {
+        next: &mut next,
+        previous: &mut previous,
+    };
+    let chains = Links {
+        next: &mut chain_next,
+        previous: &mut chain_previous,
+    };
     let mut memories = [PacketMemory::new()];
     let mut defragmenter = Defragmenter {
-        slots: &mut slots,
+        slots: table_of(&mut slots, 1, ages, chains),
         memories: &mut memories,
         counts,
         settings: Settings::new([0, 0]),
     };
+    assert!(rt; defragmenter.slots.clear());
+    assert!(rt; defragmenter.slots.slots.len() == defragmenter.memories.len());
     defragmenter.add(0, 0, packet).outcome
 }
 
@@ -491,22 +555,45 @@ fn headers_that_are_too_long(rt: HostRuntime) -> Result<(), Fail> {
     let too_long = Dropped(DropReason::Refused(StoreError::HeadersTooLong));
     let mut counts = DefragmenterCounts::new();
     // 40, 2,048 and 2,008 bytes are 4,096; eight more are too many.
-    assert!(rt; first_outcome(&with_options(251)?, &mut counts) == too_long);
-    assert!(rt; first_outcome(&with_options(250)?, &mut counts) == MoreWanted);
+    assert!(rt; first_outcome(&rt, &with_options(251)?, &mut counts) == too_long);
+    assert!(rt; first_outcome(&rt, &with_options(250)?, &mut counts) == MoreWanted);
     assert!(rt; counts.outcomes == [0, 1, 0, 0, 0, 0, 0, 0, 0, 0, 0, 1, 0, 0]);
     Ok(())
+}
+
+/// Adds a packet of context 0 to a table whose memories are as many as its slots.
+fn add(
+    rt: &impl Abort,
+    table: &mut SlotTable<'_>,
+    memories: &mut [PacketMemory],
+    time: u64,
+    packet: &[u8],
+) -> Added {
+    assert!(rt; table.slots.len() == memories.len());
+    defragment(table, memories, &Settings::new([1, 2]), 0, time, packet)
 }
 
 #[test]
 fn memory_of_any_numbers(rt: HostRuntime) -> Result<(), Fail> {
     let mut memories = [PacketMemory::new()];
     let mut slots = [Slot::free(); 1];
-    let settings = Settings::new([1, 2]);
-    assert!(rt; defragment(&mut slots, &mut memories, &settings, 0, 0, &IPV4_0).slot == Some(0));
+    let (mut next, mut previous) = ([7; LINKS], [1; LINKS]);
+    let (mut chain_next, mut chain_previous) = ([0; LINKS], [5; LINKS]);
+    let ages = Links {
+        next: &mut next,
+        previous: &mut previous,
+    };
+    let chains = Links {
+        next: &mut chain_next,
+        previous: &mut chain_previous,
+    };
+    let mut table = table_of(&mut slots, 1, ages, chains);
+    assert!(rt; table.clear());
+    assert!(rt; add(&rt, &mut table, &mut memories, 0, &IPV4_0).slot == Some(0));
     memories[0].reset();
-    let second = defragment(&mut slots, &mut memories, &settings, 0, 1, &IPV4_1);
+    let second = add(&rt, &mut table, &mut memories, 1, &IPV4_1);
     assert!(rt; second.outcome == Outcome::MoreWanted);
-    let third = defragment(&mut slots, &mut memories, &settings, 0, 2, &IPV4_0);
+    let third = add(&rt, &mut table, &mut memories, 2, &IPV4_0);
     assert!(rt; third.outcome == Outcome::Whole(0));
     assert_whole(&rt, &memories[0], &WHOLE_IPV4)
 }
@@ -539,26 +626,225 @@ fn longest_packets(rt: HostRuntime) -> Result<(), Fail> {
 #[test]
 fn slots_are_given_up(rt: HostRuntime) -> Result<(), Fail> {
     let mut slots = [Slot::free(); 1];
+    let (mut next, mut previous) = ([7; LINKS], [1; LINKS]);
+    let (mut chain_next, mut chain_previous) = ([0; LINKS], [5; LINKS]);
+    let ages = Links {
+        next: &mut next,
+        previous: &mut previous,
+    };
+    let chains = Links {
+        next: &mut chain_next,
+        previous: &mut chain_previous,
+    };
+    let mut table = table_of(&mut slots, 1, ages, chains);
+    assert!(rt; table.clear());
     let settings = Settings::new([1, 2]);
-    let placed = place(&mut slots, &settings, 7, ipv6_key(1), 5).ok_or("the slot")?;
+    let placed = table.place(&settings, 7, ipv6_key(1), 5).ok_or("the slot")?;
     assert!(rt; placed.index == 0 && !placed.is_known);
     let pending = Pending {
         context: 7,
         key: ipv6_key(1),
         since: 5,
     };
-    let slot = &mut slots[0];
     let minute = 60 * SECOND;
-    assert!(rt; give_up(slot, minute, 5 + minute).is_none() && slot.pending() == Some(pending));
+    assert!(rt; table.give_up(0, minute, 5 + minute).is_none());
+    assert!(rt; pending_at(&table, 0) == Some(pending));
     let wanted = Some(Loss {
         context: 7,
         key: ipv6_key(1),
         reason: LossReason::TimedOut,
     });
-    assert!(rt; give_up(slot, minute, 6 + minute) == wanted && slot.pending().is_none());
-    assert!(rt; give_up(slot, minute, u64::MAX).is_none());
-    assert!(rt; place(&mut [], &settings, 0, ipv6_key(1), 0).is_none());
+    assert!(rt; table.give_up(0, minute, 6 + minute) == wanted);
+    assert!(rt; pending_at(&table, 0).is_none());
+    for index in [0, 1, usize::MAX] {
+        assert!(rt; table.give_up(index, minute, u64::MAX).is_none(), "{index}");
+    }
+    // The slot is free again, for a packet of another key.
+    let next = table.place(&settings, 7, ipv6_key(2), 9).ok_or("the slot")?;
+    assert!(rt; next.index == 0 && !next.is_known && next.lost.is_none());
     Ok(())
+}
+
+/// Returns the packet that has the slot with this index.
+fn pending_at(table: &SlotTable<'_>, index: usize) -> Option<Pending> {
+    match table.slots.get(index) {
+        Some(slot) => slot.pending(),
+        None => None,
+    }
+}
+
+#[test]
+fn tables_without_room(rt: HostRuntime) {
+    let settings = Settings::new([1, 2]);
+    // No slots; places that aren't as many as slots; no link of a chain for a bucket.
+    for (slot_count, places, chain_len, is_cleared) in [
+        (0, 0, 1, true),
+        (3, 2, 6, false),
+        (3, 3, 3, false),
+    ] {
+        let mut slots = [Slot::free(); 3];
+        let (mut next, mut previous) = ([0; 5], [0; 5]);
+        let (mut chain_next, mut chain_previous) = ([0; 6], [0; 6]);
+        let ages = Links {
+            next: &mut next,
+            previous: &mut previous,
+        };
+        let chains = Links {
+            next: chain_next.get_mut(..chain_len).unwrap_or(&mut []),
+            previous: chain_previous.get_mut(..chain_len).unwrap_or(&mut []),
+        };
+        let slots = slots.get_mut(..slot_count).unwrap_or(&mut []);
+        let mut table = table_of(slots, places, ages, chains);
+        assert!(rt; table.clear() == is_cleared, "{places} places");
+        let placed = table.place(&settings, 0, ipv6_key(1), 0);
+        assert!(rt; placed.is_none(), "{placed:?} in {places} places");
+    }
+}
+
+/// Checks the place of a packet of context 0, in a slot in which it is new or known, without a loss.
+fn assert_place(
+    rt: &impl Abort,
+    table: &mut SlotTable<'_>,
+    key: FragmentKey,
+    index: usize,
+    is_known: bool,
+) {
+    match table.place(&Settings::new([3, 4]), 0, key, 1) {
+        Some(found) => {
+            assert!(rt;
+                found.index == index && found.is_known == is_known && found.lost.is_none(),
+                "{found:?} for {index}"
+            );
+        }
+        None => panic!(rt; "no slot for {index}"),
+    }
+}
+
+#[test]
+fn a_table_that_is_not_full_gives_nothing_up(rt: HostRuntime) -> Result<(), Fail> {
+    let mut slots = [Slot::free(); 300];
+    let (mut next, mut previous) = ([7; LINKS], [1; LINKS]);
+    let (mut chain_next, mut chain_previous) = ([0; LINKS], [5; LINKS]);
+    let ages = Links {
+        next: &mut next,
+        previous: &mut previous,
+    };
+    let chains = Links {
+        next: &mut chain_next,
+        previous: &mut chain_previous,
+    };
+    let mut table = table_of(&mut slots, 300, ages, chains);
+    assert!(rt; table.clear());
+    // Identifications from 32,768 on, which are others than those 32,768 below.
+    for number in 0..150u32 {
+        let index = number as usize;
+        assert_place(&rt, &mut table, ipv6_key(number), index, false);
+    }
+    for number in 0..150u32 {
+        let index = (number as usize) + 150;
+        assert_place(&rt, &mut table, ipv6_key(32_768 + number), index, false);
+    }
+    for number in 0..150u32 {
+        let index = number as usize;
+        assert_place(&rt, &mut table, ipv6_key(number), index, true);
+        assert_place(
+            &rt,
+            &mut table,
+            ipv6_key(32_768 + number),
+            index + 150,
+            true,
+        );
+    }
+    // Only then the packet that has been in its slot longest is given up.
+    let settings = Settings::new([3, 4]);
+    let last = table
+        .place(&settings, 0, ipv6_key(9_999), 2)
+        .ok_or("the slot")?;
+    let wanted = Some(Loss {
+        context: 0,
+        key: ipv6_key(0),
+        reason: LossReason::Displaced,
+    });
+    assert!(rt; last.index == 0 && last.lost == wanted, "{last:?}");
+    assert_place(&rt, &mut table, ipv6_key(1), 1, true);
+    Ok(())
+}
+
+#[test]
+fn fifteen_packets_in_sixteen_slots(rt: HostRuntime) {
+    let mut slots = [Slot::free(); 16];
+    let (mut next, mut previous) = ([7; LINKS], [1; LINKS]);
+    let (mut chain_next, mut chain_previous) = ([0; LINKS], [5; LINKS]);
+    let ages = Links {
+        next: &mut next,
+        previous: &mut previous,
+    };
+    let chains = Links {
+        next: &mut chain_next,
+        previous: &mut chain_previous,
+    };
+    let mut table = table_of(&mut slots, 16, ages, chains);
+    assert!(rt; table.clear());
+    for round in 0..8u32 {
+        for number in 0..15u32 {
+            let index = number as usize;
+            assert_place(&rt, &mut table, ipv6_key(number), index, round > 0);
+        }
+    }
+}
+
+#[test]
+fn expired_packets_begin_anew_in_their_slots(rt: HostRuntime) -> Result<(), Fail> {
+    let mut slots = [Slot::free(); 2];
+    let (mut next, mut previous) = ([7; LINKS], [1; LINKS]);
+    let (mut chain_next, mut chain_previous) = ([0; LINKS], [5; LINKS]);
+    let ages = Links {
+        next: &mut next,
+        previous: &mut previous,
+    };
+    let chains = Links {
+        next: &mut chain_next,
+        previous: &mut chain_previous,
+    };
+    let mut table = table_of(&mut slots, 2, ages, chains);
+    assert!(rt; table.clear());
+    let settings = Settings::new([3, 4]);
+    let later = 61 * SECOND;
+    assert_place(&rt, &mut table, ipv6_key(1), 0, false);
+    assert_place(&rt, &mut table, ipv6_key(2), 1, false);
+    let anew = table
+        .place(&settings, 0, ipv6_key(1), later)
+        .ok_or("the slot")?;
+    assert!(rt;
+        anew.index == 0 && !anew.is_known && anew.lost.is_some(),
+        "{anew:?}"
+    );
+    // Packet 2 has been in its slot longer than packet 1, which began anew.
+    let next = table
+        .place(&settings, 0, ipv6_key(3), later)
+        .ok_or("the slot")?;
+    assert!(rt; next.index == 1 && next.lost.is_some(), "{next:?}");
+    Ok(())
+}
+
+#[test]
+fn identifications_have_all_their_bits(rt: HostRuntime) -> Result<(), Fail> {
+    use Outcome::{MoreWanted, Whole};
+    // Byte 4 is the high byte of IPv4's identification, 0x12 in the packets, and byte 52 that of IPv6's, 0xa1.
+    let rows = [
+        keeping(0, copy_of(&IPV4_0), MoreWanted),
+        keeping(1, copy_of(&IPV4_1).with(4, 0x92), MoreWanted),
+        keeping(2, copy_of(&IPV4_1), Whole(0)),
+        keeping(3, copy_of(&IPV4_0).with(4, 0x92), Whole(1)),
+        keeping(4, copy_of(&IPV6_0).with(52, 0x21), MoreWanted),
+        keeping(5, copy_of(&IPV6_1), MoreWanted),
+        keeping(6, copy_of(&IPV6_1).with(52, 0x21), MoreWanted),
+        keeping(7, copy_of(&IPV6_2).with(52, 0x21), Whole(0)),
+    ];
+    // The checksum is 0x8000 less, since the identification is 0x8000 more (RFC 1624, section 3).
+    let other = copy_of(&WHOLE_IPV4).with(4, 0x92).with(10, 0xf9);
+    let last = other.with(11, 0x37);
+    assert_rows(&rt, &rows, &[&WHOLE_IPV4, last.bytes(), &WHOLE_IPV6])
 }
 
 /// Returns a packet of another context.
@@ -599,7 +885,7 @@ fn times_in_the_future(rt: HostRuntime) -> Result<(), Fail> {
             LossReason::TimedOut,
         ),
         keeping(5 * SECOND, ipv6_other(&IPV6_1, 2), MoreWanted),
-        keeping(6 * SECOND, ipv6_other(&IPV6_2, 2), Whole(1)),
+        keeping(6 * SECOND, ipv6_other(&IPV6_2, 2), Whole(0)),
     ];
     let whole = copy_of(&WHOLE_IPV6);
     assert_rows(&rt, &rows, &[&WHOLE_IPV6, whole.bytes()])
@@ -641,7 +927,7 @@ fn congestion_is_not_lost(rt: HostRuntime) -> Result<(), Fail> {
         keeping(2, ipv6_marked(&IPV6_2, 2), Whole(0)),
         keeping(3, ipv6_marked(&IPV6_2, 2), MoreWanted),
         keeping(4, ipv6_marked(&IPV6_0, 1), MoreWanted),
-        keeping(5, ipv6_marked(&IPV6_1, 1), Whole(0)),
+        keeping(5, ipv6_marked(&IPV6_1, 1), Whole(1)),
         keeping(6, ipv6_marked(&IPV6_0, 0), MoreWanted),
         keeping(7, ipv6_marked(&IPV6_1, 3), mixed),
         keeping(8, ipv6_marked(&IPV6_1, 0), abandoned),
@@ -685,12 +971,23 @@ fn ipv4_part(offset: u16, more: bool, total: u16) -> Result<[u8; 65535], Fail> {
 }
 
 /// Returns what becomes of two fragments.
-fn both_outcomes(first: &[u8], second: &[u8]) -> (Outcome, Outcome) {
+fn both_outcomes(rt: &impl Abort, first: &[u8], second: &[u8]) -> (Outcome, Outcome) {
     let mut slots = [Slot::free(); 1];
+    let (mut next, mut previous) = ([7; LINKS], [1; LINKS]);
+    let (mut chain_next, mut chain_previous) = ([0; LINKS], [5; LINKS]);
+    let ages = Links {
+        next: &mut next,
+        previous: &mut previous,
+    };
+    let chains = Links {
+        next: &mut chain_next,
+        previous: &mut chain_previous,
+    };
     let mut memories = [PacketMemory::new()];
-    let settings = Settings::new([3, 4]);
-    let one = defragment(&mut slots, &mut memories, &settings, 0, 0, first);
-    let two = defragment(&mut slots, &mut memories, &settings, 0, 1, second);
+    let mut table = table_of(&mut slots, 1, ages, chains);
+    assert!(rt; table.clear());
+    let one = add(rt, &mut table, &mut memories, 0, first);
+    let two = add(rt, &mut table, &mut memories, 1, second);
     (one.outcome, two.outcome)
 }
 
@@ -704,19 +1001,8 @@ fn whole_packets_fit_their_length_field(rt: HostRuntime) -> Result<(), Fail> {
     let longer = ipv4_part(8189, false, 24)?;
     let last = last.get(..23).ok_or("the last fragment")?;
     let longer = longer.get(..24).ok_or("a longer one")?;
-    assert!(rt; both_outcomes(&first, last) == (MoreWanted, Whole(0)));
-    assert!(rt; both_outcomes(&first, longer) == (MoreWanted, too_long));
-    assert!(rt; both_outcomes(longer, last) == (too_long, MoreWanted));
+    assert!(rt; both_outcomes(&rt, &first, last) == (MoreWanted, Whole(0)));
+    assert!(rt; both_outcomes(&rt, &first, longer) == (MoreWanted, too_long));
+    assert!(rt; both_outcomes(&rt, longer, last) == (too_long, MoreWanted));
     Ok(())
-}
-
-#[test]
-fn hash_is_siphash(rt: HostRuntime) {
-    use crate::siphash::sip_hash;
-    // By Rust's `DefaultHasher`, which is SipHash-1-3 with the key 0, 0, and by its `SipHasher13`.
-    let key = [0x0706_0504_0302_0100, 0x0f0e_0d0c_0b0a_0908];
-    assert!(rt; sip_hash(&[0, 0], &[]) == 0xd1fb_a762_150c_532c);
-    assert!(rt; sip_hash(&[0, 0], &[1]) == 0x1e9f_7341_61d6_2dd9);
-    assert!(rt; sip_hash(&[0, 0], &[1, 2, 3, 4, 5]) == 0x0ac1_3373_36f4_3ed3);
-    assert!(rt; sip_hash(&key, &[0x0706_0504_0302_0100]) == 0x3690_9511_8d29_9a8e);
 }

@@ -64,7 +64,7 @@ to_table table free used bucket_of ages_linked chains_linked is = record {
 }
 
 -- The places around one of a path.
-without_first : (next : List ℕ) (from end p : ℕ) (xs : List ℕ) → IsPath next from (p ∷ xs) end → without p (p ∷ xs) ≡ xs
+pub without_first : (next : List ℕ) (from end p : ℕ) (xs : List ℕ) → IsPath next from (p ∷ xs) end → without p (p ∷ xs) ≡ xs
 without_first next from end p xs path = without_same p xs ∙ without_lacking p xs (lacks_start next p end xs path.2)
 
 lacks_before : (next : List ℕ) (from end p : ℕ) (xs ys : List ℕ) → IsPath next from (xs ++ p ∷ ys) end → Lacks xs p
@@ -75,7 +75,7 @@ lacks_before next from end p (x ∷ xs) ys path =
     let apart : x ≢ p = λ e. none (let P : ℕ → Type 0 = λ z. Contains (xs ++ p ∷ ys) z in subst P (sym e) there) in
     lacks_cons x p xs apart (lacks_before next x end p xs ys path.2)
 
-without_inner : (next : List ℕ) (from end p : ℕ) (xs ys : List ℕ) → IsPath next from (xs ++ p ∷ ys) end → without p (xs ++ p ∷ ys) ≡ xs ++ ys
+pub without_inner : (next : List ℕ) (from end p : ℕ) (xs ys : List ℕ) → IsPath next from (xs ++ p ∷ ys) end → without p (xs ++ p ∷ ys) ≡ xs ++ ys
 without_inner next from end p xs ys path =
     without_between p xs ys (lacks_before next from end p xs ys path) (lacks_start next p end ys (path_from next from end p xs ys path))
 
@@ -108,6 +108,15 @@ taken_used n p b ages chains new_ages new_chains used bucket_of is exists as_lon
     let rest : without p (p ∷ used) ≡ used = without_first ages (n + 1) (n + 1) p used is.split.other_list in
     let P : List ℕ → Type 0 = λ xs. AreTable n new_ages new_chains [] (xs ++ p ∷ []) (with_bucket bucket_of p b) in
     subst P rest (taken n p b ages chains new_ages new_chains [] (p ∷ used) bucket_of is ((is.split.each p).0 (inr there)) exists as_long aged chained)
+
+-- A place that is in use is the youngest one from then on.
+pub renewed : (n p b : ℕ) (ages chains new_ages new_chains free used : List ℕ) (bucket_of : ℕ → ℕ) → AreTable n ages chains free used bucket_of
+    → Contains used p → n + b < length chains → length new_chains ≡ length chains → IsMovedTo ages new_ages (n + 1) p → IsMovedTo chains new_chains (n + b) p
+    → AreTable n new_ages new_chains free (without p used ++ p ∷ []) (with_bucket bucket_of p b)
+renewed n p b ages chains new_ages new_chains free used bucket_of is there exists as_long aged chained =
+    let same : without p free ≡ free = without_lacking p free (λ c. free_lacks _ _ _ _ _ _ is.split p c there) in
+    let P : List ℕ → Type 0 = λ xs. AreTable n new_ages new_chains xs (without p used ++ p ∷ []) (with_bucket bucket_of p b) in
+    subst P same (taken n p b ages chains new_ages new_chains free used bucket_of is (is.chained.below p there) exists as_long aged chained)
 
 -- A place in use is free from then on.
 pub released : (n p : ℕ) (ages chains new_ages new_chains free xs ys : List ℕ) (bucket_of : ℕ → ℕ) → AreTable n ages chains free (xs ++ p ∷ ys) bucket_of

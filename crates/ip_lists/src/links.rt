@@ -13,6 +13,7 @@ struct Neighbours {
 /// the others is a member of a list or in none.
 ///
 /// Whatever the arrays contain, no call fails. After `clear` they agree, and each call keeps it so.
+#[repr(C)]
 #[derive(Drop)]
 pub struct Links<'m> {
     /// The place after each place.

@@ -3,6 +3,7 @@ ghost use Rattle.std.specs.Prelude.{◌≡◌, ℕ, ◌+◌, ◌<◌, ◌≤◌,
 ghost use Rattle.std.specs.List.{range_with_len};
 ghost use Rattle.ip_lists.specs.Lists.{AreInverse, IsList};
 ghost use Rattle.ip_lists.specs.Members.{members_left};
+ghost use Rattle.ip_lists.specs.Moves.{without};
 ghost use Rattle.ip_lists.specs.Table.{IsTable, HasRoom, HasBucket, AreSame, in_bucket, with_bucket};
 
 use crate::moves::{move_to, push_below};
@@ -21,6 +22,7 @@ pub struct Taken {
 /// and chooses the bucket by a hash of what is in the slot.
 ///
 /// Whatever the arrays contain, no call fails. After `clear` they agree, and each call keeps it so.
+#[repr(C)]
 #[derive(Drop)]
 pub struct Table<'m> {
     /// The number of places, which are 0, 1, .. below it.
@@ -97,6 +99,19 @@ impl<'m> Table<'m> {
         head_at(self.ages.next, self.places, 1)
     }
 
+    /// Returns the head of the places in use, and that of the chain of a bucket.
+    fn heads(&self, bucket: u32) -> Option<(u32, u32)>
+        ensures used { IfSome result (λ h. (h.0 ≡ self.now.places + 1) × (h.0 < length self.now.ages.next.now)) }
+        ensures chain { IfSome result (λ h. (h.1 ≡ self.now.places + bucket) × (h.1 < length self.now.chains.next.now)) }
+        ensures none { is_none result ≡ true → (previous chains_previous : List ℕ) → AreInverse self.now.ages.next.now previous
+            → AreInverse self.now.chains.next.now chains_previous → self.now.places + 1 < length self.now.ages.next.now → ¬ HasBucket self.now bucket }
+        ensures no_bucket { ¬ HasBucket self.now bucket → result ≡ None }
+    {
+        let used = self.used_head()?;
+        let chain = self.chain_head(bucket)?;
+        Some((used, chain))
+    }
+
     /// Returns the first free place or, if there is none, the place that has been in use longest.
     fn next_taken(&self, used: u32) -> Option<Taken>
         ensures within { IfSome result (λ t. t.place < self.now.places) }
@@ -139,6 +154,32 @@ impl<'m> Table<'m> {
         move_to(&mut self.ages, used, taken.place);
         move_to(&mut self.chains, chain, taken.place);
         Some(taken)
+    }
+
+    /// Makes a place that is in use the youngest one, in the chain of this bucket alone. Returns false, and changes nothing, if
+    /// the place isn't in use or the table doesn't have the bucket.
+    pub fn renew(&mut self, place: u32, bucket: u32) -> bool
+        ensures renewed { (free used : List ℕ) (bucket_of : ℕ → ℕ) → IsTable self.old free used bucket_of → Contains used place → HasBucket self.old bucket
+            → (result ≡ true) × IsTable self.new free (without place used ++ place ∷ []) (with_bucket bucket_of place bucket) }
+        ensures unused { (free used : List ℕ) (bucket_of : ℕ → ℕ) → IsTable self.old free used bucket_of → ¬ Contains used place
+            → result ≡ false }
+        ensures no_bucket { ¬ HasBucket self.old bucket → result ≡ false }
+        ensures refused { result ≡ false → AreSame self.old self.new }
+        ensures places { self.new.places ≡ self.old.places }
+        ensures buckets { (b : ℕ) → HasBucket self.new b ↔ HasBucket self.old b }
+        ensures room { HasRoom self.old → HasRoom self.new }
+    {
+        if place >= self.places || self.chains.is_alone(place) {
+            return false;
+        }
+        match self.heads(bucket) {
+            Some((used, chain)) => {
+                move_to(&mut self.ages, used, place);
+                move_to(&mut self.chains, chain, place);
+                true
+            }
+            None => false,
+        }
     }
 
     /// Frees a place that is in use: it is the last free one, and in no chain. Returns false, and changes nothing, if the

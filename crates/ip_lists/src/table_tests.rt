@@ -78,6 +78,42 @@ fn places_are_taken_and_released(rt: HostRuntime) {
 }
 
 #[test]
+fn places_are_renewed(rt: HostRuntime) {
+    let mut next = [9; 5];
+    let mut previous = [8; 5];
+    let mut chain_next = [7; 5];
+    let mut chain_previous = [6; 5];
+    let mut table = Table {
+        places: 3,
+        ages: Links {
+            next: &mut next,
+            previous: &mut previous,
+        },
+        chains: Links {
+            next: &mut chain_next,
+            previous: &mut chain_previous,
+        },
+    };
+    table.clear();
+    assert_taken(&rt, &mut table, 1, 0, false);
+    assert_taken(&rt, &mut table, 0, 1, false);
+    assert!(rt; table.renew(0, 0));
+    assert_chain(&rt, &table, 0, &[1, 0]);
+    assert_chain(&rt, &table, 1, &[]);
+    assert!(rt; table.renew(1, 1));
+    assert_chain(&rt, &table, 0, &[0]);
+    for place in [2, 3, u32::MAX] {
+        assert!(rt; !table.renew(place, 0), "{place}");
+    }
+    assert!(rt; !table.renew(0, 2));
+
+    // 0 has been in use longest now.
+    assert_taken(&rt, &mut table, 1, 2, false);
+    assert_taken(&rt, &mut table, 1, 0, true);
+    assert_chain(&rt, &table, 1, &[1, 2, 0]);
+}
+
+#[test]
 fn a_table_without_places(rt: HostRuntime) {
     let mut next = [9; 2];
     let mut previous = [9; 2];

@@ -16,7 +16,7 @@ use Rattle.etherparse_ip.specs.PacketFault.{ip_fault, ip_of_ipv4, ipv4_fault_aft
 use Rattle.etherparse_ip.proofs.PartsLemmas.{strict_fault_of_chain}
 use Rattle.ip_dissect.specs.LaterDemand.{has_later}
 use Rattle.ip_dissect.specs.Extent.{missing_of, after_base, ipv4_stated, ipv6_stated, ipv4_chain, ipv6_chain}
-use Rattle.ip_dissect.specs.End.{base_end, auth_end, ipv4_end, exts_end, ipv6_error, ipv6_end}
+use Rattle.ip_dissect.specs.End.{base_end, auth_end, ipv4_end, exts_end, ipv6_rest, ipv6_error, ipv6_end}
 use Rattle.ip_dissect.specs.Dissection.{dissected}
 use Rattle.ip_dissect.specs.declared.end.End.{End}
 use Rattle.ip_dissect.specs.declared.end.End.TheVariants as end
@@ -39,8 +39,8 @@ auth_none source n j k r e = search rules
 fault_none : (source : LenSource) (n j k : ℕ) (first : Bool) (m : ℕ) (r : List ℕ) → fault_at source n j first m r ≡ None → fault_at source n k first m r ≡ None
 fault_none source n j k first m r e = search (rules, none_before, raw_none, fragment_none, auth_none)
 
-ends_without_error : (t : Option ℕ) (o : Option Fault) → option_map_or (exts_end t) o end.Payload ≡ end.Payload → o ≡ None
-ends_without_error t o e = search rules
+ends_without_error : (t : Option ℕ) (r : List ℕ) (o : Option Fault) → option_map_or (exts_end t r) o end.Payload ≡ end.Payload → o ≡ None
+ends_without_error t r o e = search rules
 
 none_missing : (k n : ℕ) → 40 ≤ n → (missing_of (if k == 0 then None else Some (40 + k)) n ≡ 0) ↔ (40 + k ≤ n)
 none_missing k n enough = grind (arith, common_steps)
@@ -90,7 +90,7 @@ module _ (b s : List ℕ) (base : IsIpv6Header b) (prefix : IsPrefix b s) (none 
   chain_none : ipv6_error b s ≡ None → chain_fault n x ≡ None
   chain_none e = fault_none Slice (length (rest_after c x)) (40 + length (bytes_of c)) (length (bytes_of c)) (is_empty c) (leads_to n c) (rest_after c x) (sym same_error ∙ e)
 
-  the_end : ipv6_end b s ≡ option_map_or (exts_end (ipv6_stated b)) (ipv6_error b s) end.Payload
+  the_end : ipv6_end b s ≡ option_map_or (exts_end (ipv6_stated b) (ipv6_rest b s)) (ipv6_error b s) end.Payload
   the_end = rw none refl
 
   none_is_missing : (missing_of (ipv6_stated b) (length s) ≡ 0) ↔ (40 + payload_length s ≤ length s)
@@ -122,14 +122,14 @@ total_of s e = grind (arith, common_steps)
 after_total : (s : List ℕ) → ipv4_header_len s ≤ total_len s → total_len s ≤ length s → ipv4_fault_after s ≡ option_map (auth_in_packet ipv4_len_source (ipv4_header_len s)) (ipv4_chain_fault (protocol s) (ipv4_after s))
 after_total s header whole = rw (le-ltb (total_len s) (ipv4_header_len s) header, le-ltb (length s) (total_len s) whole) refl
 
-ends_without_auth_error : (t : Option ℕ) (o : Option AuthSliceError) → option_map_or (auth_end t) o end.Payload ≡ end.Payload → o ≡ None
-ends_without_auth_error t o e = search rules
+ends_without_auth_error : (t : Option ℕ) (x : List ℕ) (o : Option AuthSliceError) → option_map_or (auth_end t x) o end.Payload ≡ end.Payload → o ≡ None
+ends_without_auth_error t x o e = search rules
 
 -- the error of the chain after the base header, with its offset from the packet's start
 abbrev ipv4_error : List ℕ → List ℕ → Option AuthSliceError
 ipv4_error b s = option_map (auth_in_packet Slice (length b)) (fault_after (ipv4_faults Slice) (ipv4_chain b s) (protocol b) (after_base b (ipv4_stated b) s))
 
-end_of : (b s : List ℕ) → ipv4_fragment_offset b ≡ 0 → length b ≤ total_len b → ipv4_end b s ≡ option_map_or (auth_end (ipv4_stated b)) (ipv4_error b s) end.Payload
+end_of : (b s : List ℕ) → ipv4_fragment_offset b ≡ 0 → length b ≤ total_len b → ipv4_end b s ≡ option_map_or (auth_end (ipv4_stated b) (after_base b (ipv4_stated b) s)) (ipv4_error b s) end.Payload
 end_of b s none enough = rw (le-ltb (total_len b) (length b) enough, none, and-false) refl
 
 stated_whole : (b s : List ℕ) → ipv4_end b s ≡ end.Payload → IsSome (ipv4_stated b) → length b ≤ total_len b
@@ -162,7 +162,7 @@ module _ (h s : List ℕ) (base : IsIpv4Header h) (prefix : IsPrefix h s) (none 
     same_auth_error : fault_after (ipv4_faults Slice) (ipv4_chain h s) (protocol h) (after_base h (ipv4_stated h) s) ≡ ipv4_chain_fault (protocol s) (ipv4_after s)
     same_auth_error = search (rules, after_is4, header)
 
-    at_end : ipv4_end h s ≡ option_map_or (auth_end (ipv4_stated h)) (ipv4_error h s) end.Payload
+    at_end : ipv4_end h s ≡ option_map_or (auth_end (ipv4_stated h) (after_base h (ipv4_stated h) s)) (ipv4_error h s) end.Payload
     at_end = end_of h s none fits
 
     whole_if : (missing_of (ipv4_stated h) (length s) ≡ 0) ↔ (total_len s ≤ length s)
@@ -177,7 +177,7 @@ module _ (h s : List ℕ) (base : IsIpv4Header h) (prefix : IsPrefix h s) (none 
   ipv4_parses : (ipv4_end h s ≡ end.Payload) × (missing_of (ipv4_stated h) (length s) ≡ 0) × IsSome (ipv4_stated h) → ip_fault s ≡ None
   ipv4_parses p =
       let fits : length h ≤ total_len h = stated_whole h s p.0 p.2 in
-      let error : ipv4_error h s ≡ None = ends_without_auth_error (ipv4_stated h) (ipv4_error h s) (sym (at_end fits) ∙ p.0) in
+      let error : ipv4_error h s ≡ None = ends_without_auth_error (ipv4_stated h) (after_base h (ipv4_stated h) s) (ipv4_error h s) (sym (at_end fits) ∙ p.0) in
       let chain : ipv4_chain_fault (protocol s) (ipv4_after s) ≡ None =
       sym (same_auth_error fits) ∙ none_before (auth_in_packet Slice (length h)) _ error in
       rw (after_header, checks fits ((whole_if fits).0 p.1), chain) refl

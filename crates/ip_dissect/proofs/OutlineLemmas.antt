@@ -48,17 +48,20 @@ module _ (v : ℕ) (b s y : List ℕ) (same : y ≡ b) (t u : Option ℕ) (state
       (missing ∙ ap (λ w. missing_of w (length s)) stated) (padding ∙ sym (length-drop (length packet) s) ∙ ap (λ (z : List ℕ). length (drop (length z) s)) whole) later error
 
 -- the end after an IPv6 chain, by whether there is an error
-abbrev pub end_after : Bool → Option ℕ → Option Fault → End
-end_after later t o = if later then LaterFragment else option_map_or (exts_end t) o Payload
+abbrev pub end_after : Bool → Option ℕ → List ℕ → Option Fault → End
+end_after later t r o = if later then LaterFragment else option_map_or (exts_end t r) o Payload
 
-later_after : (later : Bool) (t : Option ℕ) (o : Option Fault) → later ≡ is_later_end (end_after later t o)
-later_after later t o = search rules
+exts_end_fails : (t : Option ℕ) (r : List ℕ) (f : Fault) → has_error (exts_end t r f) ≡ true
+exts_end_fails t r f = search rules
 
-error_after : (later : Bool) (t : Option ℕ) (o : Option Fault) → (not later && is_some o) ≡ has_error (end_after later t o)
-error_after later t o = search rules
+later_after : (later : Bool) (t : Option ℕ) (r : List ℕ) (o : Option Fault) → later ≡ is_later_end (end_after later t r o)
+later_after later t r o = search rules
 
-pub end_with : (later : Bool) (t : Option ℕ) (o : Option Fault) → (not later && is_some o) ≡ true → has_error (end_after later t o) ≡ true
-end_with later t o e = sym (error_after later t o) ∙ e
+error_after : (later : Bool) (t : Option ℕ) (r : List ℕ) (o : Option Fault) → (not later && is_some o) ≡ has_error (end_after later t r o)
+error_after later t r o = search (rules, exts_end_fails t r)
+
+pub end_with : (later : Bool) (t : Option ℕ) (r : List ℕ) (o : Option Fault) → (not later && is_some o) ≡ true → has_error (end_after later t r o) ≡ true
+end_with later t r o e = sym (error_after later t r o) ∙ e
 
 -- A pass over the bytes x after an IPv6 base header b, read as y: the number m, the bytes r, and what it found.
 module _ (b s y : List ℕ) (same : y ≡ b) (t : Option ℕ) (stated : t ≡ ipv6_stated b) (packet x r : List ℕ) (front : packet ≡ packet_bytes y t s) (left : x ≡ drop (length y) packet) (n m : ℕ) (ns : n ≡ ipv6_next_header b)
@@ -66,7 +69,7 @@ module _ (b s y : List ℕ) (same : y ≡ b) (t : Option ℕ) (stated : t ≡ ip
   abbrev xs : x ≡ after_base b (ipv6_stated b) s
   xs = after_base_is 6 b s y same t (ipv6_stated b) stated packet x r front left
 
-  the_end : end_after found.later t (slice_fault (40 + (length x - length r)) (nat_eq (length x - length r) 0) m r) ≡ ipv6_end b s
+  the_end : end_after found.later t r (slice_fault (40 + (length x - length r)) (nat_eq (length x - length r) 0) m r) ≡ ipv6_end b s
   the_end = ipv6_end_is b x s t n m r found _ xs stated ns number rest said refl
 
   pub ipv6_outlined : (o : Outline) → o.version ≡ 6 → o.base_len ≡ length y → o.stated_len ≡ t → o.extensions_len ≡ length x - length r → o.header_count ≡ found.count → o.next_header.0 ≡ m → o.payload_len ≡ length r
@@ -76,19 +79,22 @@ module _ (b s y : List ℕ) (same : y ≡ b) (t : Option ℕ) (stated : t ≡ ip
       let P : ℕ → List ℕ → Type 0 = λ k z. o ≡ outline_of (with_base 6 b s (ipv6_stated b) k (chain_to_later k z) (ipv6_fragment (ipv6_chain b s)) (ipv6_end b s)) in
       let made : P n x =
       with_base_outlined 6 b s y same t (ipv6_stated b) stated packet x r front left n (chain_to_later n x) _ _ (chain_to_later-longest n x).has.0 rest o version base is extensions (count ∙ ap (λ (f : Found). f.count) said) (next ∙ number)
-      payload (ipv6_fragment_is b x s n found o.fragment xs ns said fragment) missing padding (later ∙ later_after found.later t _ ∙ ap is_later_end the_end) (error ∙ error_after found.later t _ ∙ ap has_error the_end)
+      payload (ipv6_fragment_is b x s n found o.fragment xs ns said fragment) missing padding (later ∙ later_after found.later t r _ ∙ ap is_later_end the_end) (error ∙ error_after found.later t r _ ∙ ap has_error the_end)
       in
       subst (λ k. P k (after_base b (ipv6_stated b) s)) ns (subst (P n) xs made)
 
 -- the end after an IPv4 base header, by whether its total length is too small and its offset 0
-abbrev end4 : Bool → Bool → SliceError → Option ℕ → ℕ → Option AuthError → End
-end4 short zero e t k o = if short then fault_end e None else if not zero then LaterFragment else option_map_or (auth_end t) (option_map (auth_in_packet Slice k) o) Payload
+abbrev end4 : Bool → Bool → SliceError → Option ℕ → List ℕ → ℕ → Option AuthError → End
+end4 short zero e t x k o = if short then fault_end e None else if not zero then LaterFragment else option_map_or (auth_end t x) (option_map (auth_in_packet Slice k) o) Payload
 
-later4 : (short zero : Bool) (e : SliceError) (t : Option ℕ) (k : ℕ) (o : Option AuthError) → (not short && not zero) ≡ is_later_end (end4 short zero e t k o)
-later4 short zero e t k o = search rules
+pub auth_end_fails : (t : Option ℕ) (x : List ℕ) (e : AuthError) → has_error (auth_end t x e) ≡ true
+auth_end_fails t x e = search rules
 
-error4 : (short zero : Bool) (e : SliceError) (t : Option ℕ) (k : ℕ) (o : Option AuthError) → (short || (zero && is_some o)) ≡ has_error (end4 short zero e t k o)
-error4 short zero e t k o = search rules
+later4 : (short zero : Bool) (e : SliceError) (t : Option ℕ) (x : List ℕ) (k : ℕ) (o : Option AuthError) → (not short && not zero) ≡ is_later_end (end4 short zero e t x k o)
+later4 short zero e t x k o = search rules
+
+error4 : (short zero : Bool) (e : SliceError) (t : Option ℕ) (x : List ℕ) (k : ℕ) (o : Option AuthError) → (short || (zero && is_some o)) ≡ has_error (end4 short zero e t x k o)
+error4 short zero e t x k o = search (rules, auth_end_fails t x)
 
 -- The headers after an IPv4 base header b, read as y: their number, what they lead to, and whether an error follows.
 module _ (b s y : List ℕ) (same : y ≡ b) (t : Option ℕ) (stated : t ≡ ipv4_stated b) (packet x r : List ℕ) (front : packet ≡ packet_bytes y t s) (left : x ≡ drop (length y) packet) where
@@ -106,7 +112,7 @@ module _ (b s y : List ℕ) (same : y ≡ b) (t : Option ℕ) (stated : t ≡ ip
       let there : Q (after_base b (ipv4_stated b) s) = subst Q xs4 errors in
       let made : P x =
       with_base_outlined 4 b s y same t (ipv4_stated b) stated packet x r front left (protocol b) (ipv4_chain_in b x) _ _ (ipv4_prefix b x) rest o version base is extensions count next payload fragment missing padding
-      (later_is ∙ rw (shorts, laters) (later4 _ (ipv4_fragment_offset b == 0) _ (ipv4_stated b) (length b) (fault_after (ipv4_faults Slice) (ipv4_chain b s) (protocol b) (after_base b (ipv4_stated b) s)))) (error_is ∙ rw (shorts, there) (error4 _ (ipv4_fragment_offset b == 0) _ (ipv4_stated b) (length b) (fault_after (ipv4_faults Slice) (ipv4_chain b s) (protocol b) (after_base b (ipv4_stated b) s))))
+      (later_is ∙ rw (shorts, laters) (later4 _ (ipv4_fragment_offset b == 0) _ (ipv4_stated b) (after_base b (ipv4_stated b) s) (length b) (fault_after (ipv4_faults Slice) (ipv4_chain b s) (protocol b) (after_base b (ipv4_stated b) s)))) (error_is ∙ rw (shorts, there) (error4 _ (ipv4_fragment_offset b == 0) _ (ipv4_stated b) (after_base b (ipv4_stated b) s) (length b) (fault_after (ipv4_faults Slice) (ipv4_chain b s) (protocol b) (after_base b (ipv4_stated b) s))))
       in
       subst P xs4 made
 
@@ -118,15 +124,15 @@ plain_outlined v b s t n number c f e same none whole ends = rw (none, whole, en
 not_later : (later : Bool) (e : End) → has_error (if later then LaterFragment else e) ≡ true → e ≡ (if later then LaterFragment else e)
 not_later later e wrong = search rules
 
-there_is : (later : Bool) (t : Option ℕ) (o : Option Fault) → has_error (end_after later t o) ≡ true → IsSome o
-there_is later t o wrong = search rules
+there_is : (later : Bool) (t : Option ℕ) (r : List ℕ) (o : Option Fault) → has_error (end_after later t r o) ≡ true → IsSome o
+there_is later t r o wrong = search rules
 
 module _ (b s : List ℕ) (o : Outline) (r : List ℕ) (is : o ≡ outline_of (ipv6_dissected b s)) (rest : r ≡ (ipv6_dissected b s).payload) (wrong : has_error (ipv6_end b s) ≡ true) where
   none : (length (bytes_of (ipv6_chain b s)) == 0) ≡ is_empty (ipv6_chain b s)
   none = empty_is (ipv6_chain b s) _ (chain_to_later-longest _ _).has.0.chain.headers refl
 
   pub ipv6_error_there : IsSome (slice_fault (40 + o.extensions_len) (o.extensions_len == 0) o.next_header.0 r)
-  ipv6_error_there = rw (is, rest, none) (there_is (has_later (ipv6_chain b s)) (ipv6_stated b) _ wrong)
+  ipv6_error_there = rw (is, rest, none) (there_is (has_later (ipv6_chain b s)) (ipv6_stated b) _ _ wrong)
 
-  pub ipv6_error_is : (e : End) → e ≡ option_map_or (exts_end o.stated_len) (slice_fault (40 + o.extensions_len) (o.extensions_len == 0) o.next_header.0 r) Payload → e ≡ ipv6_end b s
+  pub ipv6_error_is : (e : End) → e ≡ option_map_or (exts_end o.stated_len r) (slice_fault (40 + o.extensions_len) (o.extensions_len == 0) o.next_header.0 r) Payload → e ≡ ipv6_end b s
   ipv6_error_is e made = made ∙ rw (is, rest, none) (not_later (has_later (ipv6_chain b s)) _ wrong)

@@ -36,6 +36,6 @@ after_is b s t u packet x stated bytes after = after ∙ ap (drop (length b)) (b
 
 pub ipv6_end_is : (b x s : List ℕ) (t : Option ℕ) (n m : ℕ) (r : List ℕ) (found : Found) (end : End) → x ≡ after_base b (ipv6_stated b) s → t ≡ ipv6_stated b → n ≡ ipv6_next_header b
     → m ≡ leads_to n (chain_to_later n x) → r ≡ rest_after (chain_to_later n x) x → found ≡ found_in (chain_to_later n x)
-    → end ≡ (if found.later then LaterFragment else option_map_or (exts_end t) (slice_fault (40 + (length x - length r)) (nat_eq (length x - length r) 0) m r) Payload)
+    → end ≡ (if found.later then LaterFragment else option_map_or (exts_end t r) (slice_fault (40 + (length x - length r)) (nat_eq (length x - length r) 0) m r) Payload)
     → end ≡ ipv6_end b s
 ipv6_end_is b x s t n m r found end xs stated ns number rest said is = search (rules, chain_to_later-longest, chain_none, chain_len)

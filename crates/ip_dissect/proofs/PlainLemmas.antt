@@ -28,7 +28,7 @@ use Rattle.ip_dissect.specs.declared.fragment.Fragment.{Fragment}
 use Rattle.ip_dissect.specs.declared.end.End.{End}
 use Rattle.ip_dissect.specs.declared.end.End.TheVariants.{Payload, LaterFragment, Fault}
 use Rattle.ip_dissect.proofs.LaterLemmas.{chain_to_later-longest}
-use Rattle.ip_dissect.proofs.OutlineLemmas.{end_after, end_with}
+use Rattle.ip_dissect.proofs.OutlineLemmas.{auth_end_fails, end_after, end_with}
 
 pub plain_is : (c : List ExtHeader) (f : Option Fragment) (e : End) → c ≡ [] → f ≡ None → e ≡ Payload → (not (has_error e) && is_empty c && not (is_some f)) ≡ true
 plain_is c f e none whole ends = rw (none, whole, ends) refl
@@ -55,14 +55,14 @@ none_at_other4 n s other = search (rules, ipv4_longest, by_one)
 
 -- the end after the chain c from n at the start of x
 abbrev end_of : Option ℕ → ℕ → List ℕ → List ExtHeader → End
-end_of t n x c = end_after (has_later c) t (slice_fault (40 + length (bytes_of c)) (is_empty c) (leads_to n c) (rest_after c x))
+end_of t n x c = end_after (has_later c) t (rest_after c x) (slice_fault (40 + length (bytes_of c)) (is_empty c) (leads_to n c) (rest_after c x))
 
 -- and after an IPv4 one
 abbrev end4_of : List ℕ → Option ℕ → ℕ → ℕ → List ℕ → List ExtHeader → End
 end4_of b t offset n x c =
     if is_too_short b then Fault (Len (too_short Ipv4HeaderTotalLen (total_len b) 0 Ipv4Packet (length b))) None
     else if not (offset == 0) then LaterFragment
-    else option_map_or (auth_end t) (option_map (auth_in_packet Slice (length b)) (fault_after (ipv4_faults Slice) c n x)) Payload
+    else option_map_or (auth_end t x) (option_map (auth_in_packet Slice (length b)) (fault_after (ipv4_faults Slice) c n x)) Payload
 
 chain_if : (offset : ℕ) (c : List ExtHeader) → offset ≡ 0 → (if offset == 0 then c else []) ≡ [] → c ≡ []
 chain_if offset c zero none = grind (arith, common_steps)
@@ -74,18 +74,15 @@ auth_error_there x none =
     let some : IsSome (option_map auth_at (auth_fault Slice (length x) 0 x)) = fault_at_end Slice (length x) x 0 true 51 (inr (inr refl)) (λ h y. ends h y (record { one = omega arith; number = (y.number, tt) })) in
     search rules
 
-auth_end_fails : (t : Option ℕ) (e : AuthError) → has_error (auth_end t e) ≡ true
-auth_end_fails t e = search rules
-
-auth_ends_fail : (t : Option ℕ) (k : ℕ) (o : Option AuthError) → IsSome o → has_error (option_map_or (auth_end t) (option_map (auth_in_packet Slice k) o) Payload) ≡ true
-auth_ends_fail t k o some = search (rules, auth_end_fails t)
+auth_ends_fail : (t : Option ℕ) (x : List ℕ) (k : ℕ) (o : Option AuthError) → IsSome o → has_error (option_map_or (auth_end t x) (option_map (auth_in_packet Slice k) o) Payload) ≡ true
+auth_ends_fail t x k o some = search (rules, auth_end_fails t x)
 
 either_fails : (first : Bool) (d e : End) → has_error d ≡ true → has_error e ≡ true → has_error (if first then d else e) ≡ true
 either_fails true d e p q = p
 either_fails false d e p q = q
 
 end4_fails : (b : List ℕ) (t : Option ℕ) (offset n : ℕ) (x : List ℕ) → offset ≡ 0 → n ≡ 51 → IsSome (auth_fault Slice (length x) 0 x) → has_error (end4_of b t offset n x []) ≡ true
-end4_fails b t offset n x zero auth some = rw (zero, auth) (either_fails (is_too_short b) _ _ refl (auth_ends_fail t (length b) (auth_fault Slice (length x) 0 x) some))
+end4_fails b t offset n x zero auth some = rw (zero, auth) (either_fails (is_too_short b) _ _ refl (auth_ends_fail t x (length b) (auth_fault Slice (length x) 0 x) some))
 
 module _ (b s : List ℕ) where
   abbrev number : ℕ
@@ -102,14 +99,14 @@ module _ (b s : List ℕ) where
 
   pub ipv6_payload : (IsExtensionNumber number → ⊥) → ipv6_end b s ≡ Payload
   ipv6_payload other = ap (end_of (ipv6_stated b) number rest) (ipv6_none other)
-      ∙ ap (λ o. option_map_or (exts_end (ipv6_stated b)) o Payload) (no_fault_at_other Slice (length rest) true number rest 40 other)
+      ∙ ap (λ o. option_map_or (exts_end (ipv6_stated b) rest) o Payload) (no_fault_at_other Slice (length rest) true number rest 40 other)
 
   -- where an extension header's number follows the base header, there is a header or an error
   pub ipv6_fails : IsExtensionNumber number → ipv6_chain b s ≡ [] → has_error (ipv6_end b s) ≡ true
   ipv6_fails is none =
       let ends = longest_ends_under NothingAfterLater nothing_after_later number rest [] (subst (λ c. IsLongestUnder NothingAfterLater number rest c) none (chain_to_later-longest number rest)) in
       let some : IsSome (slice_fault 40 true number rest) = fault_at_end Slice (length rest) rest 40 true number is (λ h x. ends h x (λ t. refl, tt)) in
-      ap (λ c. has_error (end_of (ipv6_stated b) number rest c)) none ∙ end_with false (ipv6_stated b) (slice_fault 40 true number rest) (search rules)
+      ap (λ c. has_error (end_of (ipv6_stated b) number rest c)) none ∙ end_with false (ipv6_stated b) rest (slice_fault 40 true number rest) (search rules)
 
   pub ipv6_not_plain : IsExtensionNumber number → is_plain (ipv6_dissected b s) ≡ false
   ipv6_not_plain is = not_plain (ipv6_chain b s) (ipv6_fragment (ipv6_chain b s)) (ipv6_end b s) (ipv6_fails is)

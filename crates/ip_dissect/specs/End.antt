@@ -1,5 +1,5 @@
 -- Why a dissection ends where it does. Offsets count from the start of the packet.
-use Rattle.std.specs.Prelude.{ℕ, Bool, true, false, ◌+◌, ◌-◌, List, length, nat_lt, Option, Some, None, ◌==◌, ◌&&◌, not, if◌then◌else◌}
+use Rattle.std.specs.Prelude.{ℕ, Bool, true, false, ◌+◌, ◌-◌, ◌*◌, List, length, slice_index, nat_lt, Option, Some, None, ◌==◌, ◌&&◌, not, if◌then◌else◌}
 use Rattle.std.specs.Option.{option_map, option_map_or}
 use Rattle.ip_spec.specs.Chain.{leads_to, bytes_of, is_empty}
 use Rattle.ip_spec.specs.Parse.{rest_after, fault_after}
@@ -12,6 +12,8 @@ use Rattle.ip_base.specs.declared.err.layer.Layer.{Layer}
 use Rattle.ip_base.specs.declared.err.layer.Layer.TheVariants as layer
 use Rattle.ip_base.specs.declared.err.len_error.LenError.{LenError}
 use Rattle.ip_base.specs.declared.err.ip.header_error.HeaderError.TheVariants.{UnsupportedIpVersion, Ipv4HeaderLengthSmallerThanHeader}
+use Rattle.ip_base.specs.declared.err.ip_auth.header_error.HeaderError.TheVariants.{ZeroPayloadLen}
+use Rattle.ip_base.specs.declared.err.ipv6_exts.header_error.HeaderError.TheVariants.{IpAuth}
 use Rattle.ip_base.specs.declared.err.ip.headers_error.HeadersError.TheVariants.{Ip, Ipv4Ext, Ipv6Ext}
 use Rattle.ip_base.specs.declared.err.ip.slice_error.SliceError.TheVariants.{Len, IpHeaders}
 use Rattle.ip_ext_headers.specs.declared.err.ip_auth.header_slice_error.HeaderSliceError.{HeaderSliceError as AuthSliceError}
@@ -48,14 +50,34 @@ len_end (Some t) field e header =
     if nat_lt (t - e.layer_start_offset) e.required_len then end.Fault (Len (record e { len = t - e.layer_start_offset; len_source = field })) header
     else end.Truncated e header
 
--- the end at an error in an IPv4 extension header, and in an IPv6 one
-abbrev pub auth_end : Option ℕ → AuthSliceError → End
-auth_end t (auth.Len e) = len_end t Ipv4HeaderTotalLen e None
-auth_end t (auth.Content e) = end.Fault (IpHeaders (Ipv4Ext e)) None
+-- How many bytes a header of this layer needs, of which r are here: those that its length byte states, if that is here (RFC
+-- 8200, sections 4.3, 4.4 and 4.6; RFC 4302, section 2.2), and otherwise the least that such a header has. A fragment header
+-- has 8 bytes (RFC 8200, section 4.5).
+abbrev pub required_of : Layer → ℕ → List ℕ → ℕ
+required_of layer.Ipv6FragHeader least r = least
+required_of layer.IpAuthHeader least r = if nat_lt (length r) 2 then least else 4 * (slice_index r 1 + 2)
+required_of l least r = if nat_lt (length r) 2 then least else 8 * (slice_index r 1 + 1)
 
-abbrev pub exts_end : Option ℕ → Fault → End
-exts_end t (exts.Len e, header) = len_end t Ipv6HeaderPayloadLen e (Some header)
-exts_end t (exts.Content e, header) = end.Fault (IpHeaders (Ipv6Ext e)) (Some header)
+abbrev pub needing : Layer → List ℕ → LenError → LenError
+needing l r e = record e { required_len = required_of l e.required_len r }
+
+-- The header, of which r are here, is an authentication header that states a length of 0.
+abbrev pub states_zero : Layer → List ℕ → Bool
+states_zero layer.IpAuthHeader r = not (nat_lt (length r) 2) && (slice_index r 1 == 0)
+states_zero l r = false
+
+-- the end at an error in an IPv4 extension header of which r are here, and in an IPv6 one
+abbrev pub auth_end : Option ℕ → List ℕ → AuthSliceError → End
+auth_end t r (auth.Len e) =
+    if states_zero layer.IpAuthHeader r then end.Fault (IpHeaders (Ipv4Ext ZeroPayloadLen)) None
+    else len_end t Ipv4HeaderTotalLen (needing layer.IpAuthHeader r e) None
+auth_end t r (auth.Content e) = end.Fault (IpHeaders (Ipv4Ext e)) None
+
+abbrev pub exts_end : Option ℕ → List ℕ → Fault → End
+exts_end t r (exts.Len e, header) =
+    if states_zero header r then end.Fault (IpHeaders (Ipv6Ext (IpAuth ZeroPayloadLen))) (Some header)
+    else len_end t Ipv6HeaderPayloadLen (needing header r e) (Some header)
+exts_end t r (exts.Content e, header) = end.Fault (IpHeaders (Ipv6Ext e)) (Some header)
 
 -- it is an error
 abbrev pub has_error : End → Bool
@@ -73,17 +95,20 @@ abbrev pub ipv4_end : List ℕ → List ℕ → End
 ipv4_end b s =
     if is_too_short b then end.Fault (Len (too_short Ipv4HeaderTotalLen (total_len b) 0 layer.Ipv4Packet (length b))) None
     else if not (ipv4_fragment_offset b == 0) then end.LaterFragment
-    else option_map_or (auth_end (ipv4_stated b)) (option_map (auth_in_packet Slice (length b)) (fault_after (ipv4_faults Slice) (ipv4_chain b s) (protocol b) (after_base b (ipv4_stated b) s))) end.Payload
+    else option_map_or (auth_end (ipv4_stated b) (after_base b (ipv4_stated b) s)) (option_map (auth_in_packet Slice (length b)) (fault_after (ipv4_faults Slice) (ipv4_chain b s) (protocol b) (after_base b (ipv4_stated b) s))) end.Payload
+
+-- the bytes of the packet after the IPv6 chain after the base header b in bytes s
+abbrev pub ipv6_rest : List ℕ → List ℕ → List ℕ
+ipv6_rest b s = rest_after (ipv6_chain b s) (after_base b (ipv6_stated b) s)
 
 -- the error of the IPv6 chain after the base header b in bytes s
 abbrev pub ipv6_error : List ℕ → List ℕ → Option Fault
 ipv6_error b s =
     slice_fault (40 + length (bytes_of (ipv6_chain b s))) (is_empty (ipv6_chain b s))
-    (leads_to (ipv6_next_header b) (ipv6_chain b s))
-    (rest_after (ipv6_chain b s) (after_base b (ipv6_stated b) s))
+    (leads_to (ipv6_next_header b) (ipv6_chain b s)) (ipv6_rest b s)
 
 -- the end after an IPv6 base header b in bytes s
 abbrev pub ipv6_end : List ℕ → List ℕ → End
 ipv6_end b s =
     if has_later (ipv6_chain b s) then end.LaterFragment
-    else option_map_or (exts_end (ipv6_stated b)) (ipv6_error b s) end.Payload
+    else option_map_or (exts_end (ipv6_stated b) (ipv6_rest b s)) (ipv6_error b s) end.Payload

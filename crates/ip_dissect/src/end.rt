@@ -11,12 +11,14 @@ pub enum End {
     LaterFragment,
     /// A header is incomplete here, but lies within the length that the packet states, or none is stated.
     Truncated {
-        /// The bytes that the header needs, and those that are here.
+        /// The bytes that the header needs, and those that are here. It needs as many as its length field states or, if that
+        /// isn't here either, the least that it can have.
         error: LenError,
         /// The IPv6 extension header that is incomplete; `None` if it is another header.
         header: Option<Layer>,
     },
-    /// A header doesn't fit the packet, or its bytes are malformed.
+    /// A header doesn't fit the packet, or its bytes are malformed. If its length field is here, that doesn't depend on how
+    /// many of its other bytes are.
     Fault {
         /// The error.
         error: SliceError,

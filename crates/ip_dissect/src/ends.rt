@@ -1,16 +1,16 @@
 //! Why the headers of a packet end where they do. These functions are kept out of line, since most packets have no error.
-ghost use Rattle.std.specs.Prelude.{◌≡◌, ◌==◌, ◌+◌, ◌^◌, ◌<◌, ◌≤◌, ◌&&◌, not, nat_lt, length, Some, None, IsSome, if◌then◌else◌};
+ghost use Rattle.std.specs.Prelude.{◌≡◌, ◌==◌, ◌+◌, ◌*◌, ◌^◌, ◌<◌, ◌≤◌, ◌&&◌, not, nat_lt, length, slice_index, Some, None, IsSome, if◌then◌else◌};
 ghost use Rattle.std.specs.Option.{option_map_or, option_map, ForSome};
 ghost use Rattle.ip_base.specs.Prefix.{IsPrefix};
 ghost use Rattle.ip_base.specs.LenError.{too_short};
 ghost use Rattle.ip_base.specs.Ipv4Header.{version};
 ghost use Rattle.ip_base.specs.Ipv4HeaderSlice as ipv4_header;
 ghost use Rattle.ip_base.specs.declared.len_source.LenSource.TheVariants.{Slice};
-ghost use Rattle.ip_base.specs.declared.err.ip.headers_error.HeadersError.TheVariants.{Ip};
+ghost use Rattle.ip_base.specs.declared.err.ip.headers_error.HeadersError.TheVariants.{Ip, Ipv4Ext, Ipv6Ext};
 ghost use Rattle.ip_base.specs.declared.err.ip.slice_error.SliceError.TheVariants.{IpHeaders};
 ghost use Rattle.ip_ext_headers.specs.HeaderFault.{AuthOffsetFits, auth_in_packet};
 ghost use Rattle.ip_ext_slices.specs.ChainFault.{slice_fault};
-ghost use Rattle.ip_dissect.specs.End.{base_end, ipv4_end, len_end, auth_end, exts_end};
+ghost use Rattle.ip_dissect.specs.End.{base_end, ipv4_end, len_end, auth_end, exts_end, required_of, needing, states_zero};
 ghost use Rattle.ip_dissect.specs.declared.end.End.TheVariants.{Truncated, Fault, Payload};
 
 use crate::End;
@@ -102,7 +102,7 @@ pub(crate) fn ipv4_end(base: Ipv4HeaderSlice<'_>, bytes: &[u8]) -> End
     let after_base = after(packet_of(bytes, slice, stated_len), slice.len());
     match authentication_header_at(base.protocol(), after_base) {
         Ok(_) => End::Payload,
-        Err(error) => end_of_auth(error, slice.len(), stated_len),
+        Err(error) => end_of_auth(error, after_base, slice.len(), stated_len),
     }
 }
 
@@ -117,40 +117,110 @@ pub(crate) fn end_at_extension(
 ) -> End
     requires fits { 40 + len < 2 ^ 64 }
     requires fault { IsSome (slice_fault (40 + len) (len == 0) number.0 rest.now) }
-    ensures { result ≡ option_map_or (exts_end stated_len) (slice_fault (40 + len) (len == 0)
+    ensures { result ≡ option_map_or (exts_end stated_len rest.now) (slice_fault (40 + len) (len == 0)
         number.0 rest.now) Payload }
 {
     match fault(len == 0, number, rest, Ipv6Header::LEN + len) {
-        (ipv6_exts::HeaderSliceError::Len(error), header) => end_of_len(
-            error,
-            Some(header),
-            stated_len,
-            LenSource::Ipv6HeaderPayloadLen,
-        ),
-        (ipv6_exts::HeaderSliceError::Content(error), header) => End::Fault {
-            error: SliceError::IpHeaders(HeadersError::Ipv6Ext(error)),
-            header: Some(header),
-        },
+        (ipv6_exts::HeaderSliceError::Len(error), header) => {
+            if states_zero(header, rest) {
+                let error = ipv6_exts::HeaderError::IpAuth(ip_auth::HeaderError::ZeroPayloadLen);
+                return ipv6_malformed(error, header);
+            }
+            end_of_len(
+                needing(header, rest, error),
+                Some(header),
+                stated_len,
+                LenSource::Ipv6HeaderPayloadLen,
+            )
+        }
+        (ipv6_exts::HeaderSliceError::Content(error), header) => ipv6_malformed(error, header),
     }
 }
 
-/// Returns the end at an error of an authentication header after an IPv4 base header of `base_len` bytes.
-fn end_of_auth(error: ip_auth::HeaderSliceError, base_len: usize, stated_len: Option<usize>) -> End
+/// Returns the end at a malformed IPv6 extension header.
+fn ipv6_malformed(error: ipv6_exts::HeaderError, header: Layer) -> End
+    ensures { result ≡ Fault (IpHeaders (Ipv6Ext error)) (Some header) }
+{
+    End::Fault {
+        error: SliceError::IpHeaders(HeadersError::Ipv6Ext(error)),
+        header: Some(header),
+    }
+}
+
+/// Returns the end at a malformed authentication header after an IPv4 base header.
+fn ipv4_malformed(error: ip_auth::HeaderError) -> End
+    ensures { result ≡ Fault (IpHeaders (Ipv4Ext error)) None }
+{
+    End::Fault {
+        error: SliceError::IpHeaders(HeadersError::Ipv4Ext(error)),
+        header: None,
+    }
+}
+
+/// Returns the end at an error of an authentication header, of which the bytes `rest` are here, after an IPv4 base header of
+/// `base_len` bytes.
+fn end_of_auth(
+    error: ip_auth::HeaderSliceError,
+    rest: &[u8],
+    base_len: usize,
+    stated_len: Option<usize>,
+) -> End
     requires { AuthOffsetFits error base_len }
-    ensures { result ≡ auth_end stated_len (auth_in_packet Slice base_len error) }
+    ensures { result ≡ auth_end stated_len rest.now (auth_in_packet Slice base_len error) }
 {
     match error {
         ip_auth::HeaderSliceError::Len(error) => {
+            if states_zero(Layer::IpAuthHeader, rest) {
+                return ipv4_malformed(ip_auth::HeaderError::ZeroPayloadLen);
+            }
             let error = LenError {
                 len_source: LenSource::Slice,
                 ..error.add_offset(base_len)
             };
-            end_of_len(error, None, stated_len, LenSource::Ipv4HeaderTotalLen)
+            end_of_len(
+                needing(Layer::IpAuthHeader, rest, error),
+                None,
+                stated_len,
+                LenSource::Ipv4HeaderTotalLen,
+            )
         }
-        ip_auth::HeaderSliceError::Content(error) => End::Fault {
-            error: SliceError::IpHeaders(HeadersError::Ipv4Ext(error)),
-            header: None,
-        },
+        ip_auth::HeaderSliceError::Content(error) => ipv4_malformed(error),
+    }
+}
+
+/// Returns how many bytes a header needs: those that its length byte states, if that is among the bytes `rest` that are here,
+/// and otherwise `least`.
+fn required_len(header: Layer, least: usize, rest: &[u8]) -> usize
+    ensures { result ≡ required_of header least rest.now }
+{
+    if rest.len() < 2 {
+        return least;
+    }
+    let units = usize::from(rest[1]);
+    match header {
+        Layer::Ipv6FragHeader => least,
+        Layer::IpAuthHeader => 4 * (units + 2),
+        _ => 8 * (units + 1),
+    }
+}
+
+/// Returns the error with the number of bytes that the header needs by its length byte, if that is among the bytes `rest`.
+fn needing(header: Layer, rest: &[u8], error: LenError) -> LenError
+    ensures { result ≡ needing header rest.now error }
+{
+    LenError {
+        required_len: required_len(header, error.required_len, rest),
+        ..error
+    }
+}
+
+/// Returns whether the header, of which the bytes `rest` are here, is an authentication header that states a length of 0.
+fn states_zero(header: Layer, rest: &[u8]) -> bool
+    ensures { result ≡ states_zero header rest.now }
+{
+    match header {
+        Layer::IpAuthHeader => rest.len() >= 2 && rest[1] == 0,
+        _ => false,
     }
 }
 

@@ -19,7 +19,7 @@ use Rattle.ip_ext_slices.specs.Ipv4Longest.{longest_ipv4_chain}
 use Rattle.ip_ext_slices.proofs.Ipv4Lemmas.{ipv4_longest}
 use Rattle.ip_dissect.specs.LaterDemand.{has_later, NothingAfterLater, nothing_after_later}
 use Rattle.ip_dissect.specs.Extent.{after_base, ipv4_stated, ipv6_stated, ipv4_chain, ipv6_chain}
-use Rattle.ip_dissect.specs.End.{has_error, auth_end, exts_end, is_too_short, ipv6_end}
+use Rattle.ip_dissect.specs.End.{has_error, auth_end, exts_end, is_too_short, ipv6_rest, ipv6_error, ipv6_end}
 use Rattle.ip_dissect.specs.Fragment.{fragments}
 use Rattle.ip_dissect.specs.Dissection.{DissectedParts, ipv4_dissected, ipv6_dissected, dissected}
 use Rattle.ip_dissect.specs.Outline.{IsBaseOf, is_later_end}
@@ -28,7 +28,7 @@ use Rattle.ip_dissect.specs.declared.dissection.BaseHeader.TheVariants.{Ipv4, Ip
 use Rattle.ip_dissect.specs.declared.end.End.{End}
 use Rattle.ip_dissect.specs.declared.end.End.TheVariants.{Payload, LaterFragment, Truncated, Fault}
 use Rattle.ip_dissect.proofs.LaterLemmas.{chain_to_later-longest, may_follow, met}
-use Rattle.ip_dissect.proofs.OutlineLemmas.{end_with}
+use Rattle.ip_dissect.proofs.OutlineLemmas.{auth_end_fails, end_with}
 use Rattle.ip_dissect.proofs.DissectedLemmas.{BeginIpv4, begins4, BeginIpv6, begins6, BeginNone, begins_none, base_error}
 use Rattle.ip_rewrite.specs.Headers.{number_of_first, linked_headers}
 use Rattle.ip_rewrite.specs.Base.{number_offset, without_checksum, ipv4_stating, length_field, base_stating}
@@ -76,8 +76,8 @@ pub field_fits : (p : DissectedParts) (c : List ExtHeader) (q : List ℕ) (room 
 field_fits p c q room e = grind (arith, common_steps)
 
 -- IPv6
-later_of : (later : Bool) (t : Option ℕ) (o : Option ChainFault) → later ≡ is_later_end (if later then LaterFragment else option_map_or (exts_end t) o Payload)
-later_of later t o = search rules
+later_of : (later : Bool) (t : Option ℕ) (r : List ℕ) (o : Option ChainFault) → later ≡ is_later_end (if later then LaterFragment else option_map_or (exts_end t r) o Payload)
+later_of later t r o = search rules
 
 later_end : (e : End) → has_error e ≡ false → e ≡ end_after (is_later_end e)
 later_end Payload a = refl
@@ -101,7 +101,7 @@ module _ (b s : List ℕ) where
       let ends = longest_ends_under NothingAfterLater nothing_after_later (ipv6_next_header b) x6 c6 (chain_to_later-longest (ipv6_next_header b) x6) in
       let some : IsSome (slice_fault (40 + length (bytes_of c6)) (is_empty c6) m6 (rest_after c6 x6)) =
       fault_at_end Slice (length (rest_after c6 x6)) (rest_after c6 x6) (40 + length (bytes_of c6)) (is_empty c6) m6 is (λ h y. ends h y (may_follow c6 h later)) in
-      false≢true (sym none ∙ end_with (has_later c6) (ipv6_stated b) (slice_fault (40 + length (bytes_of c6)) (is_empty c6) m6 (rest_after c6 x6)) (fails (has_later c6) _ later some))
+      false≢true (sym none ∙ end_with (has_later c6) (ipv6_stated b) (rest_after c6 x6) (slice_fault (40 + length (bytes_of c6)) (is_empty c6) m6 (rest_after c6 x6)) (fails (has_later c6) _ later some))
     where
       fails : {X : Type 0} (later : Bool) (o : Option X) → later ≡ false → IsSome o → (not later && is_some o) ≡ true
       fails later o e some = grind (arith, common_steps)
@@ -142,18 +142,15 @@ auth_error n x e longest =
     let some : IsSome (option_map auth_at (auth_fault Slice (length x) 0 x)) = fault_at_end Slice (length x) x 0 true 51 (inr (inr refl)) (λ h y. ends h y (record { one = omega arith; number = (y.number, tt) })) in
     search rules
 
-auth_end_fails : (t : Option ℕ) (e : AuthError) → has_error (auth_end t e) ≡ true
-auth_end_fails t e = search rules
-
-auth_ends_fail : (t : Option ℕ) (k : ℕ) (o : Option AuthError) → IsSome o → has_error (option_map_or (auth_end t) (option_map (auth_in_packet Slice k) o) Payload) ≡ true
-auth_ends_fail t k o some = search (rules, auth_end_fails t)
+auth_ends_fail : (t : Option ℕ) (x : List ℕ) (k : ℕ) (o : Option AuthError) → IsSome o → has_error (option_map_or (auth_end t x) (option_map (auth_in_packet Slice k) o) Payload) ≡ true
+auth_ends_fail t x k o some = search (rules, auth_end_fails t x)
 
 some_header : (b : List ℕ) (t : Option ℕ) (offset n : ℕ) (x : List ℕ) (c : List ExtHeader) → IsLongestUnder (AtMostOneOf 51) n x c → leads_to n c ≡ 51 → offset ≡ 0
     → has_error (if is_too_short b then Fault (Len (too_short Ipv4HeaderTotalLen (total_len b) 0 Ipv4Packet (length b))) None else if not (offset == 0) then LaterFragment
-    else option_map_or (auth_end t) (option_map (auth_in_packet Slice (length b)) (fault_after (ipv4_faults Slice) c n x)) Payload) ≡ false → 1 ≤ length c
+    else option_map_or (auth_end t x) (option_map (auth_in_packet Slice (length b)) (fault_after (ipv4_faults Slice) c n x)) Payload) ≡ false → 1 ≤ length c
 some_header b t offset n x (h ∷ c) longest auth zero none = omega arith
 some_header b t offset n x [] longest auth zero none =
-    absurd (false≢true (sym none ∙ rw (zero, auth) (either (is_too_short b) _ _ refl (auth_ends_fail t (length b) (auth_fault Slice (length x) 0 x) (auth_error n x auth longest)))))
+    absurd (false≢true (sym none ∙ rw (zero, auth) (either (is_too_short b) _ _ refl (auth_ends_fail t x (length b) (auth_fault Slice (length x) 0 x) (auth_error n x auth longest)))))
   where
     either : (first : Bool) (d e : End) → has_error d ≡ true → has_error e ≡ true → has_error (if first then d else e) ≡ true
     either true d e p q = p
@@ -207,7 +204,7 @@ module _ (b s : List ℕ) where
 pub whole_chain6 : (s b : List ℕ) → BeginIpv6 s b → packet_fault (dissected s) ≡ None → IsWholeChain (dissected s)
 whole_chain6 s b v = subst (λ (p : DissectedParts). packet_fault p ≡ None → IsWholeChain p) (sym v.is) (λ e.
     let whole : IsWhole (ipv6_dissected b s) = whole_packet (ipv6_dissected b s) e in
-    let later : has_later (ipv6_chain b s) ≡ is_later_end (ipv6_end b s) = later_of (has_later (ipv6_chain b s)) (ipv6_stated b) _ in
+    let later : has_later (ipv6_chain b s) ≡ is_later_end (ipv6_end b s) = later_of (has_later (ipv6_chain b s)) (ipv6_stated b) (ipv6_rest b s) (ipv6_error b s) in
     let has = (chain_to_later-longest (ipv6_next_header b) (after_base b (ipv6_stated b) s)).has in
     record {
       chain = has.0.chain;

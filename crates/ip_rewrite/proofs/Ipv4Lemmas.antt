@@ -71,7 +71,7 @@ none_after m c first r h last x o =
 -- the headers end at the payload
 ends_at_payload : (b : List ℕ) (o : Option ℕ) (offset n : ℕ) (x : List ℕ) (c : List ExtHeader) → is_too_short b ≡ false → offset ≡ 0 → (is_empty c && (leads_to n c == 51)) ≡ false
     → (if is_too_short b then Fault (Len (too_short Ipv4HeaderTotalLen (total_len b) 0 Ipv4Packet (length b))) None else if not (offset == 0) then LaterFragment
-    else option_map_or (auth_end o) (option_map (auth_in_packet Slice (length b)) (fault_after (ipv4_faults Slice) c n x)) Payload) ≡ Payload
+    else option_map_or (auth_end o x) (option_map (auth_in_packet Slice (length b)) (fault_after (ipv4_faults Slice) c n x)) Payload) ≡ Payload
 ends_at_payload b o offset n x c short zero last = rw (short, zero, last) refl
 
 module _ (b : List ℕ) (header : IsIpv4Header b) (c : List ExtHeader) (m t : ℕ) (q : List ℕ) where

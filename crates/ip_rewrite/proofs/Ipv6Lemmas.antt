@@ -37,7 +37,7 @@ none_missing n k j is = grind (arith, common_steps)
 
 -- the headers end at the payload if none is a later fragment's and their number is no extension header's
 ends_at_payload : (t : Option ℕ) (n : ℕ) (x : List ℕ) (c : List ExtHeader) → has_later c ≡ false → (IsExtensionNumber (leads_to n c) → ⊥)
-    → (if has_later c then LaterFragment else option_map_or (exts_end t) (slice_fault (40 + length (bytes_of c)) (is_empty c) (leads_to n c) (rest_after c x)) Payload) ≡ Payload
+    → (if has_later c then LaterFragment else option_map_or (exts_end t (rest_after c x)) (slice_fault (40 + length (bytes_of c)) (is_empty c) (leads_to n c) (rest_after c x)) Payload) ≡ Payload
 ends_at_payload t n x c later other = rw (later, no_fault_at_other Slice (length (rest_after c x)) (is_empty c) (leads_to n c) (rest_after c x) (40 + length (bytes_of c)) other) refl
 
 -- the end after headers without an error
@@ -45,7 +45,7 @@ abbrev pub end_after : Bool → End
 end_after later = if later then LaterFragment else Payload
 
 ends_after : (l : Bool) (t : Option ℕ) (n : ℕ) (x : List ℕ) (c : List ExtHeader) → has_later c ≡ l → (l ≡ false → IsExtensionNumber (leads_to n c) → ⊥)
-    → (if has_later c then LaterFragment else option_map_or (exts_end t) (slice_fault (40 + length (bytes_of c)) (is_empty c) (leads_to n c) (rest_after c x)) Payload) ≡ end_after l
+    → (if has_later c then LaterFragment else option_map_or (exts_end t (rest_after c x)) (slice_fault (40 + length (bytes_of c)) (is_empty c) (leads_to n c) (rest_after c x)) Payload) ≡ end_after l
 ends_after true t n x c later other = rw later refl
 ends_after false t n x c later other = ends_at_payload t n x c later (other refl)
 

@@ -1,21 +1,18 @@
--- Steps of a formula are compiled one after another.
-use Rattle.std.proofs.Common.{zero, suc, drop-cons, get_or, add-one}
-use Rattle.ip_spec.proofs.Common.{◌≡◌, ℕ, ◌+◌, ◌-◌, ◌<◌, ◌≤◌, ◌%◌, List, [], ◌∷◌, ◌++◌, length, take, drop, map, refl, sym, ap, ◌∙◌, subst, arith, common_steps, eqb_tells, inl, inr, cases_eq, Bool, true, false, not, ◌==◌, ◌&&◌, ◌||◌, if◌then◌else◌, Option, None, Some, length-append, length-take-le, length-drop, length-map, take-append_seam, drop-append_seam, take_at, append_assoc, append-nil, take_all, drop_all, slice_set, slice_index_or, take-append-add, length-take, take-take, min, IsSome, false≢true}
-use Rattle.std.specs.Option.{option_to_list, unwrap_or}
+-- Formulas are compiled: terms are added, and the last formulas are negated and joined.
+use Rattle.std.proofs.Common.{zero, suc}
+use Rattle.ip_spec.proofs.Common.{◌≡◌, ℕ, ◌+◌, ◌-◌, ◌<◌, ◌≤◌, ◌%◌, List, [], ◌∷◌, ◌++◌, length, take, drop, map, refl, sym, ap, ◌∙◌, subst, arith, common_steps, eqb_tells, inl, inr, cases_eq, Bool, true, false, not, ◌==◌, ◌&&◌, ◌||◌, if◌then◌else◌, Option, None, Some, length-append, length-take-le, length-drop, length-map, take-append_seam, drop-append_seam, take_at, append_assoc, append-nil, take_all, drop_all, slice_set, slice_index_or, take-append-add, length-take, take-take, min}
 use Rattle.std.proofs.lemmas.List.{drop_at, same_from_push, drop-take, take_min}
 use Rattle.std.proofs.Math.Seq.{get_or-append_seam}
-use Rattle.ip_filter.specs.Formula.{Formula, single, negation, both, either, truth, negated, after_step, read_after}
+use Rattle.ip_filter.specs.Formula.{Formula, single, negation, both, either, truth, negated}
 use Rattle.ip_filter.specs.Tests.{frame_meets, meets}
-use Rattle.ip_filter.specs.Program.{led_to, passes, frame_holds}
-use Rattle.ip_filter.specs.Compiled.{terms_of, terms_of_all, joined_by, Decide, AreCompiled, index_moved, redirected, redirected_from}
+use Rattle.ip_filter.specs.Program.{led_to, passes, tests_of, frame_holds}
+use Rattle.ip_filter.specs.Compiled.{terms_of, terms_of_all, joined_by, Decide, AreCompiled, HasCompiled, index_moved, redirected, redirected_from}
 use Rattle.ip_filter.specs.declared.filter.Test.{Test}
+use Rattle.ip_filter.specs.declared.filter.Filter.{Filter}
 use Rattle.ip_filter.specs.declared.term.Term.{Term}
 use Rattle.ip_dissect.specs.Dissection.{dissected}
 use Rattle.ip_filter.specs.Truth.{holds}
-use Rattle.ip_filter.specs.declared.steps.Step.{Step}
-use Rattle.ip_filter.specs.declared.steps.StepKind.{StepKind}
-use Rattle.ip_filter.specs.declared.steps.StepKind.TheVariants as does
-use Rattle.ip_filter.specs.declared.steps.StepKind.TheVariants.{And, Or}
+use Rattle.ip_filter.specs.declared.compile.Compiler.{Compiler}
 use Rattle.ip_filter.proofs.FormulaLemmas.{negated_odd, negated_even}
 use Rattle.ip_filter.proofs.ProgramLemmas.{past_all}
 
@@ -263,7 +260,7 @@ used_len n m all size least = omega (arith, size, least, length-take n all)
 pub whole_redirected : (i a b e : ℕ) (xs : List Test) → length xs ≡ e → redirected_from i a b (take e xs) ++ drop e xs ≡ redirected_from i a b xs
 whole_redirected i a b e xs is = rw (take_all e xs (omega (arith, is)), drop_all e xs (omega (arith, is))) (append-nil (redirected_from i a b xs))
 
--- ---- the steps
+-- ---- the last formulas
 
 module _ (frame : Option (List ℕ)) (k : ℕ) where
   pub negated_even_times : (f : Formula) (fs : List Formula) (starts : List ℕ) (xs : List Test) → (k % 2 ≡ 1 → ⊥) → AreCompiled frame (f ∷ fs) starts xs → AreCompiled frame (negated k f ∷ fs) starts xs
@@ -276,27 +273,6 @@ module _ (frame : Option (List ℕ)) (k : ℕ) where
       subst (λ st. AreCompiled frame (negated k f ∷ fs) st ys) (sym same)
       (same_truth frame (negation f) (negated k f) fs starts ys (negated-terms k f) (sym (negated_odd k f (frame_holds frame) (truth f (frame_holds frame)) refl odd)) once)
 
-  -- too few formulas to join
-  pub none_joined : (is_and : Bool) (fs : List Formula) (starts : List ℕ) (xs : List Test) → length starts < 2 → AreCompiled frame fs starts xs → AreCompiled frame (after_step (if is_and then And else Or) k fs) starts xs
-  none_joined is_and (g ∷ f ∷ fs) starts xs few are = absurd (omega (arith, few, compiled_starts frame (g ∷ f ∷ fs) starts xs are))
-  none_joined true [] starts xs few are = are
-  none_joined false [] starts xs few are = are
-  none_joined true (f ∷ []) starts xs few are = are
-  none_joined false (f ∷ []) starts xs few are = are
-
-  -- the last two formulas are joined, and the result is negated
-  pub two_joined : (is_and : Bool) (fs : List Formula) (starts mid more last : List ℕ) (j : ℕ) (xs ys zs : List Test) → 2 ≤ length starts → starts ≡ mid ++ j ∷ []
-      → terms_of_all (after_step (if is_and then And else Or) k fs) ≤ 64
-      → ((f g : Formula) (gs : List Formula) → terms_of g + (terms_of f + terms_of_all gs) ≤ 64 → AreCompiled frame (g ∷ f ∷ gs) (mid ++ j ∷ []) xs → AreCompiled frame (joined_by is_and f g ∷ gs) more ys)
-      → ((h : Formula) (gs : List Formula) → terms_of h + terms_of_all gs ≤ 64 → AreCompiled frame (h ∷ gs) more ys → AreCompiled frame (negated k h ∷ gs) last zs)
-      → AreCompiled frame fs starts xs → AreCompiled frame (after_step (if is_and then And else Or) k fs) last zs
-  two_joined is_and [] starts mid more last j xs ys zs two popped few join negate are = absurd (omega (arith, two, compiled_starts frame [] starts xs are))
-  two_joined is_and (f ∷ []) starts mid more last j xs ys zs two popped few join negate are = absurd (omega (arith, two, compiled_starts frame (f ∷ []) starts xs are))
-  two_joined true (g ∷ f ∷ fs) starts mid more last j xs ys zs two popped few join negate are =
-      negate (both f g) fs (omega (arith, few, negated-terms k (both f g))) (join f g fs (omega (arith, few, negated-terms k (both f g))) (subst (λ st. AreCompiled frame (g ∷ f ∷ fs) st xs) popped are))
-  two_joined false (g ∷ f ∷ fs) starts mid more last j xs ys zs two popped few join negate are =
-      negate (either f g) fs (omega (arith, few, negated-terms k (either f g))) (join f g fs (omega (arith, few, negated-terms k (either f g))) (subst (λ st. AreCompiled frame (g ∷ f ∷ fs) st xs) popped are))
-
 -- the tests of the first of two formulas lead on to those of the second
 pub in_order : (frame : Option (List ℕ)) (is_and : Bool) (f g : Formula) (fs : List Formula) (mid : List ℕ) (j : ℕ) (xs ys : List Test) → terms_of g + (terms_of f + terms_of_all fs) ≤ 64
     → ((rest : List ℕ) (i : ℕ) → mid ≡ rest ++ i ∷ [] → i ≤ j → j ≤ length xs → ys ≡ redirected_from i (if is_and then j else 64) (if is_and then 65 else j) (take j xs) ++ drop j xs)
@@ -306,57 +282,24 @@ in_order frame true f g fs mid j xs ys few to are =
 in_order frame false f g fs mid j xs ys few to are =
     two_compiled frame f g fs (mid ++ j ∷ []) mid j xs ys 64 j few refl to (either f g) refl (λ i front df dg seam fits small. decide_either frame f g i j front (drop j xs) df dg seam fits small) are
 
--- the last item was popped
-pub popped_last : (old new : List ℕ) (o : Option ℕ) → old ≡ new ++ option_to_list o → IsSome o → old ≡ new ++ unwrap_or o 0 ∷ []
-popped_last old new None e some = absurd (false≢true some)
-popped_last old new (Some j) e some = e
+-- a formula has a start
+pub some_start : (f : Formula) (fs : List Formula) (c : Compiler) → length c.starts.items ≡ 0 → HasCompiled (f ∷ fs) c → ⊥
+some_start f fs c none are = omega (arith, none, compiled_starts None (f ∷ fs) c.starts.items (tests_of c.filter) (are None))
 
 same_for_frames : (x : Test) (t : Term) → ((s : List ℕ) → meets x (dissected s) ≡ holds t (dissected s)) → (frame : Option (List ℕ)) → frame_meets frame x ≡ frame_holds frame t
 same_for_frames x t same None = refl
 same_for_frames x t same (Some s) = same s
 
-module _ (frame : Option (List ℕ)) (k : ℕ) (t : Term) (x : Test) (fs : List Formula) (starts more last : List ℕ) (xs ys zs : List Test) where
-  -- a term's test is added, and negated
-  pub term_compiled : ((s : List ℕ) → meets x (dissected s) ≡ holds t (dissected s)) → x.if_met ≡ 64 → x.if_not ≡ 65
-      → (length xs < 64 → length starts < 64 → ys ≡ xs ++ x ∷ []) → (length xs < 64 → length starts < 64 → more ≡ starts ++ length xs ∷ [])
-      → ((h : Formula) (gs : List Formula) → terms_of h + terms_of_all gs ≤ 64 → AreCompiled frame (h ∷ gs) more ys → AreCompiled frame (negated k h ∷ gs) last zs)
-      → terms_of_all (negated k (single t) ∷ fs) ≤ 64 → AreCompiled frame fs starts xs → AreCompiled frame (negated k (single t) ∷ fs) last zs
-  term_compiled same met not_met tests begin negate few are =
-      let room : length xs < 64 = omega (arith, few, negated-terms k (single t), compiled_tests frame fs starts xs are) in
-      let place : length starts < 64 = omega (arith, few, negated-terms k (single t), compiled_starts frame fs starts xs are, few_formulas fs) in
-      negate (single t) fs (omega (arith, few, negated-terms k (single t)))
-      (test_added frame t x fs starts more xs ys (same_for_frames x t same frame) met not_met (tests room place) (begin room place) are)
-
--- a step makes no formula smaller
-no_fewer_terms : (kind : StepKind) (k : ℕ) (fs : List Formula) → terms_of_all fs ≤ terms_of_all (after_step kind k fs)
-no_fewer_terms (does.Term t) k fs = omega arith
-no_fewer_terms does.And k (g ∷ f ∷ fs) = omega (arith, negated-terms k (both f g))
-no_fewer_terms does.Or k (g ∷ f ∷ fs) = omega (arith, negated-terms k (either f g))
-no_fewer_terms does.And k [] = omega arith
-no_fewer_terms does.Or k [] = omega arith
-no_fewer_terms does.And k (f ∷ []) = omega arith
-no_fewer_terms does.Or k (f ∷ []) = omega arith
-
--- The steps before index i were compiled.
-pub record Compiling (steps : List Step) (i : ℕ) (starts : List ℕ) (xs : List Test) : Type 0 where
-  pub formulas : List Formula
-  pub left : read_after formulas (drop i steps) ≡ read_after [] steps
-  pub made : (frame : Option (List ℕ)) → terms_of_all formulas ≤ 64 → AreCompiled frame formulas starts xs
-
-pub begin : (steps : List Step) (starts : List ℕ) (xs : List Test) → starts ≡ [] → xs ≡ [] → Compiling steps 0 starts xs
-begin steps starts xs no_starts no_tests = record { formulas = []; left = refl; made = λ frame few. (no_starts, no_tests) }
-
-pub advance : (steps : List Step) (i : ℕ) (d : Step) (starts more : List ℕ) (xs ys : List Test) → i < length steps
-    → ((frame : Option (List ℕ)) (fs : List Formula) → terms_of_all (after_step (get_or steps i d).kind (get_or steps i d).nots fs) ≤ 64 → AreCompiled frame fs starts xs
-    → AreCompiled frame (after_step (get_or steps i d).kind (get_or steps i d).nots fs) more ys)
-    → Compiling steps i starts xs → Compiling steps (i + 1) more ys
-advance steps i d starts more xs ys within reads w =
-    let s : Step = get_or steps i d in
-    record {
-      formulas = after_step s.kind s.nots w.formulas;
-      left = rw add-one (ap (read_after w.formulas) (sym (drop-cons steps i d within)) ∙ w.left);
-      made = λ frame few. reads frame w.formulas few (w.made frame (omega (arith, few, no_fewer_terms s.kind s.nots w.formulas)));
-    }
+-- a term's test is added
+pub term_compiled : (t : Term) (x : Test) (old new : Compiler) → ((s : List ℕ) → meets x (dissected s) ≡ holds t (dissected s)) → x.if_met ≡ 64 → x.if_not ≡ 65
+    → (length (tests_of old.filter) < 64 → length old.starts.items < 64 → tests_of new.filter ≡ tests_of old.filter ++ x ∷ [])
+    → (length (tests_of old.filter) < 64 → length old.starts.items < 64 → new.starts.items ≡ old.starts.items ++ length (tests_of old.filter) ∷ [])
+    → (fs : List Formula) → terms_of_all (single t ∷ fs) ≤ 64 → HasCompiled fs old → HasCompiled (single t ∷ fs) new
+term_compiled t x old new same met not_met tests begin fs few are frame =
+    let xs : List Test = tests_of old.filter in
+    let room : length xs < 64 = omega (arith, few, compiled_tests frame fs old.starts.items xs (are frame)) in
+    let place : length old.starts.items < 64 = omega (arith, few, compiled_starts frame fs old.starts.items xs (are frame), few_formulas fs) in
+    test_added frame t x fs old.starts.items new.starts.items xs (tests_of new.filter) (same_for_frames x t same frame) met not_met (tests room place) (begin room place) (are frame)
 
 compiled_alone : (frame : Option (List ℕ)) (f : Formula) (starts : List ℕ) (xs : List Test) → AreCompiled frame (f ∷ []) starts xs → passes xs (frame_meets frame) ≡ truth f (frame_holds frame)
 compiled_alone frame f starts xs (rest, i, e, some, size, d, (no_rest, no_tests)) =
@@ -367,22 +310,14 @@ compiled_alone frame f starts xs (rest, i, e, some, size, d, (no_rest, no_tests)
       passed true = refl
       passed false = refl
 
+-- what a filter with the tests of one formula lets pass, and how many tests it has
+module _ (f : Formula) (c : Compiler) (x : Filter) (same : tests_of x ≡ tests_of c.filter) (are : HasCompiled (f ∷ []) c) where
+  pub passes_formula : (frame : Option (List ℕ)) → passes (tests_of x) (frame_meets frame) ≡ truth f (frame_holds frame)
+  passes_formula frame = ap (λ xs. passes xs (frame_meets frame)) same ∙ compiled_alone frame f c.starts.items (tests_of c.filter) (are frame)
+
+  pub few_tests : x.count ≡ length (tests_of c.filter) → x.count ≤ terms_of f
+  few_tests count = omega (arith, count, compiled_tests None (f ∷ []) c.starts.items (tests_of c.filter) (are None))
+
 -- The first k tests are those that are used, if k is their number.
 pub used_again : (n k : ℕ) (xs ys : List Test) → ys ≡ take n xs → k ≡ length ys → take k xs ≡ take n xs
 used_again n k xs ys is len = ap (λ j. take j xs) (len ∙ ap length is ∙ length-take n xs) ∙ take_min n xs
-
--- The tests are those of one formula.
-only_one : (steps : List Step) (i : ℕ) (starts : List ℕ) (xs : List Test) (f : Formula) (frame : Option (List ℕ)) → length steps ≤ i → read_after [] steps ≡ f ∷ [] → terms_of f ≤ 64
-    → Compiling steps i starts xs → AreCompiled frame (f ∷ []) starts xs
-only_one steps i starts xs f frame out is few w =
-    let all : w.formulas ≡ f ∷ [] = sym (ap (read_after w.formulas) (drop_all i steps out)) ∙ w.left ∙ is in
-    subst (λ fs. AreCompiled frame fs starts xs) all (w.made frame (subst (λ fs. terms_of_all fs ≤ 64) (sym all) (omega (arith, few))))
-
-pub finished : (steps : List Step) (i : ℕ) (starts : List ℕ) (xs : List Test) (f : Formula) (frame : Option (List ℕ)) → length steps ≤ i → read_after [] steps ≡ f ∷ [] → terms_of f ≤ 64
-    → Compiling steps i starts xs → passes xs (frame_meets frame) ≡ truth f (frame_holds frame)
-finished steps i starts xs f frame out is few w = compiled_alone frame f starts xs (only_one steps i starts xs f frame out is few w)
-
--- There is one test at most for each term.
-pub few_tests : (steps : List Step) (i : ℕ) (starts : List ℕ) (xs : List Test) (f : Formula) → length steps ≤ i → read_after [] steps ≡ f ∷ [] → terms_of f ≤ 64
-    → Compiling steps i starts xs → length xs ≤ terms_of f
-few_tests steps i starts xs f out is few w = omega (arith, compiled_tests None (f ∷ []) starts xs (only_one steps i starts xs f None out is few w))

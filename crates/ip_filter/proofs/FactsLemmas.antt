@@ -18,6 +18,7 @@ use Rattle.ip_dissect.proofs.Ipv4Lemmas.{ipv4_prefix}
 use Rattle.ip_dissect.proofs.DissectedLemmas.{begins4, begins6, begins_none}
 use Rattle.ip_dissect.proofs.LaterLemmas.{chain_to_later-longest}
 use Rattle.ip_filter.specs.Facts.{number_after}
+use Rattle.ip_filter.specs.HeaderFields.{has_options, has_option}
 use Rattle.ip_filter.specs.HeaderConditions.{is_asked, meets_condition}
 use Rattle.ip_filter.specs.declared.header_condition.HeaderCondition.{HeaderCondition}
 use Rattle.ip_filter.specs.declared.header_condition.HeaderCondition.TheVariants as asks
@@ -58,9 +59,13 @@ not_asked (asks.SecurityParameters i) h other = rw other refl
 not_asked (asks.RoutingType t) h other = rw other refl
 not_asked (asks.SegmentsLeft c k) h other = rw other refl
 not_asked (asks.Identification i) h other = rw other refl
-not_asked (asks.Option t) h other = rw other refl
 
 -- Without a header of such a number, none meets it.
 pub none_meets : (x : HeaderCondition) (c : List ExtHeader) → false ≡ list_any (λ h. is_asked x h.number) c → false ≡ list_any (meets_condition x) c
 none_meets x [] none = refl
 none_meets x (h ∷ c) none = grind (arith, common_steps, not_asked x h, none_meets x c)
+
+-- Without a header of options, there is no option.
+pub no_options : (n : ℕ) (c : List ExtHeader) → false ≡ list_any (λ h. has_options h.number) c → false ≡ list_any (has_option n) c
+no_options n [] none = refl
+no_options n (h ∷ c) none = grind (arith, common_steps, no_options n c)

@@ -13,7 +13,7 @@ use Rattle.ip_filter.specs.Grammar.{Operand, Conjunction, Disjunction, a_term, a
 use Rattle.ip_filter.specs.Reading.{ends_term, LastIs, WantsArgument}
 use Rattle.ip_filter.specs.Parsing.{Open, State, before, after, nothing_open, HasRoom, Moves, by_not, by_open, by_term, by_and, by_or, by_close, may_follow, LeadsTo, ends, goes_on, with_operand, and_joined, or_joined, negate, open_terms, group_terms, state_words, NeedsOperand, IsWhole, EndsGroup, IsDue}
 use Rattle.ip_filter.specs.Parsed.{AreFilter, BeginFilter, IsExpected}
-use Rattle.ip_filter.proofs.CountLemmas.{operand_count, conjunction_count}
+use Rattle.ip_filter.proofs.CountLemmas.{some_in_operand, some_in_conjunction}
 use Rattle.ip_filter.proofs.StateLemmas.{Good, good_whole, move_good, move_room, move_words, or_joined_words, or_joined_terms}
 
 -- ---- what ends a term
@@ -57,7 +57,7 @@ module _ (d : Disjunction) where
     conjunction_leads (an_and c w u) fs o ws is deep many e l =
         subst (λ x. LeadsTo (before fs (record { or_left = o; and_left = None; nots = [] })) x d) (sym (append_assoc (conjunction_words c) (w ∷ operand_words u) ws))
         (conjunction_leads c fs o (w ∷ (operand_words u ++ ws)) is.0 (omega (arith, deep)) (omega (arith, many)) (and_ends w (operand_words u ++ ws) is.1)
-        (step _ _ (w ∷ []) (operand_words u ++ ws) (by_and fs o c w is.1 (omega (arith, many, operand_count u 0))) tt
+        (step _ _ (w ∷ []) (operand_words u ++ ws) (by_and fs o c w is.1 (omega (arith, many, some_in_operand u))) tt
         (operand_leads u fs (record { or_left = o; and_left = Some (c, w); nots = [] }) ws is.2 (omega (arith, deep)) (omega (arith, many)) e l)))
 
     filter_leads : (g : Disjunction) (fs : List Open) (ws : List Word) → IsDisjunction g → length fs + depth_of g ≤ 16 → group_terms fs + terms_in g ≤ 64 → IsTrue (ends_term ws)
@@ -66,7 +66,7 @@ module _ (d : Disjunction) where
     filter_leads (an_or g w c) fs ws is deep many e l =
         subst (λ x. LeadsTo (before fs nothing_open) x d) (sym (append_assoc (filter_words g) (w ∷ conjunction_words c) ws))
         (filter_leads g fs (w ∷ (conjunction_words c ++ ws)) is.0 (omega (arith, deep)) (omega (arith, many)) (or_ends w (conjunction_words c ++ ws) is.1)
-        (λ o b same. step _ _ (w ∷ []) (conjunction_words c ++ ws) (by_or fs o b w is.1 (omega (arith, many, conjunction_count c 0, or_joined_terms o b, ap terms_in same))) tt
+        (λ o b same. step _ _ (w ∷ []) (conjunction_words c ++ ws) (by_or fs o b w is.1 (omega (arith, many, some_in_conjunction c, or_joined_terms o b, ap terms_in same))) tt
         (subst (λ x. LeadsTo (before fs (record { or_left = Some (x, w); and_left = None; nots = [] })) (conjunction_words c ++ ws) d) (sym same)
         (conjunction_leads c fs (Some (g, w)) ws is.2 (omega (arith, deep)) (omega (arith, many)) e (l (Some (g, w)) c refl)))))
 

@@ -2,7 +2,7 @@
 use Rattle.std.proofs.Common.{Some, None, is_some, IsTrue, codes}
 use Rattle.std.specs.Option.{option_map_or}
 use Rattle.std.specs.Str.{bytes_eq}
-use Rattle.ip_spec.proofs.Common.{◌≡◌, ℕ, ◌+◌, ◌-◌, ◌<◌, ◌≤◌, ◌^◌, min, List, [], ◌∷◌, ◌++◌, length, take, drop, refl, sym, ap, ◌∙◌, subst, arith, true, false, false≢true, append_assoc, append-nil, length-append}
+use Rattle.ip_spec.proofs.Common.{◌≡◌, ℕ, ◌+◌, ◌-◌, ◌<◌, ◌≤◌, ◌^◌, min, List, [], ◌∷◌, ◌++◌, length, take, drop, refl, sym, ap, ◌∙◌, subst, arith, true, false, false≢true, append_assoc, length-append}
 use Rattle.ip_filter.specs.declared.words.Word.{Word as FirstWord}
 use Rattle.ip_filter.specs.declared.builder.Builder.{Builder}
 use Rattle.ip_filter.specs.declared.parse_error.Expected.{Expected}
@@ -12,14 +12,14 @@ use Rattle.ip_filter.specs.declared.keyword.Keyword.{Keyword}
 use Rattle.ip_filter.specs.Words.{Word, words}
 use Rattle.ip_filter.specs.Grammar.{Operand, Disjunction, Conjunction, a_term, keyword_of, AreArguments, IsTerm, is_not, filter_words, conjunction_words}
 use Rattle.ip_filter.specs.Reading.{IsPlace, IsFirstWord, ReadsTerm, RefusesTerm, ends_term}
-use Rattle.ip_filter.specs.Parsing.{Open, State, before, nothing_open, Moves, by_not, by_open, by_term, may_follow, LeadsTo, with_operand, open_terms, group_terms, group_words, open_words, CountsFit, Holds, HoldsOperand, ReadsOn, RefusesFrom, level_of, levels_of, state_steps, and_joined, negate}
+use Rattle.ip_filter.specs.Parsing.{Open, State, before, nothing_open, Moves, by_not, by_open, by_term, may_follow, LeadsTo, with_operand, open_terms, group_terms, group_words, open_words, CountsFit, Holds, HoldsOperand, ReadsOn, RefusesFrom, level_of, levels_of, group_formulas, state_terms}
 use Rattle.arrayvec.specs.declared.array_vec.ArrayVec.{ArrayVec}
 use Rattle.ip_filter.specs.declared.builder.Level.{Level}
-use Rattle.ip_filter.specs.declared.steps.Steps.{Steps}
-use Rattle.ip_filter.specs.declared.steps.StepKind.TheVariants as kind
-use Rattle.ip_filter.specs.Formula.{steps_of}
-use Rattle.ip_filter.proofs.PartStepsLemmas.{joined_terms}
-use Rattle.ip_filter.proofs.CountLemmas.{group_count, after_count}
+use Rattle.ip_filter.specs.declared.compile.Compiler.{Compiler}
+use Rattle.ip_filter.specs.Formula.{Formula, single}
+use Rattle.ip_filter.specs.Compiled.{terms_of_all, HasCompiled}
+use Rattle.ip_filter.proofs.OperandLemmas.{joined_terms}
+use Rattle.ip_filter.proofs.CountLemmas.{group_count}
 use Rattle.ip_filter.proofs.LeadLemmas.{can_end, term_ends, argument_is_due}
 use Rattle.ip_filter.proofs.WordLemmas.{same_word, either_word}
 use Rattle.ip_filter.proofs.PlaceLemmas.{end_of_end, place_in_end, from_place}
@@ -89,7 +89,7 @@ module _ (text : List ℕ) (w : FirstWord) (is : IsFirstWord text w) where
 module _ (b : Builder) (w : FirstWord) where
   pub not_read : (r : ℕ) → is_not w.bytes.now ≡ true → r ≡ min (b.level.nots + 1) 18446744073709551615 → (text : List ℕ) (fs : List Open) (f : Open) → IsFirstWord text w
       → Holds (before fs f) b → CountsFit (before fs f)
-      → ReadsOn (before fs f) text w.rest.now (record { steps = b.steps; terms = b.terms; outer = b.outer; level = record { nots = r; or_waits = b.level.or_waits; and_waits = b.level.and_waits }; has_operand = b.has_operand })
+      → ReadsOn (before fs f) text w.rest.now (record { compiler = b.compiler; terms = b.terms; outer = b.outer; level = record { nots = r; or_waits = b.level.or_waits; and_waits = b.level.and_waits }; has_operand = b.has_operand })
   not_read r n sum text fs f is h fits =
       let word = w.bytes.now in
       let more : Open = record f { nots = f.nots ++ word ∷ [] } in
@@ -104,7 +104,7 @@ module _ (b : Builder) (w : FirstWord) where
         begins = is.begins;
         end = is.end;
         holds = record {
-          steps = h.steps;
+          compiled = h.compiled;
           terms = h.terms;
           outer = h.outer;
           level = ap (λ l. record { nots = r; or_waits = l.or_waits; and_waits = l.and_waits }) h.level ∙ ap (λ k. record { nots = k; or_waits = is_some f.or_left; and_waits = is_some f.and_left }) nots;
@@ -116,7 +116,7 @@ module _ (b : Builder) (w : FirstWord) where
   pub open_read : (outer : ArrayVec Level 16 (Unit {0})) (level : Level) → bytes_eq w.bytes.now (codes "(") ≡ true → outer.items ≡ b.outer.items ++ b.level ∷ []
       → level ≡ record { nots = 0; or_waits = false; and_waits = false } → length b.outer.items < 16 → (text : List ℕ) (fs : List Open) (f : Open) → IsFirstWord text w
       → Holds (before fs f) b → CountsFit (before fs f)
-      → ReadsOn (before fs f) text w.rest.now (record { steps = b.steps; terms = b.terms; outer = outer; level = level; has_operand = b.has_operand })
+      → ReadsOn (before fs f) text w.rest.now (record { compiler = b.compiler; terms = b.terms; outer = outer; level = level; has_operand = b.has_operand })
   open_read outer level o pushed empty room text fs f is h fits =
       let same = same_word w.bytes.now (codes "(") o in
       let few : length fs < 16 = omega (arith, room, ap length h.outer, level_count fs) in
@@ -127,7 +127,7 @@ module _ (b : Builder) (w : FirstWord) where
         begins = is.begins ∙ ap (λ x. x ∷ words w.rest.now) same;
         end = is.end;
         holds = record {
-          steps = h.steps ∙ sym (append-nil (state_steps (before fs f))) ∙ sym (append-nil (state_steps (before fs f) ++ []));
+          compiled = h.compiled;
           terms = h.terms ∙ (let e : group_terms fs + open_terms f ≡ group_terms fs + open_terms f + 0 = omega arith in e);
           outer = pushed ∙ ap (λ ls. ls ++ b.level ∷ []) h.outer ∙ ap (λ l. levels_of fs ++ l ∷ []) h.level;
           level = empty;
@@ -183,39 +183,35 @@ module _ (b : Builder) (w : FirstWord) where
           r.none found.0 found.1 ws more (arguments_of k named found.1 found.0 found.4) found.5 found.6 (next ∙ ap (λ s. take 1 (words s)) (sym (from_place text w.rest.now is.end left r.place.within)));
     }
 
-    -- the step of the term is the last one
-    term_holds : (filter : Steps) (count : ℕ) (us : List Word) (t : Term) (fs : List Open) (f : Open) → Holds (before fs f) b → count ≡ b.terms + 1
-        → steps_of filter ≡ steps_of b.steps ++ record { kind = kind.Term t; nots = b.level.nots } ∷ []
-        → HoldsOperand fs f (a_term w.bytes.now us t) (record { steps = filter; terms = count; outer = b.outer; level = b.level; has_operand = b.has_operand })
-    term_holds filter count us t fs f h sum pushed = record {
-      steps = pushed ∙ ap (λ s. s ++ record { kind = kind.Term t; nots = b.level.nots } ∷ []) h.steps
-          ∙ ap (λ k. state_steps (before fs f) ++ record { kind = kind.Term t; nots = k } ∷ []) (ap (λ l. l.nots) h.level);
+    -- the formula of the term is the last one
+    term_holds : (compiler : Compiler) (count : ℕ) (us : List Word) (t : Term) (fs : List Open) (f : Open) → Holds (before fs f) b → count ≡ b.terms + 1
+        → HasCompiled (single t ∷ group_formulas (f ∷ fs)) compiler
+        → HoldsOperand fs f (a_term w.bytes.now us t) (record { compiler = compiler; terms = count; outer = b.outer; level = b.level; has_operand = b.has_operand })
+    term_holds compiler count us t fs f h sum made = record {
+      compiled = made;
       terms = sum ∙ ap (λ k. k + 1) h.terms;
       outer = h.outer;
-      or_waits = ap (λ l. l.or_waits) h.level;
-      and_waits = ap (λ l. l.and_waits) h.level;
+      level = h.level;
     }
 
-    pub term_read : (k : Keyword) → Some k ≡ keyword_of w.bytes.now → (filter : Steps) (count : ℕ) (t : Term) (rest : List ℕ) (new : Builder) → ReadsTerm k w.rest.now t rest → count ≡ min (b.terms + 1) 18446744073709551615
-        → (length (steps_of b.steps) < 127 → steps_of filter ≡ steps_of b.steps ++ record { kind = kind.Term t; nots = b.level.nots } ∷ [])
-        → ((fs : List Open) (f : Open) (u : Operand) → HoldsOperand fs f u (record { steps = filter; terms = count; outer = b.outer; level = b.level; has_operand = b.has_operand })
-        → length (state_steps (with_operand fs f u)) ≤ 127 → Holds (with_operand fs f u) new)
+    pub term_read : (k : Keyword) → Some k ≡ keyword_of w.bytes.now → (compiler : Compiler) (count : ℕ) (t : Term) (rest : List ℕ) (new : Builder) → ReadsTerm k w.rest.now t rest → count ≡ min (b.terms + 1) 18446744073709551615
+        → ((gs : List Formula) → terms_of_all (single t ∷ gs) ≤ 64 → HasCompiled gs b.compiler → HasCompiled (single t ∷ gs) compiler)
+        → ((fs : List Open) (f : Open) (u : Operand) → HoldsOperand fs f u (record { compiler = compiler; terms = count; outer = b.outer; level = b.level; has_operand = b.has_operand })
+        → state_terms (with_operand fs f u) ≤ 64 → Holds (with_operand fs f u) new)
         → (text : List ℕ) (fs : List Open) (f : Open) → IsFirstWord text w → Holds (before fs f) b → CountsFit (before fs f) → ReadsOn (before fs f) text rest new
-    term_read k named filter count t rest new r sum push done text fs f is h fits =
+    term_read k named compiler count t rest new r sum add done text fs f is h fits =
         let u = a_term w.bytes.now r.args t in
         let terms = h.terms in
         let few = fits.terms in
-        let room : length (steps_of b.steps) < 127 = omega (arith, few, terms, ap length h.steps, group_count (f ∷ fs)) in
-        let all = joined_terms f.nots u f.and_left in
-        let enough : length (state_steps (with_operand fs f u)) ≤ 127
-        = omega (arith, few, terms, all, after_count fs f.or_left (and_joined f.and_left (negate f.nots u))) in
+        let made = add (group_formulas (f ∷ fs)) (omega (arith, few, group_count (f ∷ fs))) h.compiled in
+        let enough : state_terms (with_operand fs f u) ≤ 64 = omega (arith, few, joined_terms f.nots u f.and_left) in
         record {
           next = with_operand fs f u;
           us = w.bytes.now ∷ r.args;
           moves = by_term fs f w.bytes.now r.args t (k, sym named, r.arguments);
           begins = is.begins ∙ ap (λ ws. w.bytes.now ∷ ws) r.begins;
           end = end_of_end text w.rest.now is.end rest r.end;
-          holds = done fs f u (term_holds filter count r.args t fs f h (omega (arith, sum, few, terms)) (push room)) enough;
+          holds = done fs f u (term_holds compiler count r.args t fs f h (omega (arith, sum, few, terms)) made) enough;
           only = λ s vs ws more m may e next.
               let found = only_term fs f w.bytes.now s vs (r.args ++ ws) more n o m may e in
               let same = r.only found.0 found.1 ws more (arguments_of k named found.1 found.0 found.4) found.5 found.6 next in (

@@ -3,25 +3,23 @@ use Rattle.std.proofs.Common.{Some, None, is_some, codes}
 use Rattle.std.specs.Prelude.{Option}
 use Rattle.std.specs.Str.{bytes_eq}
 use Rattle.arrayvec.specs.declared.array_vec.ArrayVec.{ArrayVec}
-use Rattle.ip_spec.proofs.Common.{◌≡◌, ℕ, ◌+◌, ◌-◌, ◌<◌, ◌≤◌, ◌^◌, List, [], ◌∷◌, ◌++◌, length, take, drop, refl, sym, ap, ◌∙◌, arith, true, false, ◌||◌, ◌⊎◌, inl, inr, false≢true, append_assoc, append-nil, length-append}
+use Rattle.ip_spec.proofs.Common.{◌≡◌, ℕ, ◌+◌, ◌-◌, ◌<◌, ◌≤◌, List, [], ◌∷◌, ◌++◌, length, take, drop, refl, sym, ap, ◌∙◌, arith, Bool, true, false, ◌||◌, ◌⊎◌, inl, inr, false≢true, length-append}
 use Rattle.std.proofs.lemmas.List.{same_from_push}
 use Rattle.ip_filter.specs.declared.words.Word.{Word as FirstWord}
 use Rattle.ip_filter.specs.declared.parse_error.Expected.{Expected}
 use Rattle.ip_filter.specs.declared.parse_error.Expected.TheVariants as expects
 use Rattle.ip_filter.specs.declared.builder.Builder.{Builder}
 use Rattle.ip_filter.specs.declared.builder.Level.{Level}
-use Rattle.ip_filter.specs.declared.steps.Steps.{Steps}
-use Rattle.ip_filter.specs.declared.steps.Step.{Step}
-use Rattle.ip_filter.specs.declared.steps.StepKind.{StepKind}
-use Rattle.ip_filter.specs.declared.steps.StepKind.TheVariants as kind
+use Rattle.ip_filter.specs.declared.compile.Compiler.{Compiler}
 use Rattle.ip_filter.specs.Words.{Word, words}
-use Rattle.ip_filter.specs.Formula.{steps_of}
-use Rattle.ip_filter.specs.Grammar.{Operand, Conjunction, Disjunction, a_group, filter_words, conjunction_words, is_and, is_or}
+use Rattle.ip_filter.specs.Formula.{Formula, either}
+use Rattle.ip_filter.specs.Compiled.{terms_of, terms_of_all, HasCompiled}
+use Rattle.ip_filter.specs.Grammar.{Operand, Conjunction, Disjunction, a_group, conjunction_formula, formula_of, is_and, is_or}
 use Rattle.ip_filter.specs.Reading.{IsFirstWord, IsOperator}
-use Rattle.ip_filter.specs.Parsing.{Open, State, before, after, Moves, by_and, by_or, by_close, with_operand, or_joined, and_joined, negate, group_words, open_words, state_words, group_steps, or_steps, conjunction_steps, filter_steps, state_steps, state_terms, level_of, levels_of, CountsFit, Holds, HoldsOperand, HoldsGroup, IsFinished, ReadsOn, RefusesFrom, IsWhole, EndsGroup, IsDue}
-use Rattle.ip_filter.proofs.CountLemmas.{after_count, or_end_count, filter_last}
-use Rattle.ip_filter.proofs.PartStepsLemmas.{joined_terms}
-use Rattle.ip_filter.proofs.MoveLemmas.{at_word, next_word, level_count, open_nots}
+use Rattle.ip_filter.specs.Parsing.{Open, State, before, after, Moves, by_and, by_or, by_close, with_operand, or_joined, or_formulas, group_formulas, state_terms, level_of, levels_of, CountsFit, Holds, HoldsOperand, HoldsGroup, IsFinished, ReadsOn, RefusesFrom, IsWhole, EndsGroup, IsDue}
+use Rattle.ip_filter.proofs.CountLemmas.{filter_count, group_count}
+use Rattle.ip_filter.proofs.OperandLemmas.{joined_terms}
+use Rattle.ip_filter.proofs.MoveLemmas.{at_word, next_word, level_count}
 use Rattle.ip_filter.proofs.LeadLemmas.{can_end}
 use Rattle.ip_filter.proofs.StateLemmas.{or_joined_terms}
 use Rattle.ip_filter.proofs.WordLemmas.{or_cases, either_word, same_word}
@@ -70,17 +68,25 @@ joins_nothing w fs o c t vs ws more a full (by_close gs g p d) e = let same : w 
 joins_nothing w fs o c t vs ws more a full (by_and gs p d v is few) e = omega (arith, full, few)
 joins_nothing w fs o c t vs ws more a full (by_or gs p d v is few) e = omega (arith, full, few)
 
--- ---- the steps after an `or` or a group
+-- ---- the formula of a whole text or group
 
-or_end : (front : List Step) (o : Option (Disjunction × Word)) (c : Conjunction) (old new : Steps) → steps_of old ≡ front ++ or_steps o ++ conjunction_steps 0 c
-    → (is_some o ≡ true → length (steps_of old) < 127 → steps_of new ≡ steps_of old ++ record { kind = kind.Or; nots = 0 } ∷ []) → (is_some o ≡ false → new ≡ old)
-    → length (front ++ filter_steps 0 (or_joined o c)) ≤ 127 → steps_of new ≡ front ++ filter_steps 0 (or_joined o c)
-or_end front None c old new e push keep few = ap steps_of (keep refl) ∙ e ∙ ap (λ s. s ++ conjunction_steps 0 c) (append-nil front)
-or_end front (Some p) c old new e push keep few =
-    let last : List Step = record { kind = kind.Or; nots = 0 } ∷ [] in
-    let all : (front ++ filter_steps 0 p.0 ++ conjunction_steps 0 c) ++ last ≡ front ++ (filter_steps 0 p.0 ++ conjunction_steps 0 c ++ last) = simp append_assoc in
-    let room : length (steps_of old) < 127 = omega (arith, few, ap length e, ap length all, length-append (front ++ filter_steps 0 p.0 ++ conjunction_steps 0 c) last) in
-    push refl room ∙ ap (λ s. s ++ last) e ∙ all
+-- a conjunction joined to the disjunction that waits, if any
+abbrev pub JoinsOr : Bool → Compiler → Compiler → Type 0
+JoinsOr waits old new = (o : Option (Disjunction × Word)) (c : Conjunction) (fs : List Formula) → waits ≡ is_some o → terms_of_all (formula_of (or_joined o c) ∷ fs) ≤ 64
+    → HasCompiled (conjunction_formula c ∷ or_formulas o fs) old → HasCompiled (formula_of (or_joined o c) ∷ fs) new
+
+pub or_joins : (waits : Bool) (old new : Compiler) → waits ≡ true
+    → ((f g : Formula) (fs : List Formula) → terms_of g + (terms_of f + terms_of_all fs) ≤ 64 → HasCompiled (g ∷ f ∷ fs) old → HasCompiled (either f g ∷ fs) new)
+    → JoinsOr waits old new
+or_joins waits old new is join None c fs same few h = absurd (false≢true (sym same ∙ is))
+or_joins waits old new is join (Some p) c fs same few h = join (formula_of p.0) (conjunction_formula c) fs (omega (arith, few)) h
+
+pub no_or_joins : (waits : Bool) (old : Compiler) → waits ≡ false → JoinsOr waits old old
+no_or_joins waits old is None c fs same few h = h
+no_or_joins waits old is (Some p) c fs same few h = absurd (false≢true (sym is ∙ same))
+
+few_joined : (fs : List Open) (o : Option (Disjunction × Word)) (c : Conjunction) → CountsFit (after fs o c) → terms_of_all (formula_of (or_joined o c) ∷ group_formulas fs) ≤ 64
+few_joined fs o c fits = let few = fits.terms in omega (arith, few, or_joined_terms o c, filter_count (or_joined o c), group_count fs)
 
 -- ---- whether the text or a group may end
 
@@ -101,7 +107,7 @@ may_stop (f ∷ fs) o c = inr tt
 module _ (b : Builder) (w : FirstWord) where
   pub and_read : is_and w.bytes.now ≡ true → b.terms < 64 → (text : List ℕ) (fs : List Open) (o : Option (Disjunction × Word)) (c : Conjunction) → IsFirstWord text w
       → Holds (after fs o c) b → CountsFit (after fs o c)
-      → ReadsOn (after fs o c) text w.rest.now (record { steps = b.steps; terms = b.terms; outer = b.outer; level = record { nots = b.level.nots; or_waits = b.level.or_waits; and_waits = true }; has_operand = false })
+      → ReadsOn (after fs o c) text w.rest.now (record { compiler = b.compiler; terms = b.terms; outer = b.outer; level = record { nots = b.level.nots; or_waits = b.level.or_waits; and_waits = true }; has_operand = false })
   and_read a few text fs o c is h fits =
       let word = w.bytes.now in
       let terms = h.terms in
@@ -112,7 +118,7 @@ module _ (b : Builder) (w : FirstWord) where
         begins = is.begins;
         end = is.end;
         holds = record {
-          steps = h.steps;
+          compiled = h.compiled;
           terms = omega (arith, terms);
           outer = h.outer;
           level = ap (λ l. record { nots = l.nots; or_waits = l.or_waits; and_waits = true }) h.level;
@@ -121,19 +127,15 @@ module _ (b : Builder) (w : FirstWord) where
         only = λ t vs ws more m may e next. only_and word fs o c t vs ws more a m e;
       }
 
-  pub or_read : (filter : Steps) → is_or w.bytes.now ≡ true → b.terms < 64
-      → (b.level.or_waits ≡ true → length (steps_of b.steps) < 127 → steps_of filter ≡ steps_of b.steps ++ record { kind = kind.Or; nots = 0 } ∷ [])
-      → (b.level.or_waits ≡ false → filter ≡ b.steps)
+  pub or_read : (compiler : Compiler) → is_or w.bytes.now ≡ true → b.terms < 64 → JoinsOr b.level.or_waits b.compiler compiler
       → (text : List ℕ) (fs : List Open) (o : Option (Disjunction × Word)) (c : Conjunction) → IsFirstWord text w
       → Holds (after fs o c) b → CountsFit (after fs o c)
-      → ReadsOn (after fs o c) text w.rest.now (record { steps = filter; terms = b.terms; outer = b.outer; level = record { nots = b.level.nots; or_waits = true; and_waits = b.level.and_waits }; has_operand = false })
-  or_read filter a few push keep text fs o c is h fits =
+      → ReadsOn (after fs o c) text w.rest.now (record { compiler = compiler; terms = b.terms; outer = b.outer; level = record { nots = b.level.nots; or_waits = true; and_waits = b.level.and_waits }; has_operand = false })
+  or_read compiler a few join text fs o c is h fits =
       let word = w.bytes.now in
       let terms = h.terms in
       let waits : b.level.or_waits ≡ is_some o = ap (λ l. l.or_waits) h.level in
       let all = or_joined_terms o c in
-      let bound = fits.terms in
-      let steps = or_end (group_steps fs) o c b.steps filter h.steps (λ e. push (waits ∙ e)) (λ e. keep (waits ∙ e)) (omega (arith, bound, all, or_end_count fs (or_joined o c))) in
       record {
         next = before fs (record { or_left = Some (or_joined o c, word); and_left = None; nots = [] });
         us = word ∷ [];
@@ -141,7 +143,7 @@ module _ (b : Builder) (w : FirstWord) where
         begins = is.begins;
         end = is.end;
         holds = record {
-          steps = steps ∙ sym (append-nil (group_steps fs ++ filter_steps 0 (or_joined o c)));
+          compiled = join o c (group_formulas fs) waits (few_joined fs o c fits) h.compiled;
           terms = omega (arith, terms, all);
           outer = h.outer;
           level = ap (λ l. record { nots = l.nots; or_waits = true; and_waits = l.and_waits }) h.level;
@@ -191,7 +193,7 @@ module _ (b : Builder) (w : FirstWord) where
 
   pub closed : (outer : ArrayVec Level 16 (Unit {0})) (last : Level) (new : Builder) → bytes_eq w.bytes.now (codes ")") ≡ true → b.outer.items ≡ outer.items ++ last ∷ []
       → ((fs : List Open) (f : Open) (o : Option (Disjunction × Word)) (c : Conjunction)
-      → HoldsGroup fs f o c last (record { steps = b.steps; terms = b.terms; outer = outer; level = b.level; has_operand = b.has_operand }) → CountsFit (after (f ∷ fs) o c)
+      → HoldsGroup fs f o c last (record { compiler = b.compiler; terms = b.terms; outer = outer; level = b.level; has_operand = b.has_operand }) → CountsFit (after (f ∷ fs) o c)
       → Holds (with_operand fs f (a_group (or_joined o c))) new)
       → (text : List ℕ) (fs : List Open) (o : Option (Disjunction × Word)) (c : Conjunction) → IsFirstWord text w
       → Holds (after fs o c) b → CountsFit (after fs o c) → ReadsOn (after fs o c) text w.rest.now new
@@ -206,7 +208,7 @@ module _ (b : Builder) (w : FirstWord) where
         begins = is.begins ∙ ap (λ x. x ∷ words w.rest.now) same;
         end = is.end;
         holds = close fs f o c (record {
-          steps = h.steps;
+          compiled = h.compiled;
           terms = h.terms;
           outer = parts.0;
           around = parts.1;
@@ -215,74 +217,31 @@ module _ (b : Builder) (w : FirstWord) where
         only = λ t vs ws more m may e next. only_close w.bytes.now fs f o c t vs ws more same m (e ∙ ap (λ x. x ∷ ws) (sym same));
       }
 
-few_words : (fs : List Open) (f : Open) (o : Option (Disjunction × Word)) (c : Conjunction) → length f.nots + length (filter_words (or_joined o c)) ≤ length (state_words (after (f ∷ fs) o c))
-few_words fs f None c =
-    let around = group_words fs ++ open_words f ++ codes "(" ∷ [] in
-    omega (arith, open_nots f, length-append (around ++ []) (conjunction_words c), length-append around [], length-append (group_words fs ++ open_words f) (codes "(" ∷ []), length-append (group_words fs) (open_words f))
-few_words fs f (Some p) c =
-    let around = group_words fs ++ open_words f ++ codes "(" ∷ [] in
-    let left : List Word = filter_words p.0 ++ p.1 ∷ [] in
-    omega (
-      arith,
-      open_nots f,
-      length-append (around ++ left) (conjunction_words c),
-      length-append around left,
-      length-append (filter_words p.0) (p.1 ∷ []),
-      length-append (filter_words p.0) (p.1 ∷ conjunction_words c),
-      length-append (group_words fs ++ open_words f) (codes "(" ∷ []),
-      length-append (group_words fs) (open_words f),
-    )
-
-pub group_closed : (b : Builder) (level : Level) (mid last : Steps) (new : Builder)
-    → (b.level.or_waits ≡ true → length (steps_of b.steps) < 127 → steps_of mid ≡ steps_of b.steps ++ record { kind = kind.Or; nots = 0 } ∷ [])
-    → (b.level.or_waits ≡ false → mid ≡ b.steps)
-    → ((front : List Step) (x : StepKind) (k : ℕ) → steps_of mid ≡ front ++ record { kind = x; nots = k } ∷ [] → k + level.nots < 2 ^ 64
-    → steps_of last ≡ front ++ record { kind = x; nots = k + level.nots } ∷ [])
-    → ((fs : List Open) (f : Open) (u : Operand) → HoldsOperand fs f u (record { steps = last; terms = b.terms; outer = b.outer; level = level; has_operand = b.has_operand })
-    → length (state_steps (with_operand fs f u)) ≤ 127 → Holds (with_operand fs f u) new)
+pub group_closed : (b : Builder) (level : Level) (compiler : Compiler) (new : Builder) → JoinsOr b.level.or_waits b.compiler compiler
+    → ((fs : List Open) (f : Open) (u : Operand) → HoldsOperand fs f u (record { compiler = compiler; terms = b.terms; outer = b.outer; level = level; has_operand = b.has_operand })
+    → state_terms (with_operand fs f u) ≤ 64 → Holds (with_operand fs f u) new)
     → (fs : List Open) (f : Open) (o : Option (Disjunction × Word)) (c : Conjunction) → HoldsGroup fs f o c level b → CountsFit (after (f ∷ fs) o c)
     → Holds (with_operand fs f (a_group (or_joined o c))) new
-group_closed b level mid last new push keep negate_it done fs f o c h fits =
-    let d = or_joined o c in
-    let front = group_steps (f ∷ fs) in
-    let bound = fits.terms in let short = fits.words in let terms = h.terms in
+group_closed b level compiler new join done fs f o c h fits =
+    let u = a_group (or_joined o c) in
+    let bound = fits.terms in let terms = h.terms in
     let all = or_joined_terms o c in
-    let mids = or_end front o c b.steps mid h.steps (λ e. push (h.or_waits ∙ e)) (λ e. keep (h.or_waits ∙ e)) (omega (arith, bound, all, or_end_count (f ∷ fs) d)) in
-    let l = filter_last d in
-    let few = l.few in
-    let nots : level.nots ≡ length f.nots = ap (λ x. x.nots) h.around in
-    let split : steps_of mid ≡ (front ++ l.front) ++ record { kind = l.does; nots = 0 + l.nots } ∷ [] = mids ∙ ap (λ s. front ++ s) (l.is 0) ∙ sym (append_assoc front l.front _) in
-    let fits_64 : 0 + l.nots + level.nots < 2 ^ 64 = omega (arith, nots, few, short, few_words fs f o c) in
-    let sum : 0 + l.nots + level.nots ≡ length f.nots + l.nots = omega (arith, nots) in
-    let u = a_group d in
-    let count = joined_terms f.nots u f.and_left in
     done fs f u (record {
-      steps = negate_it (front ++ l.front) l.does (0 + l.nots) split fits_64
-          ∙ ap (λ k. (front ++ l.front) ++ record { kind = l.does; nots = k } ∷ []) sum ∙ append_assoc front l.front _ ∙ ap (λ s. front ++ s) (sym (l.is (length f.nots)));
+      compiled = join o c (group_formulas (f ∷ fs)) h.or_waits (few_joined (f ∷ fs) o c fits) h.compiled;
       terms = omega (arith, terms, all);
       outer = h.outer;
-      or_waits = ap (λ x. x.or_waits) h.around;
-      and_waits = ap (λ x. x.and_waits) h.around;
+      level = h.around;
     })
-    (omega (arith, bound, all, count, after_count fs f.or_left (and_joined f.and_left (negate f.nots u))))
+    (omega (arith, bound, all, joined_terms f.nots u f.and_left))
 
 -- ---- the end of the text
 
-pub finished : (b : Builder) (x : Steps) → b.has_operand ≡ true → length b.outer.items ≡ 0
-    → (b.level.or_waits ≡ true → length (steps_of b.steps) < 127 → steps_of x ≡ steps_of b.steps ++ record { kind = kind.Or; nots = 0 } ∷ [])
-    → (b.level.or_waits ≡ false → x ≡ b.steps) → (s : State) → Holds s b → CountsFit s → IsFinished s x
-finished b x operand alone push keep (before fs f) h fits = absurd (false≢true (sym h.operand ∙ operand))
-finished b x operand alone push keep (after (f ∷ fs) o c) h fits = absurd (omega (arith, alone, ap length h.outer, level_count (f ∷ fs)))
-finished b x operand alone push keep (after [] o c) h fits =
-    let waits : b.level.or_waits ≡ is_some o = ap (λ l. l.or_waits) h.level in
-    let bound = fits.terms in
-    let all = or_joined_terms o c in
-    record {
-      or_left = o;
-      last = c;
-      whole = refl;
-      steps = or_end [] o c b.steps x h.steps (λ e. push (waits ∙ e)) (λ e. keep (waits ∙ e)) (omega (arith, bound, all, or_end_count [] (or_joined o c)));
-    }
+pub finished : (b : Builder) (compiler : Compiler) → b.has_operand ≡ true → length b.outer.items ≡ 0 → JoinsOr b.level.or_waits b.compiler compiler
+    → (s : State) → Holds s b → CountsFit s → IsFinished s compiler
+finished b compiler operand alone join (before fs f) h fits = absurd (false≢true (sym h.operand ∙ operand))
+finished b compiler operand alone join (after (f ∷ fs) o c) h fits = absurd (omega (arith, alone, ap length h.outer, level_count (f ∷ fs)))
+finished b compiler operand alone join (after [] o c) h fits =
+    record { or_left = o; last = c; whole = refl; compiled = join o c [] (ap (λ l. l.or_waits) h.level) (few_joined [] o c fits) h.compiled }
 
 no_word_next : ¬ (IsOperator [])
 no_word_next op = cc op.1

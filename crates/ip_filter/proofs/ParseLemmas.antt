@@ -1,16 +1,13 @@
 -- A text is read word by word.
 use Rattle.std.specs.Prelude.{Option}
-use Rattle.ip_spec.proofs.Common.{◌≡◌, ℕ, ◌-◌, ◌<◌, ◌≤◌, ◌^◌, List, [], ◌∷◌, ◌++◌, length, take, drop, refl, sym, ap, ◌∙◌, subst, arith, append_assoc, append-nil, append_cancel_left, length-append, drop_all}
+use Rattle.ip_spec.proofs.Common.{◌≡◌, ℕ, ◌-◌, ◌<◌, ◌^◌, List, [], ◌∷◌, ◌++◌, length, take, drop, refl, sym, ap, ◌∙◌, subst, arith, append_assoc, append-nil, append_cancel_left, length-append, drop_all}
 use Rattle.ip_filter.specs.declared.parse_error.Expected.{Expected}
 use Rattle.ip_filter.specs.declared.builder.Builder.{Builder}
-use Rattle.ip_filter.specs.declared.steps.Steps.{Steps}
+use Rattle.ip_filter.specs.declared.compile.Compiler.{Compiler}
 use Rattle.ip_filter.specs.declared.filter.Filter.{Filter}
 use Rattle.ip_filter.specs.declared.words.Word.{Word as FirstWord}
 use Rattle.ip_filter.specs.Words.{Word, words}
-use Rattle.ip_filter.specs.Formula.{Formula, truth, read_after, steps_of}
-use Rattle.ip_filter.specs.Tests.{frame_meets}
-use Rattle.ip_filter.specs.Program.{tests_of, passes, frame_holds}
-use Rattle.ip_filter.specs.Compiled.{terms_of}
+use Rattle.ip_filter.specs.Program.{tests_of}
 use Rattle.ip_filter.specs.Grammar.{Conjunction, Disjunction, filter_words, formula_of, IsFilter}
 use Rattle.ip_filter.specs.Reading.{IsSuffix, IsPlace, IsFirstWord}
 use Rattle.ip_filter.specs.Parsing.{State, before, after, nothing_open, Moves, may_follow, LeadsTo, ends, goes_on, or_joined, HasRoom, state_words, CountsFit, Holds, IsFinished, ReadsOn, RefusesFrom, IsDue, IsWhole}
@@ -19,7 +16,8 @@ use Rattle.ip_filter.proofs.PlaceLemmas.{whole, end_of_end, place_in_end, from_p
 use Rattle.ip_filter.proofs.WordLemmas.{no_words, words_short}
 use Rattle.ip_filter.proofs.LeadLemmas.{start_leads, lead_filter, can_end, due_is_expected}
 use Rattle.ip_filter.proofs.StateLemmas.{move_words, move_some, move_room, Good, move_good, good_whole, or_joined_words}
-use Rattle.ip_filter.proofs.ReadFormulaLemmas.{whole_formula, terms_read}
+use Rattle.ip_filter.proofs.CountLemmas.{filter_count}
+use Rattle.ip_filter.proofs.CompileLemmas.{passes_formula, few_tests}
 
 -- The words before `rest` led to the state, which b holds. Each filter that begins with them, and goes on with the next
 -- word, is led to from there.
@@ -141,10 +139,9 @@ no_first : (ws : List Word) → take 1 ws ≡ [] → ws ≡ []
 no_first [] e = refl
 no_first (w ∷ ws) e = cc
 
-pub parsed : (text rest : List ℕ) (b : Builder) (x : Steps) (filter : Filter) (g : Going text rest b) → length text < 2 ^ 63 → words rest ≡ [] → ((s : State) → Holds s b → CountsFit s → IsFinished s x)
-    → ((f : Formula) → read_after [] (steps_of x) ≡ f ∷ [] → terms_of f ≤ 64 → (frame : Option (List ℕ)) → passes (tests_of filter) (frame_meets frame) ≡ truth f (frame_holds frame))
-    → ((f : Formula) → read_after [] (steps_of x) ≡ f ∷ [] → terms_of f ≤ 64 → filter.count ≤ terms_of f) → IsParsedFilter text filter
-parsed text rest b x filter g short none finish compiled tests =
+pub parsed : (text rest : List ℕ) (b : Builder) (compiler : Compiler) (filter : Filter) (g : Going text rest b) → length text < 2 ^ 63 → words rest ≡ [] → ((s : State) → Holds s b → CountsFit s → IsFinished s compiler)
+    → tests_of filter ≡ tests_of compiler.filter → filter.count ≡ length (tests_of compiler.filter) → IsParsedFilter text filter
+parsed text rest b compiler filter g short none finish tests count =
     let f = finish g.state g.holds (fits text rest b g short) in
     let d = or_joined f.or_left f.last in
     let is : IsFilter d = good_whole f.or_left f.last (subst Good f.whole g.good) (subst HasRoom f.whole g.room) in
@@ -156,8 +153,8 @@ parsed text rest b x filter g short none finish compiled tests =
       only = λ e other same.
           let led = only_end g.state [] e (g.leads e [] other (same ∙ sym all ∙ sym (append-nil (state_words g.state))) (ap (take 1) (sym none))) refl in
           led.3 ∙ same_end led.0 f.or_left led.1 f.last (sym led.2 ∙ f.whole);
-      formula = compiled (formula_of d) (ap (read_after []) f.steps ∙ whole_formula d) (omega (arith, is.terms, terms_read d));
-      tests = omega (arith, terms_read d, tests (formula_of d) (ap (read_after []) f.steps ∙ whole_formula d) (omega (arith, is.terms, terms_read d)));
+      formula = passes_formula (formula_of d) compiler filter tests f.compiled;
+      tests = omega (arith, filter_count d, few_tests (formula_of d) compiler filter tests f.compiled count);
     }
 
 pub missing_end : (text rest : List ℕ) (b : Builder) (e : Expected) (g : Going text rest b) → words rest ≡ []

@@ -6,7 +6,7 @@ use Rattle.ip_spec.proofs.Common.{◌≡◌, ℕ, ◌+◌, ◌≤◌, List, [], 
 use Rattle.ip_filter.specs.Words.{Word}
 use Rattle.ip_filter.specs.Grammar.{Operand, Conjunction, Disjunction, a_term, a_group, operand_words, conjunction_words, filter_words, IsOperand, IsConjunction, IsDisjunction, terms_in, conjunction_terms, operand_depth, conjunction_depth, depth_of, is_not, is_and, is_or, IsFilter}
 use Rattle.ip_filter.specs.Parsing.{Open, State, before, after, Moves, by_not, by_open, by_term, by_and, by_or, by_close, with_operand, and_joined, or_joined, negate, HasRoom, open_words, group_words, state_words}
-use Rattle.ip_filter.proofs.PartStepsLemmas.{joined_terms}
+use Rattle.ip_filter.proofs.OperandLemmas.{joined_terms}
 
 -- ---- the words
 

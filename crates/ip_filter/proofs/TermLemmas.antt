@@ -21,10 +21,12 @@ use Rattle.ip_base.specs.declared.err.layer.Layer.{Layer}
 use Rattle.ip_filter.specs.declared.term.FaultKind.{FaultKind}
 use Rattle.ip_filter.specs.declared.network.Network.{Network}
 use Rattle.ip_filter.specs.declared.words.Word.{Word as FirstWord}
+use Rattle.ip_filter.specs.declared.layers.LayerError.{LayerError}
+use Rattle.ip_filter.specs.declared.layers.LayerError.TheVariants as error
 use Rattle.ip_filter.specs.Words.{Word, words}
-use Rattle.ip_filter.specs.Numbers.{version_named, header_named, protocol_of, number_up_to, ports_of, tcp_flags_of, names_in, comparison_of, fault_kind_of, layer_named, IsNetworkText, IsHostText}
+use Rattle.ip_filter.specs.Numbers.{version_named, header_named, protocol_of, number_up_to, ports_of, tcp_flags_of, names_in, comparison_of, fault_kind_of, IsNetworkText, IsHostText}
 use Rattle.ip_filter.specs.IcmpTypes.{icmp_type_of, icmp6_type_of}
-use Rattle.ip_filter.specs.Grammar.{AreArguments, IsOne, Finds, Make, AreCompared, AreSide, source, destination, is_and, is_or}
+use Rattle.ip_filter.specs.Grammar.{AreArguments, IsOne, Finds, Make, AreCompared, AreSide, layer_with, source, destination, is_and, is_or}
 use Rattle.ip_filter.specs.Reading.{IsFirstWord, BeginsOtherwise, ReadsArgument, RefusesArgument, ReadsArguments, RefusesArguments, ReadsTerm, RefusesTerm, WantsArgument, IsKeyword, IsCountKeyword, IsNumberKeyword, IsByteKeyword, IsSideKeyword, ends_term}
 use Rattle.ip_filter.proofs.NetworkTextLemmas.{one_network, some_network, some_host}
 use Rattle.ip_filter.proofs.WordLemmas.{or_cases, either_word, same_word}
@@ -152,8 +154,8 @@ module _ {A : Type 0} (find : Word → Option A) (no_and : find (codes "and") �
 kind_goes_on : (w : Word) (ws : List Word) (kind : FaultKind) → fault_kind_of w ≡ Some kind → IsTrue (ends_term (w ∷ ws)) → ⊥
 kind_goes_on = goes_on fault_kind_of refl refl refl refl refl
 
-layer_goes_on : (w : Word) (ws : List Word) (l : Layer) → layer_named w ≡ Some l → IsTrue (ends_term (w ∷ ws)) → ⊥
-layer_goes_on = goes_on layer_named refl refl refl refl refl
+layer_goes_on : (x : LayerError) (w : Word) (ws : List Word) (l : Layer) → layer_with x w ≡ Some l → IsTrue (ends_term (w ∷ ws)) → ⊥
+layer_goes_on x = goes_on (layer_with x) refl refl refl refl refl
 
 no_word : {A : Type 0} (find : Word → Option A) (text : List ℕ) → words text ≡ [] → BeginsOtherwise find text
 no_word find text e w one = absurd (cc (ap (take 1) (sym e) ∙ one))
@@ -161,15 +163,15 @@ no_word find text e w one = absurd (cc (ap (take 1) (sym e) ∙ one))
 other_word : {A : Type 0} (find : Word → Option A) (text : List ℕ) (w : FirstWord) → IsFirstWord text w → None ≡ find w.bytes.now → BeginsOtherwise find text
 other_word find text w is none v one = let same : v ≡ w.bytes.now = cc (sym one ∙ ap (take 1) is.begins) in ap find same ∙ sym none
 
-pub no_word_is_no_layer : (text : List ℕ) → words text ≡ [] → BeginsOtherwise layer_named text
-no_word_is_no_layer text e = no_word layer_named text e
+pub no_word_is_no_layer : (x : LayerError) (text : List ℕ) → words text ≡ [] → BeginsOtherwise (layer_with x) text
+no_word_is_no_layer x text e = no_word (layer_with x) text e
 
-pub other_is_no_layer : (text : List ℕ) (w : FirstWord) → IsFirstWord text w → None ≡ layer_named w.bytes.now → BeginsOtherwise layer_named text
-other_is_no_layer text w is none = other_word layer_named text w is none
+pub other_is_no_layer : (x : LayerError) (text : List ℕ) (w : FirstWord) → IsFirstWord text w → None ≡ layer_with x w.bytes.now → BeginsOtherwise (layer_with x) text
+other_is_no_layer x text w is none = other_word (layer_with x) text w is none
 
 -- ---- `truncated`, which a layer may follow
 
-pub truncated_at : (text rest : List ℕ) (l : Layer) → ReadsArgument (Finds layer_named) text l rest → ReadsTerm keyword.Truncated text (term.TruncatedAt l) rest
+pub truncated_at : (text rest : List ℕ) (l : Layer) → ReadsArgument (Finds (layer_with error.Truncated)) text l rest → ReadsTerm keyword.Truncated text (term.TruncatedAt l) rest
 truncated_at text rest l r = record {
   args = r.word ∷ [];
   begins = r.begins;
@@ -178,15 +180,15 @@ truncated_at text rest l r = record {
   only = λ u us ws more au ends same next. elim au [
     | inl plain ↦
         let all : more ≡ r.word ∷ ws = sym (ap (λ x. x ++ more) plain.0) ∙ same in
-        absurd (layer_goes_on r.word ws l r.writes (subst (λ x. IsTrue (ends_term x)) all ends))
+        absurd (layer_goes_on error.Truncated r.word ws l r.writes (subst (λ x. IsTrue (ends_term x)) all ends))
     | inr f ↦
         let head : f.1.0 ≡ r.word = cc (sym (ap (λ x. x ++ more) f.1.1) ∙ same) in
-        let again : f.0 ≡ l = found_once layer_named r.word f.0 l (subst (λ x. Finds layer_named x f.0) head f.1.2) r.writes in
+        let again : f.0 ≡ l = found_once (layer_with error.Truncated) r.word f.0 l (subst (λ x. Finds (layer_with error.Truncated) x f.0) head f.1.2) r.writes in
         (f.2 ∙ ap term.TruncatedAt again, f.1.1 ∙ ap (λ x. x ∷ []) head)
   ];
 }
 
-pub plain_truncated : (text : List ℕ) → BeginsOtherwise layer_named text → ReadsTerm keyword.Truncated text term.Truncated text
+pub plain_truncated : (text : List ℕ) → BeginsOtherwise (layer_with error.Truncated) text → ReadsTerm keyword.Truncated text term.Truncated text
 plain_truncated text none = record {
   args = [];
   begins = refl;
@@ -209,7 +211,7 @@ module _ (text : List ℕ) (w : FirstWord) (kind : FaultKind) (is : IsFirstWord 
   same_kind : (v : Word) (k : FaultKind) → v ≡ w.bytes.now → fault_kind_of v ≡ Some k → k ≡ kind
   same_kind v k head finds = found_once fault_kind_of w.bytes.now k kind (subst (λ x. Finds fault_kind_of x k) head finds) (sym found)
 
-  pub fault_of : BeginsOtherwise layer_named w.rest.now → ReadsTerm keyword.Fault text (term.FaultOf kind) w.rest.now
+  pub fault_of : BeginsOtherwise (layer_with (error.Fault kind)) w.rest.now → ReadsTerm keyword.Fault text (term.FaultOf kind) w.rest.now
   fault_of none = record {
     args = w.bytes.now ∷ [];
     begins = is.begins;
@@ -224,12 +226,14 @@ module _ (text : List ℕ) (w : FirstWord) (kind : FaultKind) (is : IsFirstWord 
         | inr g ↦
             let all : g.1.0 ∷ g.1.1 ∷ more ≡ w.bytes.now ∷ ws = sym (ap (λ x. x ++ more) g.1.2) ∙ same in
             let rest : ws ≡ g.1.1 ∷ more = cc all in
-            absurd (cc (sym g.1.4 ∙ none g.1.1 (sym next ∙ ap (take 1) rest)))
+            let head : g.1.0 ≡ w.bytes.now = cc all in
+            let found_there = subst (λ k. layer_with (error.Fault k) g.1.1 ≡ Some g.0.1) (same_kind g.1.0 g.0.0 head g.1.3) g.1.4 in
+            absurd (cc (sym found_there ∙ none g.1.1 (sym next ∙ ap (take 1) rest)))
       ]
     ];
   }
 
-  pub fault_at : (rest : List ℕ) (l : Layer) → ReadsArgument (Finds layer_named) w.rest.now l rest → ReadsTerm keyword.Fault text (term.FaultAt kind l) rest
+  pub fault_at : (rest : List ℕ) (l : Layer) → ReadsArgument (Finds (layer_with (error.Fault kind))) w.rest.now l rest → ReadsTerm keyword.Fault text (term.FaultAt kind l) rest
   fault_at rest l r = record {
     args = w.bytes.now ∷ r.word ∷ [];
     begins = is.begins ∙ ap (λ ws. w.bytes.now ∷ ws) r.begins;
@@ -241,12 +245,12 @@ module _ (text : List ℕ) (w : FirstWord) (kind : FaultKind) (is : IsFirstWord 
         | inl f ↦
             let all : f.1.0 ∷ more ≡ w.bytes.now ∷ r.word ∷ ws = sym (ap (λ x. x ++ more) f.1.1) ∙ same in
             let after : more ≡ r.word ∷ ws = cc all in
-            absurd (layer_goes_on r.word ws l r.writes (subst (λ x. IsTrue (ends_term x)) after ends))
+            absurd (layer_goes_on (error.Fault kind) r.word ws l r.writes (subst (λ x. IsTrue (ends_term x)) after ends))
         | inr g ↦
             let all : g.1.0 ∷ g.1.1 ∷ more ≡ w.bytes.now ∷ r.word ∷ ws = sym (ap (λ x. x ++ more) g.1.2) ∙ same in
             let head : g.1.0 ≡ w.bytes.now = cc all in
             let second : g.1.1 ≡ r.word = cc all in
-            let again : g.0.1 ≡ l = found_once layer_named r.word g.0.1 l (subst (λ x. Finds layer_named x g.0.1) second g.1.4) r.writes in (
+            let again : g.0.1 ≡ l = found_once (layer_with (error.Fault kind)) r.word g.0.1 l (subst (λ x. Finds (layer_with (error.Fault kind)) x g.0.1) second (subst (λ k. layer_with (error.Fault k) g.1.1 ≡ Some g.0.1) (same_kind g.1.0 g.0.0 head g.1.3) g.1.4)) r.writes in (
               g.2 ∙ ap (λ k. term.FaultAt k g.0.1) (same_kind g.1.0 g.0.0 head g.1.3) ∙ ap (term.FaultAt kind) again,
               g.1.2 ∙ ap (λ x. x ∷ g.1.1 ∷ []) head ∙ ap (λ x. w.bytes.now ∷ x ∷ []) second,
             )

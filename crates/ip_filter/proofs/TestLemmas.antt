@@ -16,8 +16,15 @@ pub by_identification : (x : Test) (n : ℕ) (p : DissectedParts) → x.kind ≡
 by_identification x n p kind number = rw (kind, number) refl
 
 -- a test of flags by an error in a layer
-pub by_layer : (x : Test) (m l : ℕ) (p : DissectedParts) → x.kind ≡ 26 → x.number ≡ l → x.address_low ≡ m → meets x p ≡ (any_flag 64 m p && is_in_layer l p.end)
+pub by_layer : (x : Test) (m l : ℕ) (p : DissectedParts) → x.kind ≡ 26 → x.number ≡ l → x.address_low ≡ m → meets x p ≡ (any_flag 64 m p && is_in_layer l p.version p.end)
 by_layer x m l p kind number low = rw (kind, number, low) refl
+
+-- a test of one port
+pub by_source_port : (x : Test) (r : Ports) (p : DissectedParts) → x.kind ≡ 16 → x.number ≡ r.first → x.address_low ≡ r.last → meets x p ≡ option_map_or (is_port_in r) (source_port p) false
+by_source_port x r p kind first last = rw (kind, first, last) refl
+
+pub by_destination_port : (x : Test) (r : Ports) (p : DissectedParts) → x.kind ≡ 17 → x.number ≡ r.first → x.address_low ≡ r.last → meets x p ≡ option_map_or (is_port_in r) (destination_port p) false
+by_destination_port x r p kind first last = rw (kind, first, last) refl
 
 -- a test of either port
 pub by_port : (x : Test) (r : Ports) (p : DissectedParts) → x.kind ≡ 18 → x.number ≡ r.first → x.address_low ≡ r.last → meets x p ≡ (option_map_or (is_port_in r) (source_port p) false || option_map_or (is_port_in r) (destination_port p) false)

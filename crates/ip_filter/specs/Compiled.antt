@@ -1,8 +1,9 @@
--- What a formula's steps are compiled to.
+-- The tests that formulas are compiled to.
 use Rattle.std.specs.Prelude.{◌≡◌, ◌+◌, ◌<◌, ◌≤◌, ℕ, List, [], ◌∷◌, ◌++◌, length, take, drop, map, ◌==◌, if◌then◌else◌, nat_lt, Bool, Option}
 use Rattle.ip_filter.specs.Formula.{Formula, single, negation, both, either, truth}
 use Rattle.ip_filter.specs.Tests.{frame_meets}
-use Rattle.ip_filter.specs.Program.{led_to, frame_holds}
+use Rattle.ip_filter.specs.Program.{led_to, tests_of, frame_holds}
+use Rattle.ip_filter.specs.declared.compile.Compiler.{Compiler}
 use Rattle.ip_filter.specs.declared.filter.Test.{Test}
 
 -- how many terms a formula has
@@ -39,6 +40,10 @@ AreCompiled frame [] starts xs = (starts ≡ []) × (xs ≡ [])
 AreCompiled frame (f ∷ fs) starts xs =
     (rest : List ℕ) × (i : ℕ) × (starts ≡ rest ++ i ∷ []) × (i < length xs) × (length xs ≤ i + terms_of f) × Decide frame f i (drop i xs)
     × AreCompiled frame fs rest (take i xs)
+
+-- c has compiled the formulas, the last formula first.
+abbrev pub HasCompiled : List Formula → Compiler → Type 0
+HasCompiled fs c = (frame : Option (List ℕ)) → AreCompiled frame fs c.starts.items (tests_of c.filter)
 
 -- Of the tests that led to 64 or 65, those lead to a or b.
 abbrev pub index_moved : ℕ → ℕ → ℕ → ℕ

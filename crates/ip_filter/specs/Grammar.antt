@@ -1,6 +1,6 @@
 -- The grammar of filters: which words are a term, and how words are joined to formulas.
 use Rattle.std.specs.Prelude.{◌≡◌, ◌≤◌, ◌+◌, ◌⊎◌, ℕ, suc, List, [], ◌∷◌, ◌++◌, max, Bool, ◌||◌, Option, Some, None, IsTrue, codes, if◌then◌else◌}
-use Rattle.std.specs.Option.{option_map, option_or}
+use Rattle.std.specs.Option.{option_map, option_or, option_and_then}
 use Rattle.std.specs.Str.{bytes_eq}
 use Rattle.ip_base.specs.declared.err.layer.Layer.{Layer}
 use Rattle.ip_filter.specs.declared.term.FaultKind.{FaultKind}
@@ -17,6 +17,9 @@ use Rattle.ip_filter.specs.declared.keyword.AddressKeyword.{AddressKeyword}
 use Rattle.ip_filter.specs.declared.keyword.AddressKeyword.TheVariants as address
 use Rattle.ip_filter.specs.declared.parse_term.Side.{Side}
 use Rattle.ip_filter.specs.declared.parse_term.Side.TheVariants as side
+use Rattle.ip_filter.specs.declared.layers.LayerError.{LayerError}
+use Rattle.ip_filter.specs.declared.layers.LayerError.TheVariants as error
+use Rattle.ip_filter.specs.Layers.{can_have}
 use Rattle.ip_filter.specs.Words.{Word}
 use Rattle.ip_filter.specs.Numbers.{version_named, header_named, upper_layer_of, protocol_of, number_up_to, ports_of, tcp_flags_of, comparison_of, fault_kind_of, layer_named, IsNetworkText, IsHostText}
 use Rattle.ip_filter.specs.IcmpTypes.{icmp_type_of, icmp6_type_of}
@@ -34,6 +37,7 @@ alone w =
     else if bytes_eq w (codes "later-fragment") then Some term.LaterFragment
     else if bytes_eq w (codes "incomplete") then Some term.Incomplete
     else if bytes_eq w (codes "no-transport") then Some term.NoTransport
+    else if bytes_eq w (codes "no-length") then Some term.NoLength
     else if bytes_eq w (codes "icmp") then Some term.Icmp
     else if bytes_eq w (codes "icmp6") then Some term.Icmp6
     else option_map term.LeadsTo (upper_layer_of w)
@@ -106,9 +110,13 @@ abbrev pub AreCompared : List Word → Comparison × ℕ → Type 0
 AreCompared args c =
     (o : Word) × (w : Word) × (args ≡ o ∷ w ∷ []) × (comparison_of o ≡ Some c.0) × (number_up_to 18446744073709551615 w ≡ Some c.1)
 
--- a kind of fault and a layer
+-- the layer of a header that has this error, or `IPv6-extension`, which stands for several
+abbrev pub layer_with : LayerError → Word → Option Layer
+layer_with e w = option_and_then (λ l. if can_have e l then Some l else None) (layer_named w)
+
+-- a kind of fault and a layer that can have it
 abbrev pub AreFaultAt : List Word → FaultKind × Layer → Type 0
-AreFaultAt args f = (w : Word) × (v : Word) × (args ≡ w ∷ v ∷ []) × (fault_kind_of w ≡ Some f.0) × (layer_named v ≡ Some f.1)
+AreFaultAt args f = (w : Word) × (v : Word) × (args ≡ w ∷ v ∷ []) × (fault_kind_of w ≡ Some f.0) × (layer_with (error.Fault f.0) v ≡ Some f.1)
 
 -- a network, or `port` and ports
 abbrev pub AreSide : List Word → Side → Type 0
@@ -151,7 +159,7 @@ AreAddressArguments address.Port args t = Make (IsOne (Finds ports_of)) term.Por
 
 abbrev pub AreArguments : Keyword → List Word → Term → Type 0
 AreArguments (keyword.Alone u) args t = (args ≡ []) × (t ≡ u)
-AreArguments keyword.Truncated args t = ((args ≡ []) × (t ≡ term.Truncated)) ⊎ Make (IsOne (Finds layer_named)) term.TruncatedAt args t
+AreArguments keyword.Truncated args t = ((args ≡ []) × (t ≡ term.Truncated)) ⊎ Make (IsOne (Finds (layer_with error.Truncated))) term.TruncatedAt args t
 AreArguments keyword.Fault args t =
     ((args ≡ []) × (t ≡ term.Fault))
     ⊎ (Make (IsOne (Finds fault_kind_of)) term.FaultOf args t ⊎ Make AreFaultAt (λ f. term.FaultAt f.0 f.1) args t)

@@ -3,11 +3,12 @@ pub mod Transport
 pub mod HeaderFields
 pub mod Truth
 pub mod HeaderConditions
+pub mod Layers
+pub mod OptionTypes
 pub mod Facts
 pub mod Flags
 pub mod Tests
 pub mod Program
-pub mod Frames
 pub mod Compiled
 pub mod Formula
 pub mod Words

@@ -110,7 +110,7 @@ fault_kind_of w =
     else if bytes_eq w (codes "header-length") then Some kind.Ipv4HeaderLength
     else None
 
--- the layer of a header that may be truncated or faulty
+-- the layer of a header
 abbrev pub layer_named : Word → Option Layer
 layer_named w =
     if bytes_eq w (codes "IP-header") then Some layer.IpHeader
@@ -118,7 +118,6 @@ layer_named w =
     else if bytes_eq w (codes "IPv4-packet") then Some layer.Ipv4Packet
     else if bytes_eq w (codes "authentication") then Some layer.IpAuthHeader
     else if bytes_eq w (codes "IPv6-header") then Some layer.Ipv6Header
-    else if bytes_eq w (codes "IPv6-packet") then Some layer.Ipv6Packet
     else if bytes_eq w (codes "IPv6-extension") then Some layer.Ipv6ExtHeader
     else if bytes_eq w (codes "hop-by-hop") then Some layer.Ipv6HopByHopHeader
     else if bytes_eq w (codes "destination-options") then Some layer.Ipv6DestOptionsHeader

@@ -1,17 +1,16 @@
 -- How the parser puts a filter together, word by word.
-use Rattle.std.specs.Prelude.{◌≡◌, ◌≤◌, ◌<◌, ◌+◌, ℕ, suc, List, [], ◌∷◌, ◌++◌, length, take, drop, Bool, true, false, Option, Some, None, is_some, ⊤, ◌⊎◌, ◌-◌, ◌^◌, IsTrue, codes}
+use Rattle.std.specs.Prelude.{◌≡◌, ◌≤◌, ◌<◌, ◌+◌, ℕ, List, [], ◌∷◌, ◌++◌, length, take, drop, Bool, true, false, Option, Some, None, is_some, ⊤, ◌⊎◌, ◌-◌, ◌^◌, IsTrue, codes}
 use Rattle.std.specs.Option.{option_map_or}
-use Rattle.ip_filter.specs.declared.steps.StepKind.TheVariants as kind
-use Rattle.ip_filter.specs.declared.steps.Step.{Step}
-use Rattle.ip_filter.specs.declared.steps.Steps.{Steps}
+use Rattle.ip_filter.specs.declared.compile.Compiler.{Compiler}
 use Rattle.ip_filter.specs.declared.builder.Level.{Level}
 use Rattle.ip_filter.specs.declared.builder.Builder.{Builder}
 use Rattle.ip_filter.specs.declared.parse_error.Expected.{Expected}
 use Rattle.ip_filter.specs.declared.parse_error.Expected.TheVariants as expects
 use Rattle.ip_filter.specs.declared.term.Term.{Term}
 use Rattle.ip_filter.specs.Words.{Word, words}
-use Rattle.ip_filter.specs.Formula.{steps_of}
-use Rattle.ip_filter.specs.Grammar.{Operand, Conjunction, Disjunction, a_term, a_negation, a_group, an_operand, an_and, a_conjunction, an_or, IsTerm, is_not, is_and, is_or, conjunction_words, filter_words, operand_terms, conjunction_terms, terms_in}
+use Rattle.ip_filter.specs.Formula.{Formula}
+use Rattle.ip_filter.specs.Compiled.{HasCompiled}
+use Rattle.ip_filter.specs.Grammar.{Operand, Conjunction, Disjunction, a_term, a_negation, a_group, an_operand, an_and, a_conjunction, an_or, IsTerm, is_not, is_and, is_or, conjunction_words, filter_words, operand_terms, conjunction_terms, terms_in, operand_formula, conjunction_formula, formula_of}
 use Rattle.ip_filter.specs.Reading.{ends_term, IsSuffix, IsPlace, WantsArgument, IsOperator}
 
 -- ---- the parts that are read
@@ -129,37 +128,24 @@ IsDue s front next expects.OperatorOrClose = EndsGroup s × (front ≡ []) × ¬
 IsDue s front next expects.FewerTerms = (IsWhole s ⊎ EndsGroup s) × (front ≡ []) × IsOperator next
 IsDue s front next e = WantsArgument front e
 
--- ---- the steps of the parts
+-- ---- the formulas of the parts
 
-abbrev mutual
-  pub operand_steps : ℕ → Operand → List Step
-  operand_steps k (a_term w us t) = record { kind = kind.Term t; nots = k } ∷ []
-  operand_steps k (a_negation w u) = operand_steps (suc k) u
-  operand_steps k (a_group d) = filter_steps k d
+-- In a list of formulas the last one is first. The left operand of an `or` or `and`, if there is one, precedes `fs`.
+abbrev pub or_formulas : Option (Disjunction × Word) → List Formula → List Formula
+or_formulas None fs = fs
+or_formulas (Some p) fs = formula_of p.0 ∷ fs
 
-  pub conjunction_steps : ℕ → Conjunction → List Step
-  conjunction_steps k (an_operand u) = operand_steps k u
-  conjunction_steps k (an_and c w u) = conjunction_steps 0 c ++ operand_steps 0 u ++ record { kind = kind.And; nots = k } ∷ []
+abbrev pub and_formulas : Option (Conjunction × Word) → List Formula → List Formula
+and_formulas None fs = fs
+and_formulas (Some p) fs = conjunction_formula p.0 ∷ fs
 
-  pub filter_steps : ℕ → Disjunction → List Step
-  filter_steps k (a_conjunction c) = conjunction_steps k c
-  filter_steps k (an_or d w c) = filter_steps 0 d ++ conjunction_steps 0 c ++ record { kind = kind.Or; nots = k } ∷ []
+abbrev pub group_formulas : List Open → List Formula
+group_formulas [] = []
+group_formulas (f ∷ fs) = and_formulas f.and_left (or_formulas f.or_left (group_formulas fs))
 
-abbrev pub or_steps : Option (Disjunction × Word) → List Step
-or_steps None = []
-or_steps (Some p) = filter_steps 0 p.0
-
-abbrev pub and_steps : Option (Conjunction × Word) → List Step
-and_steps None = []
-and_steps (Some p) = conjunction_steps 0 p.0
-
-abbrev pub group_steps : List Open → List Step
-group_steps [] = []
-group_steps (f ∷ fs) = group_steps fs ++ or_steps f.or_left ++ and_steps f.and_left
-
-abbrev pub state_steps : State → List Step
-state_steps (before fs f) = group_steps fs ++ or_steps f.or_left ++ and_steps f.and_left
-state_steps (after fs o c) = group_steps fs ++ or_steps o ++ conjunction_steps 0 c
+abbrev pub state_formulas : State → List Formula
+state_formulas (before fs f) = group_formulas (f ∷ fs)
+state_formulas (after fs o c) = conjunction_formula c ∷ or_formulas o (group_formulas fs)
 
 -- ---- the parser's values
 
@@ -182,17 +168,16 @@ abbrev pub has_operand : State → Bool
 has_operand (before fs f) = false
 has_operand (after fs o c) = true
 
--- b holds what was read before the operand u, and the steps of u
+-- b holds what was read before the operand u, and the formula of u
 pub record HoldsOperand (fs : List Open) (f : Open) (u : Operand) (b : Builder) : Type 0 where
-  pub steps : steps_of b.steps ≡ group_steps fs ++ or_steps f.or_left ++ and_steps f.and_left ++ operand_steps (length f.nots) u
+  pub compiled : HasCompiled (operand_formula u ∷ group_formulas (f ∷ fs)) b.compiler
   pub terms : b.terms ≡ group_terms fs + open_terms f + operand_terms u
   pub outer : b.outer.items ≡ levels_of fs
-  pub or_waits : b.level.or_waits ≡ is_some f.or_left
-  pub and_waits : b.level.and_waits ≡ is_some f.and_left
+  pub level : b.level ≡ level_of f
 
 -- b holds what was read in a group before its end, but for the level around the group
 pub record HoldsGroup (fs : List Open) (f : Open) (o : Option (Disjunction × Word)) (c : Conjunction) (level : Level) (b : Builder) : Type 0 where
-  pub steps : steps_of b.steps ≡ state_steps (after (f ∷ fs) o c)
+  pub compiled : HasCompiled (state_formulas (after (f ∷ fs) o c)) b.compiler
   pub terms : b.terms ≡ state_terms (after (f ∷ fs) o c)
   pub outer : b.outer.items ≡ levels_of fs
   pub around : level ≡ level_of f
@@ -200,7 +185,7 @@ pub record HoldsGroup (fs : List Open) (f : Open) (o : Option (Disjunction × Wo
 
 -- b holds what was read in the state s
 pub record Holds (s : State) (b : Builder) : Type 0 where
-  pub steps : steps_of b.steps ≡ state_steps s
+  pub compiled : HasCompiled (state_formulas s) b.compiler
   pub terms : b.terms ≡ state_terms s
   pub outer : b.outer.items ≡ outer_of s
   pub level : b.level ≡ last_level s
@@ -229,9 +214,9 @@ pub record RefusesFrom (s : State) (text : List ℕ) (left : ℕ) (e : Expected)
       → take 1 ws ≡ take 1 (words (drop (length text - left) text)) → ⊥
   pub expected : IsDue s front (take 1 (words (drop (length text - left) text))) e
 
--- The state is that of a whole filter, of which x has the steps.
-pub record IsFinished (s : State) (x : Steps) : Type 0 where
+-- The state is that of a whole filter, whose formula the compiler has compiled.
+pub record IsFinished (s : State) (compiler : Compiler) : Type 0 where
   pub or_left : Option (Disjunction × Word)
   pub last : Conjunction
   pub whole : s ≡ after [] or_left last
-  pub steps : steps_of x ≡ filter_steps 0 (or_joined or_left last)
+  pub compiled : HasCompiled (formula_of (or_joined or_left last) ∷ []) compiler

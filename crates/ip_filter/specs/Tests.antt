@@ -3,8 +3,8 @@ use Rattle.std.specs.Prelude.{ℕ, ◌+◌, ◌*◌, ◌^◌, ◌==◌, ◌&&◌
 use Rattle.std.specs.List.{list_any}
 use Rattle.std.specs.Option.{option_map, option_map_or}
 use Rattle.ip_dissect.specs.Dissection.{DissectedParts, dissected}
-use Rattle.ip_filter.specs.Transport.{source_port, destination_port, lacks_ports, icmp_byte, icmp6_byte, esp_spi, tcp_flags}
-use Rattle.ip_filter.specs.Truth.{is_in_layer, compares, has_base, has_source, has_destination, some_fragment, quantity_of}
+use Rattle.ip_filter.specs.Transport.{source_port, destination_port, lacks_transport, icmp_byte, icmp6_byte, esp_spi, tcp_flags}
+use Rattle.ip_filter.specs.Truth.{is_in_layer, compares, has_base, has_source, has_destination, some_fragment, quantity_of, lacks_length}
 use Rattle.ip_filter.specs.HeaderFields.{has_option, has_spi, has_routing_type, has_segments_left}
 use Rattle.ip_filter.specs.Flags.{any_flag}
 use Rattle.ip_filter.specs.declared.network.Network.{Network}
@@ -52,7 +52,7 @@ meets_in_payload x p =
     if x.kind == 16 then is_in_range x (source_port p)
     else if x.kind == 17 then is_in_range x (destination_port p)
     else if x.kind == 18 then is_in_range x (source_port p) || is_in_range x (destination_port p)
-    else if x.kind == 19 then lacks_ports p
+    else if x.kind == 19 then lacks_transport p
     else if x.kind == 20 then option_map_or (λ n. n == x.number) (icmp_byte 0 p) false
     else if x.kind == 21 then option_map_or (λ n. n == x.number) (icmp_byte 1 p) false
     else if x.kind == 22 then option_map_or (λ n. bit_and n x.address_low == x.number) (tcp_flags p) false
@@ -81,8 +81,9 @@ meets x p =
     else if x.kind == 23 then list_any (has_routing_type x.number) p.headers
     else if x.kind == 24 then option_map_or (λ c. list_any (has_segments_left (λ n. compares c n x.number)) p.headers) (comparison_in x.comparison) false
     else if x.kind == 25 then list_any (has_option x.number) p.headers
-    else if x.kind == 26 then any_flag 64 x.address_low p && is_in_layer x.number p.end
+    else if x.kind == 26 then any_flag 64 x.address_low p && is_in_layer x.number p.version p.end
     else if x.kind == 27 then (p.version == x.version) && (p.number == x.number)
+    else if x.kind == 30 then lacks_length p
     else meets_in_payload x p
 
 -- a frame meets the test: the packet at the start of its bytes does, and a frame that is not IP meets none

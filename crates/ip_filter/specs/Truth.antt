@@ -1,8 +1,8 @@
 -- What a term says of a packet.
-use Rattle.std.specs.Prelude.{ℕ, List, length, Bool, true, false, not, ◌==◌, ◌&&◌, ◌||◌, ◌/◌, ◌%◌, nat_lt, if◌then◌else◌, Option, Some, None, is_some}
+use Rattle.std.specs.Prelude.{ℕ, ◌+◌, List, length, Bool, true, false, not, ◌==◌, ◌&&◌, ◌||◌, ◌/◌, ◌%◌, nat_lt, if◌then◌else◌, Option, Some, None, is_some}
 use Rattle.std.specs.Int.{from_be_bytes, w32, w128}
 use Rattle.std.specs.List.{list_any}
-use Rattle.std.specs.Option.{option_map_or}
+use Rattle.std.specs.Option.{option_map_or, option_or}
 use Rattle.ip_spec.specs.Chain.{ExtHeader, bytes_of}
 use Rattle.ip_base.specs.Ipv4Header.{ipv4_source_octets, ipv4_destination_octets}
 use Rattle.ip_base.specs.Ipv6Header.{ipv6_source_octets, ipv6_destination_octets}
@@ -11,6 +11,8 @@ use Rattle.ip_base.specs.declared.err.ip.header_error.HeaderError.TheVariants.{U
 use Rattle.ip_base.specs.declared.err.ip.headers_error.HeadersError.TheVariants.{Ip, Ipv4Ext, Ipv6Ext}
 use Rattle.ip_base.specs.declared.err.ip.slice_error.SliceError.{SliceError}
 use Rattle.ip_base.specs.declared.err.ip.slice_error.SliceError.TheVariants.{Len, IpHeaders}
+use Rattle.ip_base.specs.declared.err.layer.Layer.{Layer}
+use Rattle.ip_base.specs.declared.err.layer.Layer.TheVariants as layer
 use Rattle.ip_codes.specs.Codes.{layer_code}
 use Rattle.ip_codes.specs.EndLayer.{end_layer}
 use Rattle.ip_dissect.specs.Dissection.{DissectedParts}
@@ -23,7 +25,7 @@ use Rattle.ip_dissect.specs.declared.end.End.TheVariants as end
 use Rattle.ip_base.specs.BaseHeaderFields.{ipv4_ttl, ipv4_dscp, ipv4_ecn, ipv6_hop_limit, ipv6_traffic_class, ipv6_flow_label}
 use Rattle.ip_filter.specs.Network.{ipv4_lies_in, ipv6_lies_in}
 use Rattle.ip_filter.specs.HeaderFields.{has_option, has_spi, has_routing_type, has_segments_left}
-use Rattle.ip_filter.specs.Transport.{source_port, destination_port, lacks_ports, is_icmp, is_icmp6, icmp_byte, icmp6_byte, esp_spi, tcp_flags, is_port_in, are_set}
+use Rattle.ip_filter.specs.Transport.{source_port, destination_port, lacks_transport, is_icmp, is_icmp6, icmp_byte, icmp6_byte, esp_spi, tcp_flags, is_port_in, are_set}
 use Rattle.ip_filter.specs.declared.network.Network.{Network}
 use Rattle.ip_filter.specs.declared.term.Comparison.{Comparison}
 use Rattle.ip_filter.specs.declared.term.Comparison.TheVariants as by
@@ -69,6 +71,7 @@ some_fragment q p =
     if p.version == 4 then option_map_or q (ipv4_fragment p.base) false
     else list_any (says_fragment q) p.headers
 
+-- a header is truncated at the end
 abbrev pub is_truncated : End → Bool
 is_truncated (end.Truncated e header) = true
 is_truncated e = false
@@ -94,9 +97,23 @@ abbrev pub fault_in : End → Option FaultKind
 fault_in (end.Fault e header) = Some (fault_kind e)
 fault_in e = None
 
--- the layer of the header that is truncated or faulty has this code
-abbrev pub is_in_layer : ℕ → End → Bool
-is_in_layer l e = option_map_or (λ x. layer_code x == l) (end_layer e) false
+-- the layer of an extension header
+abbrev pub is_extension_layer : Layer → Bool
+is_extension_layer layer.IpAuthHeader = true
+is_extension_layer layer.Ipv6HopByHopHeader = true
+is_extension_layer layer.Ipv6DestOptionsHeader = true
+is_extension_layer layer.Ipv6RouteHeader = true
+is_extension_layer layer.Ipv6FragHeader = true
+is_extension_layer l = false
+
+-- The layer with the code l is x, or stands for it in a packet of version v: `IPv6-extension` for that of any extension
+-- header of IPv6.
+abbrev pub stands_for : ℕ → ℕ → Layer → Bool
+stands_for l v x = (layer_code x == l) || ((l == layer_code layer.Ipv6ExtHeader) && (v == 6) && is_extension_layer x)
+
+-- the header that is truncated or faulty in a packet of version v is in the layer with this code
+abbrev pub is_in_layer : ℕ → ℕ → End → Bool
+is_in_layer l v e = option_map_or (stands_for l v) (end_layer e) false
 
 -- the address of the packet lies in the network: its octets are these of an IPv4 base header, or those of an IPv6 one
 abbrev pub address_lies_in : Network → (List ℕ → List ℕ) → (List ℕ → List ℕ) → DissectedParts → Bool
@@ -119,12 +136,21 @@ of_packet n p = if has_base p then Some n else None
 abbrev pub base_field : (List ℕ → ℕ) → (List ℕ → ℕ) → DissectedParts → Option ℕ
 base_field ipv4 ipv6 p = if p.version == 4 then Some (ipv4 p.base) else if p.version == 6 then Some (ipv6 p.base) else None
 
+-- The length of the packet: the one that its base header states, or if that states none, all bytes that are there.
+abbrev pub packet_len : DissectedParts → Option ℕ
+packet_len p = option_or p.stated (of_packet (length p.base + length (bytes_of p.headers) + length p.payload) p)
+
+-- The base header states the length 0, although bytes follow it: a payload length in IPv6 (RFC 8200, section 3), a total
+-- length in IPv4 (RFC 791, section 3.1). A jumbo payload option (RFC 2675) is not asked.
+abbrev pub lacks_length : DissectedParts → Bool
+lacks_length p = has_base p && not (is_some p.stated) && (nat_lt 0 (length p.headers) || nat_lt 0 (length p.payload))
+
 -- The quantity, if the packet has it. The traffic class of IPv6 is divided as byte 1 of IPv4 is (RFC 2474; RFC 3168).
 abbrev pub quantity_of : Quantity → DissectedParts → Option ℕ
 quantity_of number.Headers p = of_packet (length p.headers) p
 quantity_of number.ChainBytes p = of_packet (length (bytes_of p.headers)) p
 quantity_of number.Payload p = of_packet (length p.payload) p
-quantity_of number.Length p = p.stated
+quantity_of number.Length p = packet_len p
 quantity_of number.HopLimit p = base_field ipv4_ttl ipv6_hop_limit p
 quantity_of number.Dscp p = base_field ipv4_dscp (λ b. ipv6_traffic_class b / 4) p
 quantity_of number.Ecn p = base_field ipv4_ecn (λ b. ipv6_traffic_class b % 4) p
@@ -142,8 +168,8 @@ holds term.Truncated p = is_truncated p.end
 holds term.Incomplete p = not (p.missing == 0)
 holds term.Fault p = is_some (fault_in p.end)
 holds (term.FaultOf kind) p = option_map_or (λ k. kind_index k == kind_index kind) (fault_in p.end) false
-holds (term.TruncatedAt l) p = is_truncated p.end && is_in_layer (layer_code l) p.end
-holds (term.FaultAt kind l) p = option_map_or (λ k. kind_index k == kind_index kind) (fault_in p.end) false && is_in_layer (layer_code l) p.end
+holds (term.TruncatedAt l) p = is_truncated p.end && is_in_layer (layer_code l) p.version p.end
+holds (term.FaultAt kind l) p = option_map_or (λ k. kind_index k == kind_index kind) (fault_in p.end) false && is_in_layer (layer_code l) p.version p.end
 holds (term.Compared q c n) p = option_map_or (λ x. compares c x n) (quantity_of q p) false
 holds (term.SecurityParameters i) p = list_any (has_spi i) p.headers || option_map_or (λ x. x == i) (esp_spi p) false
 holds (term.Option n) p = list_any (has_option n) p.headers
@@ -156,7 +182,8 @@ holds (term.Either n) p = has_source n p || has_destination n p
 holds (term.SourcePort r) p = option_map_or (is_port_in r) (source_port p) false
 holds (term.DestinationPort r) p = option_map_or (is_port_in r) (destination_port p) false
 holds (term.Port r) p = option_map_or (is_port_in r) (source_port p) false || option_map_or (is_port_in r) (destination_port p) false
-holds term.NoTransport p = lacks_ports p
+holds term.NoTransport p = lacks_transport p
+holds term.NoLength p = lacks_length p
 holds term.Icmp p = is_icmp p
 holds term.Icmp6 p = is_icmp6 p
 holds (term.IcmpType n) p = option_map_or (λ x. x == n) (icmp_byte 0 p) false

@@ -1,20 +1,18 @@
 //! A filter while its text is read, from left to right.
-ghost use Rattle.std.specs.Prelude.{◌≡◌, ◌<◌, ◌≤◌, ◌+◌, ◌^◌, ℕ, Option, List, [], ◌∷◌, ◌++◌, length, true, false, codes, if◌then◌else◌, IfOk, IfErr};
+ghost use Rattle.std.specs.Prelude.{◌≡◌, ◌≤◌, ◌+◌, ℕ, Option, is_some, List, [], ◌∷◌, true, false, codes, IfOk, IfErr};
 ghost use Rattle.arrayvec.specs.ArrayVec.{array_vec_len};
-ghost use Rattle.ip_filter.specs.Formula.{steps_of};
-ghost use Rattle.ip_filter.specs.declared.steps.StepKind.{StepKind as TheStepKind};
-ghost use Rattle.ip_filter.specs.declared.steps.StepKind.TheVariants.{Or};
-ghost use Rattle.ip_filter.specs.declared.steps.Step.{Step as TheStep};
-ghost use Rattle.ip_filter.specs.Grammar.{Operand, Conjunction, Disjunction, a_group, is_not, is_and, is_or};
+ghost use Rattle.ip_filter.specs.Formula.{Formula};
+ghost use Rattle.ip_filter.specs.Compiled.{terms_of_all, HasCompiled};
+ghost use Rattle.ip_filter.specs.Grammar.{Operand, Conjunction, Disjunction, a_group, operand_formula, conjunction_formula, formula_of, is_not, is_and, is_or};
 ghost use Rattle.ip_filter.specs.Words.{Word as Text};
 ghost use Rattle.ip_filter.specs.Reading.{IsFirstWord};
-ghost use Rattle.ip_filter.specs.Parsing.{Open, State, before, after, nothing_open, with_operand, or_joined, state_steps, CountsFit, Holds, HoldsOperand, HoldsGroup, IsFinished, ReadsOn, RefusesFrom, IsDue, IsWhole};
+ghost use Rattle.ip_filter.specs.Parsing.{Open, State, before, after, nothing_open, with_operand, and_joined, or_joined, or_formulas, and_formulas, state_terms, CountsFit, Holds, HoldsOperand, HoldsGroup, IsFinished, ReadsOn, RefusesFrom, IsDue, IsWhole};
 
 use crate::Expected;
 use crate::arguments::Unexpected;
+use crate::compile::Compiler;
 use crate::keyword::keyword_of;
 use crate::parse_term::read_term;
-use crate::steps::{Step, StepKind, Steps};
 use crate::words::Word;
 use arrayvec::ArrayVec;
 
@@ -35,8 +33,8 @@ pub(crate) struct Level {
 /// A filter while its text is read.
 #[derive(Drop)]
 pub(crate) struct Builder {
-    /// The steps so far.
-    pub steps: Steps,
+    /// The tests of what was read.
+    pub compiler: Compiler,
     /// How many terms there are.
     pub terms: usize,
     /// The levels around the last one, the innermost last.
@@ -53,13 +51,7 @@ impl Builder {
         ensures { Holds (before [] nothing_open) result }
     {
         Builder {
-            steps: Steps {
-                steps: [Step {
-                    kind: StepKind::And,
-                    nots: 0,
-                }; 127],
-                count: 0,
-            },
+            compiler: Compiler::new(),
             terms: 0,
             outer: ArrayVec::new(),
             level: Level::default(),
@@ -107,7 +99,7 @@ impl Builder {
         };
         match read_term(keyword, word.rest) {
             Ok((term, rest)) => {
-                push(&mut self.steps, StepKind::Term(term), self.level.nots);
+                self.compiler.add(term);
                 self.terms = self.terms.saturating_add(1);
                 self.end_operand();
                 Ok(rest)
@@ -137,7 +129,7 @@ impl Builder {
             if self.terms >= MAX_TERMS {
                 return Err(word.unexpected(Expected::FewerTerms));
             }
-            push_or(&mut self.steps, self.level.or_waits);
+            join_or(&mut self.compiler, self.level.or_waits);
             self.level.or_waits = true;
             self.has_operand = false;
             return Ok(word.rest);
@@ -163,21 +155,18 @@ impl Builder {
             → HoldsGroup fs f o c outer self.old → CountsFit (after (f ∷ fs) o c)
             → Holds (with_operand fs f (a_group (or_joined o c))) self.new }
     {
-        push_or(&mut self.steps, self.level.or_waits);
-        negate_last(&mut self.steps, outer.nots);
+        join_or(&mut self.compiler, self.level.or_waits);
         self.level = outer;
         self.end_operand();
     }
 
-    /// Joins the operand whose steps are the last ones to what waits for it.
-    #[tactic(auto, using(crate::proofs::PartStepsLemmas::alone, crate::proofs::PartStepsLemmas::joined))]
+    /// Negates the operand whose formula is the last one, and joins it to what waits for it.
     fn end_operand(&mut self)
         ensures { (fs : List Open) (f : Open) (u : Operand) → HoldsOperand fs f u self.old
-            → length (state_steps (with_operand fs f u)) ≤ 127 → Holds (with_operand fs f u) self.new }
+            → state_terms (with_operand fs f u) ≤ 64 → Holds (with_operand fs f u) self.new }
     {
-        if self.level.and_waits {
-            push(&mut self.steps, StepKind::And, 0);
-        }
+        self.compiler.negate_last(self.level.nots);
+        join_and(&mut self.compiler, self.level.and_waits);
         self.level.nots = 0;
         self.level.and_waits = false;
         self.has_operand = true;
@@ -185,11 +174,11 @@ impl Builder {
 }
 
 impl Builder {
-    /// Returns the steps at the end of the text, or what is missing there.
+    /// Ends the filter at the end of the text, or returns what is missing there.
     #[tactic(auto, using(crate::proofs::OperatorLemmas::finished, crate::proofs::OperatorLemmas::operand_missing, crate::proofs::OperatorLemmas::close_missing))]
-    pub(crate) fn finish(mut self) -> Result<Steps, Expected>
-        ensures ok { IfOk result (λ x. (s : State) → Holds s self → CountsFit s → IsFinished s x) }
-        ensures err { IfErr result (λ e. (s : State) → Holds s self
+    pub(crate) fn finish(&mut self) -> Result<(), Expected>
+        ensures ok { IfOk result (λ x. (s : State) → Holds s self.old → CountsFit s → IsFinished s self.new.compiler) }
+        ensures err { IfErr result (λ e. (s : State) → Holds s self.old
             → IsDue s [] [] e × (IsWhole s → ⊥)) }
     {
         if !self.has_operand {
@@ -198,48 +187,32 @@ impl Builder {
         if !self.outer.is_empty() {
             return Err(Expected::OperatorOrClose);
         }
-        push_or(&mut self.steps, self.level.or_waits);
-        Ok(self.steps)
+        join_or(&mut self.compiler, self.level.or_waits);
+        Ok(())
     }
 }
 
-/// Appends a step to fewer than 127.
-fn push(to: &mut Steps, kind: StepKind, nots: u64)
-    ensures { length (steps_of to.old) < 127
-        → steps_of to.new ≡ steps_of to.old ++ record { kind = kind; nots = nots } ∷ [] }
-{
-    let count = usize::from(to.count);
-    if count < to.steps.len() {
-        to.steps[count] = Step { kind, nots };
-        to.count += 1;
-    }
-}
-
-/// Negates the last step more often.
-#[tactic(auto, using(crate::proofs::PartStepsLemmas::negated_last))]
-fn negate_last(to: &mut Steps, nots: u64)
-    ensures { (front : List TheStep) (x : TheStepKind) (k : ℕ)
-        → steps_of to.old ≡ front ++ record { kind = x; nots = k } ∷ [] → k + nots < 2 ^ 64
-        → steps_of to.new ≡ front ++ record { kind = x; nots = k + nots } ∷ [] }
-{
-    let count = usize::from(to.count).min(to.steps.len());
-    if count > 0 {
-        let last = to.steps[count - 1];
-        to.steps[count - 1] = Step {
-            kind: last.kind,
-            nots: last.nots.saturating_add(nots),
-        };
-    }
-}
-
-/// Appends an `or` if it has a left operand.
-fn push_or(to: &mut Steps, waits: bool)
-    ensures step { waits ≡ true → length (steps_of to.old) < 127
-        → steps_of to.new ≡ steps_of to.old ++ record { kind = Or; nots = 0 } ∷ [] }
-    ensures none { waits ≡ false → to.new ≡ to.old }
+/// Joins the last operand to the conjunction before it, if one waits.
+fn join_and(to: &mut Compiler, waits: bool)
+    ensures { (a : Option (Conjunction × Text)) (u : Operand) (fs : List Formula) → waits ≡ is_some a
+        → terms_of_all (conjunction_formula (and_joined a u) ∷ fs) ≤ 64
+        → HasCompiled (operand_formula u ∷ and_formulas a fs) to.old
+        → HasCompiled (conjunction_formula (and_joined a u) ∷ fs) to.new }
 {
     if waits {
-        push(to, StepKind::Or, 0);
+        to.join(true);
+    }
+}
+
+/// Joins the last conjunction to the disjunction before it, if one waits.
+fn join_or(to: &mut Compiler, waits: bool)
+    ensures { (o : Option (Disjunction × Text)) (c : Conjunction) (fs : List Formula) → waits ≡ is_some o
+        → terms_of_all (formula_of (or_joined o c) ∷ fs) ≤ 64
+        → HasCompiled (conjunction_formula c ∷ or_formulas o fs) to.old
+        → HasCompiled (formula_of (or_joined o c) ∷ fs) to.new }
+{
+    if waits {
+        to.join(false);
     }
 }
 

@@ -1,58 +1,33 @@
-//! Compiles a formula's steps to tests.
-ghost use Rattle.std.specs.Prelude.{◌≡◌, ◌<◌, ◌≤◌, ◌+◌, ℕ, Option, List, [], ◌∷◌, ◌++◌, length, take, drop, true, false, if◌then◌else◌};
+//! Compiles formulas to tests.
+ghost use Rattle.std.specs.Prelude.{◌≡◌, ◌<◌, ◌≤◌, ◌+◌, ℕ, Option, List, [], ◌∷◌, ◌++◌, length, take, drop, true, false};
 ghost use Rattle.arrayvec.specs.ArrayVec.{array_vec_len};
-ghost use Rattle.ip_filter.specs.Formula.{Formula, after_step, negated, read_after, steps_of, truth};
-ghost use Rattle.ip_filter.specs.Tests.{frame_meets};
-ghost use Rattle.ip_filter.specs.Program.{tests_of, passes, frame_holds};
-ghost use Rattle.ip_filter.specs.Compiled.{terms_of, terms_of_all, joined_by, AreCompiled, index_moved, redirected, redirected_from};
-ghost use Rattle.ip_filter.specs.declared.steps.StepKind.TheVariants.{And, Or};
+ghost use Rattle.ip_filter.specs.Formula.{Formula, single, negated};
+ghost use Rattle.ip_filter.specs.Program.{tests_of};
+ghost use Rattle.ip_filter.specs.Compiled.{terms_of_all, joined_by, AreCompiled, HasCompiled, index_moved, redirected, redirected_from};
 
-use crate::join::join_flags;
+use crate::join::join_early;
 use crate::run::PASSED;
-use crate::steps::{Step, StepKind, Steps};
 use crate::test_of::REFUSED;
-use crate::{Filter, Test};
+use crate::{Filter, Term, Test};
 use arrayvec::ArrayVec;
 
 /// The most tests of a filter.
 const MAX_TESTS: usize = 64;
 
-impl Filter {
-    /// Returns the filter of a formula's steps with at most 64 terms.
-    pub(crate) fn of(steps: &Steps) -> Filter
-        ensures formula { (f : Formula) → read_after [] (steps_of steps.now) ≡ f ∷ [] → terms_of f ≤ 64
-            → (frame : Option (List ℕ)) → passes (tests_of result) (frame_meets frame) ≡ truth f (frame_holds frame) }
-        ensures tests { (f : Formula) → read_after [] (steps_of steps.now) ≡ f ∷ [] → terms_of f ≤ 64
-            → result.count ≤ terms_of f }
-        ensures most { result.count ≤ 64 }
-    {
-        let mut compiler = Compiler::new();
-        'steps: for step in steps.used() {
-            compiler.read(step);
-        }
-        let count = compiler.filter.used_tests().len();
-        Filter {
-            count,
-            ..compiler.filter
-        }
-    }
-}
-
-/// A filter while the steps of a formula are read, from left to right. The tests of each formula that was read follow one
-/// another, and lead to index 64 if it holds, otherwise to 65.
+/// A filter while its text is read, from left to right. The tests of each formula that was read follow one another, and
+/// lead to index 64 if it holds, otherwise to 65.
 #[derive(Drop)]
-struct Compiler {
+pub(crate) struct Compiler {
     /// The tests so far.
-    filter: Filter,
+    pub filter: Filter,
     /// Where the tests of each formula start, the last formula last.
-    starts: ArrayVec<u8, 64>,
+    pub starts: ArrayVec<u8, 64>,
 }
 
 impl Compiler {
     /// Returns no tests.
-    fn new() -> Compiler
-        ensures tests { tests_of result.filter ≡ [] }
-        ensures starts { result.starts.items ≡ [] }
+    pub(crate) fn new() -> Compiler
+        ensures { HasCompiled [] result }
     {
         let unused = Test {
             number: 0,
@@ -74,24 +49,15 @@ impl Compiler {
         }
     }
 
-    /// Reads one more step.
-    fn read(&mut self, step: &Step)
-        ensures { (frame : Option (List ℕ)) (fs : List Formula)
-            → terms_of_all (after_step step.now.kind step.now.nots fs) ≤ 64
-            → AreCompiled frame fs self.old.starts.items (tests_of self.old.filter)
-            → AreCompiled frame (after_step step.now.kind step.now.nots fs) self.new.starts.items (tests_of self.new.filter) }
+    /// Appends a term.
+    pub(crate) fn add(&mut self, term: Term)
+        ensures { (fs : List Formula) → terms_of_all (single term ∷ fs) ≤ 64
+            → HasCompiled fs self.old → HasCompiled (single term ∷ fs) self.new }
     {
-        match &step.kind {
-            StepKind::Term(term) => {
-                self.push(Test::of(*term));
-                self.negate_last(step.nots);
-            }
-            StepKind::And => self.join(true, step.nots),
-            StepKind::Or => self.join(false, step.nots),
-        }
+        self.push(Test::of(term));
     }
 
-    /// Appends the test of a term.
+    /// Appends a test.
     fn push(&mut self, test: Test)
         ensures tests { length (tests_of self.old.filter) < 64 → length self.old.starts.items < 64
             → tests_of self.new.filter ≡ tests_of self.old.filter ++ test ∷ [] }
@@ -106,19 +72,14 @@ impl Compiler {
         }
     }
 
-    /// Joins the last two formulas, if there are two, and negates the result `nots` times.
-    fn join(&mut self, is_and: bool, nots: u64)
-        ensures { (frame : Option (List ℕ)) (fs : List Formula)
-            → terms_of_all (after_step (if is_and then And else Or) nots fs) ≤ 64
-            → AreCompiled frame fs self.old.starts.items (tests_of self.old.filter)
-            → AreCompiled frame (after_step (if is_and then And else Or) nots fs) self.new.starts.items (tests_of self.new.filter) }
+    /// Joins the last two formulas.
+    pub(crate) fn join(&mut self, is_and: bool)
+        ensures { (f g : Formula) (fs : List Formula) → terms_of_all (g ∷ f ∷ fs) ≤ 64
+            → HasCompiled (g ∷ f ∷ fs) self.old → HasCompiled (joined_by is_and f g ∷ fs) self.new }
     {
-        if self.starts.len() < 2 {
-            return;
+        if let Some(second) = self.starts.pop() {
+            self.join_at(second, is_and);
         }
-        let second = self.starts.pop().unwrap_or(0);
-        self.join_at(second, is_and);
-        self.negate_last(nots);
     }
 
     /// Joins the formula whose tests start at the index `second`, the last ones, to the one before.
@@ -127,7 +88,7 @@ impl Compiler {
             → AreCompiled frame (g ∷ f ∷ fs) (self.old.starts.items ++ second ∷ []) (tests_of self.old.filter)
             → AreCompiled frame (joined_by is_and f g ∷ fs) self.new.starts.items (tests_of self.new.filter) }
     {
-        if self.join_flags_at(usize::from(second), is_and) {
+        if self.join_early_at(usize::from(second), is_and) {
             return;
         }
         let (if_met, if_not) = if is_and {
@@ -138,9 +99,9 @@ impl Compiler {
         self.redirect(usize::from(second), if_met, if_not);
     }
 
-    /// Joins the formula whose test is the one with the index `second` to the one before, if flags decide it. Returns
+    /// Joins the formula whose test is the one with the index `second` to the one before, if it is to be asked first. Returns
     /// whether it has.
-    fn join_flags_at(&mut self, second: usize, is_and: bool) -> bool
+    fn join_early_at(&mut self, second: usize, is_and: bool) -> bool
         ensures joined { result ≡ true → (frame : Option (List ℕ)) (f g : Formula) (fs : List Formula)
             → terms_of_all (g ∷ f ∷ fs) ≤ 64
             → AreCompiled frame (g ∷ f ∷ fs) (self.old.starts.items ++ second ∷ []) (tests_of self.old.filter)
@@ -157,7 +118,7 @@ impl Compiler {
         if first >= second {
             return false;
         }
-        match join_flags(&mut self.filter.tests[first..end], start, is_and) {
+        match join_early(&mut self.filter.tests[first..end], start, is_and) {
             Some(count) => {
                 self.filter.count = first + count;
                 true
@@ -167,10 +128,9 @@ impl Compiler {
     }
 
     /// Negates the last formula `nots` times.
-    fn negate_last(&mut self, nots: u64)
-        ensures { (frame : Option (List ℕ)) (f : Formula) (fs : List Formula) → terms_of_all (f ∷ fs) ≤ 64
-            → AreCompiled frame (f ∷ fs) self.old.starts.items (tests_of self.old.filter)
-            → AreCompiled frame (negated nots f ∷ fs) self.new.starts.items (tests_of self.new.filter) }
+    pub(crate) fn negate_last(&mut self, nots: u64)
+        ensures { (f : Formula) (fs : List Formula) → terms_of_all (f ∷ fs) ≤ 64
+            → HasCompiled (f ∷ fs) self.old → HasCompiled (negated nots f ∷ fs) self.new }
     {
         if nots % 2 == 1 {
             self.redirect(

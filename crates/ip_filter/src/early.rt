@@ -1,17 +1,17 @@
-//! Early tests: those of flags, of the protocol number that follows the headers, and of addresses. They need no part of a
-//! packet but its base header, the number and the flags.
-ghost use Rattle.std.specs.Prelude.{◌≡◌, ◌==◌, ◌&&◌, ◌||◌, true, false, if◌then◌else◌, IfSome};
-ghost use Rattle.std.specs.Option.{option_map_or};
+//! Early tests: those of flags, of the protocol number that follows the headers, and of the base header. They need no part of
+//! a packet but its base header, the number and the flags.
+ghost use Rattle.std.specs.Prelude.{◌≡◌, ◌==◌, ◌&&◌, ◌||◌, true, if◌then◌else◌, IfSome};
 ghost use Rattle.ip_dissect.specs.Dissection.{dissected};
 ghost use Rattle.ip_filter.specs.Flags.{AreKnown};
-ghost use Rattle.ip_filter.specs.Tests.{meets, network_in};
-ghost use Rattle.ip_filter.specs.Truth.{has_base, has_source, has_destination};
+ghost use Rattle.ip_filter.specs.Tests.{meets};
+ghost use Rattle.ip_filter.specs.Truth.{has_base};
 
+use crate::Test;
+use crate::by_base::start_of;
 use crate::flags::{Flags, has_one_of};
 use crate::meets::kind;
 use crate::run::PASSED;
-use crate::{Network, Test};
-use ip_dissect::{BaseHeader, Packet};
+use ip_dissect::Packet;
 
 impl Test {
     /// Returns whether the test is one of flags or of the protocol number.
@@ -61,10 +61,7 @@ impl Test {
             kind::FLAGS => Some(self.next_index(has_one_of(packet, flags, self.number))),
             kind::LEADS_TO => Some(self.next_index(self.leads_to(packet))),
             kind::VERSION_LEADS_TO => Some(self.next_index(self.version_leads_to(packet))),
-            kind::SOURCE => Some(self.next_index(self.has_source(packet))),
-            kind::DESTINATION => Some(self.next_index(self.has_destination(packet))),
-            kind::EITHER => Some(self.next_index(self.has_either(packet))),
-            _ => None,
+            _ => self.index_by_base(&start_of(packet)),
         }
     }
 
@@ -98,89 +95,5 @@ impl Test {
     {
         let outline = &packet.outline;
         outline.version == self.version && u64::from(outline.next_header.0) == self.number
-    }
-
-    /// Returns whether either address of the packet lies in the network of the test.
-    #[inline(always)]
-    pub(crate) fn has_either(&self, packet: &Packet<'_>) -> bool
-        ensures { result ≡ option_map_or (λ n. has_source n (dissected packet.now.bytes.now)
-            || has_destination n (dissected packet.now.bytes.now)) (network_in self.now) false }
-    {
-        match self.network() {
-            Some(network) => has_either(packet, network),
-            None => false,
-        }
-    }
-
-    /// Returns whether the source address of the packet lies in the network of the test.
-    #[inline(always)]
-    pub(crate) fn has_source(&self, packet: &Packet<'_>) -> bool
-        ensures { result ≡ option_map_or (λ n. has_source n (dissected packet.now.bytes.now))
-            (network_in self.now) false }
-    {
-        match self.network() {
-            Some(network) => has_source(packet, network),
-            None => false,
-        }
-    }
-
-    /// Returns whether the destination address of the packet lies in the network of the test.
-    #[inline(always)]
-    pub(crate) fn has_destination(&self, packet: &Packet<'_>) -> bool
-        ensures { result ≡ option_map_or (λ n. has_destination n (dissected packet.now.bytes.now))
-            (network_in self.now) false }
-    {
-        match self.network() {
-            Some(network) => has_destination(packet, network),
-            None => false,
-        }
-    }
-}
-
-/// Returns whether the source address of the packet lies in the network.
-#[inline(always)]
-fn has_source(packet: &Packet<'_>, network: Network) -> bool
-    ensures { result ≡ has_source network (dissected packet.now.bytes.now) }
-{
-    match &packet.base {
-        Some(BaseHeader::Ipv4(header)) => network.has_ipv4(u32::from_be_bytes(header.source())),
-        Some(BaseHeader::Ipv6(header)) => network.has_ipv6(u128::from_be_bytes(header.source())),
-        None => false,
-    }
-}
-
-/// Returns whether the destination address of the packet lies in the network.
-#[inline(always)]
-fn has_destination(packet: &Packet<'_>, network: Network) -> bool
-    ensures { result ≡ has_destination network (dissected packet.now.bytes.now) }
-{
-    match &packet.base {
-        Some(BaseHeader::Ipv4(header)) => {
-            network.has_ipv4(u32::from_be_bytes(header.destination()))
-        }
-        Some(BaseHeader::Ipv6(header)) => {
-            network.has_ipv6(u128::from_be_bytes(header.destination()))
-        }
-        None => false,
-    }
-}
-
-/// Returns whether either address of the packet lies in the network.
-#[inline(always)]
-fn has_either(packet: &Packet<'_>, network: Network) -> bool
-    ensures { result ≡ (has_source network (dissected packet.now.bytes.now)
-        || has_destination network (dissected packet.now.bytes.now)) }
-{
-    match &packet.base {
-        Some(BaseHeader::Ipv4(header)) => {
-            network.has_ipv4(u32::from_be_bytes(header.source()))
-                || network.has_ipv4(u32::from_be_bytes(header.destination()))
-        }
-        // not `||`: which of the two lies there is often mispredicted. For IPv4 that gained nothing.
-        Some(BaseHeader::Ipv6(header)) => {
-            network.has_ipv6(u128::from_be_bytes(header.source()))
-                | network.has_ipv6(u128::from_be_bytes(header.destination()))
-        }
-        None => false,
     }
 }

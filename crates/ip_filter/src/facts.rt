@@ -6,13 +6,15 @@ ghost use Rattle.ip_dissect.specs.Outline.{is_plain};
 ghost use Rattle.ip_filter.specs.Flags.{AreKnown, any_flag};
 ghost use Rattle.ip_filter.specs.Facts.{number_after};
 ghost use Rattle.ip_filter.specs.HeaderConditions.{meets_condition};
+ghost use Rattle.ip_filter.specs.OptionTypes.{AreTypesOf};
 ghost use Rattle.ip_filter.specs.Truth.{is_first_kind, is_later_kind, fault_kind, fault_in, is_truncated, is_in_layer};
 ghost use Rattle.ip_filter.specs.Truth.{some_fragment};
 
 use crate::FaultKind;
-use crate::flags::{Flags, has_one_of};
+use crate::flags::{Flags, has_one_of, mask};
 use crate::header_condition::{HeaderCondition, any_header};
 use crate::layers::is_in_layer;
+use crate::option_types::OptionTypes;
 use ip_base::err::ip::{HeaderError, HeadersError, SliceError};
 use ip_base::err::ipv6_exts;
 use ip_base::{IpNumber, ip_number};
@@ -35,12 +37,13 @@ impl<'a> Facts<'a> {
         has_one_of(&self.packet, self.flags, mask)
     }
 
-    /// Returns whether headers end with an error in the layer with this code.
+    /// Returns whether headers end with an error in the layer with this code, or in one that it stands for.
     #[inline(never)]
     pub(crate) fn is_in_layer(&self, code: u64) -> bool
-        ensures { result ≡ is_in_layer code (dissected self.now.packet.bytes.now).end }
+        ensures { result ≡ is_in_layer code (dissected self.now.packet.bytes.now).version
+            (dissected self.now.packet.bytes.now).end }
     {
-        is_in_layer(&self.packet.end(), code)
+        is_in_layer(self.packet.outline.version, &self.packet.end(), code)
     }
 
     /// Returns whether an extension header meets the condition. Walks them again if there is one that can meet it.
@@ -55,6 +58,18 @@ impl<'a> Facts<'a> {
                 self.packet.extensions(),
                 condition,
             )
+    }
+
+    /// Returns the types of the packet's options. Walks the extension headers again if some can have options.
+    #[inline(never)]
+    pub(crate) fn option_types(&self) -> OptionTypes
+        ensures { AreTypesOf (dissected self.now.packet.bytes.now).headers result }
+    {
+        if self.has_one_of(mask::OPTIONS) {
+            OptionTypes::of_headers(first_number(self.packet.base), self.packet.extensions())
+        } else {
+            OptionTypes::none()
+        }
     }
 
     /// Returns whether the base header of an IPv4 packet has the identification, or a fragment header of an IPv6 packet.

@@ -22,9 +22,10 @@ pub struct Test {
     /// bytes, 5 the bytes of payload that are here, 6 the security parameters index of an authentication header, 7 the
     /// identification of a fragment, 8 the source, 9 the destination, 10 either address, 11 the stated length, 12 the hop
     /// limit, 13 the code point of differentiated services, 14 explicit congestion notification, 15 the flow label, 16 the
-    /// source, 17 the destination, 18 either port, 19 whether ports should be there but aren't, 20 the type, 21 the code of
-    /// ICMP, 22 flags of TCP, 23 the type, 24 the segments left of a routing header, 25 the type of
-    /// an option, 26 flags by an error in a layer.
+    /// source, 17 the destination, 18 either port, 19 whether an upper layer's header should be there but isn't, 20 the
+    /// type, 21 the code of ICMP, 22 flags of TCP, 23 the type, 24 the segments left of a routing header, 25 the type of
+    /// an option, 26 flags by an error in a layer, 27 the protocol number that follows the headers of a packet of this
+    /// version, 28 the type, 29 the code of ICMPv6, 30 whether no length is stated.
     pub kind: u8,
     /// How a quantity is compared: 1 equal, 2 not equal, 3 less, 4 at most, 5 greater, 6 at least.
     pub comparison: u8,

@@ -1,21 +1,19 @@
 //! What tests ask of single extension headers.
 ghost use Rattle.std.specs.Prelude.{◌≡◌, ◌==◌, ◌&&◌, ℕ, List};
 ghost use Rattle.std.specs.List.{list_any};
-ghost use Rattle.ip_ext_headers.specs.Ipv6RawExtHeaderSlice.{bytes};
 ghost use Rattle.ip_ext_slices.specs.Longest.{longest_chain};
 ghost use Rattle.ip_ext_slices.specs.Ipv6ExtensionSlice.{header_of};
 ghost use Rattle.ip_dissect.specs.Dissection.{dissected};
 ghost use Rattle.ip_filter.specs.Flags.{any_flag};
 ghost use Rattle.ip_filter.specs.Truth.{compares, says_fragment};
-ghost use Rattle.ip_filter.specs.HeaderFields.{has_option, has_option_type, has_spi, has_routing_type, has_segments_left};
+ghost use Rattle.ip_filter.specs.HeaderFields.{has_spi, has_routing_type, has_segments_left};
 ghost use Rattle.ip_filter.specs.HeaderConditions.{is_asked, meets_condition};
 
 use crate::Comparison;
 use crate::flags::mask;
 use ip_base::IpNumber;
-use ip_ext_headers::Ipv6RawExtHeaderSlice;
 use ip_ext_slices::{Ipv6ExtensionSlice, Ipv6ExtensionsCursor};
-use ip_header_contents::{HeaderOptions, routing_type, segments_left};
+use ip_header_contents::{routing_type, segments_left};
 
 /// A condition on one extension header.
 #[derive(Clone, Copy)]
@@ -28,8 +26,6 @@ pub(crate) enum HeaderCondition {
     SegmentsLeft(Comparison, u64),
     /// A fragment header with this identification.
     Identification(u64),
-    /// Hop-by-hop or destination options, of which one has this type.
-    Option(u64),
 }
 
 impl HeaderCondition {
@@ -44,7 +40,6 @@ impl HeaderCondition {
             HeaderCondition::RoutingType(_) => mask::ROUTING,
             HeaderCondition::SegmentsLeft(_, _) => mask::ROUTING,
             HeaderCondition::Identification(_) => mask::FRAGMENT,
-            HeaderCondition::Option(_) => mask::OPTIONS,
         }
     }
 
@@ -59,7 +54,6 @@ impl HeaderCondition {
                 has_segments_left(header, comparison, number)
             }
             HeaderCondition::Identification(number) => has_identification(header, number),
-            HeaderCondition::Option(number) => has_option(header, number),
         }
     }
 }
@@ -94,29 +88,6 @@ fn has_identification(header: &Ipv6ExtensionSlice<'_>, number: u64) -> bool
         Ipv6ExtensionSlice::Fragment(header) => u64::from(header.identification()) == number,
         _ => false,
     }
-}
-
-/// Returns whether the header has options, of which one has this type.
-fn has_option(header: &Ipv6ExtensionSlice<'_>, number: u64) -> bool
-    ensures { result ≡ has_option number (header_of header.now) }
-{
-    match header {
-        Ipv6ExtensionSlice::HopByHop(header) => has_option_type(header, number),
-        Ipv6ExtensionSlice::DestinationOptions(header) => has_option_type(header, number),
-        _ => false,
-    }
-}
-
-/// Returns whether one of the header's options has this type.
-fn has_option_type(header: &Ipv6RawExtHeaderSlice<'_>, number: u64) -> bool
-    ensures { result ≡ has_option_type number (bytes header.now) }
-{
-    'options: for option in HeaderOptions::of(header) {
-        if u64::from(option.option_type) == number {
-            return true;
-        }
-    }
-    false
 }
 
 /// Returns whether the header is a routing header of this type.

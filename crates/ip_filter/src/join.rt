@@ -1,4 +1,4 @@
-//! Operands that flags decide: joined to one test, or asked first.
+//! Operands that flags or the base header decide: joined to one test, or asked first.
 ghost use Rattle.std.specs.Prelude.{◌≡◌, ◌<◌, ◌≤◌, ◌+◌, ◌==◌, ℕ, Option, List, [], ◌∷◌, ◌++◌, length, take, if◌then◌else◌, IfSome, IfNone};
 ghost use Rattle.ip_filter.specs.Formula.{Formula, truth};
 ghost use Rattle.ip_filter.specs.Program.{frame_holds};
@@ -11,10 +11,10 @@ use crate::meets::kind;
 use crate::run::PASSED;
 use crate::test_of::REFUSED;
 
-/// Joins the last test to the formula of the tests before it, which start at this index, if it is one of flags: to the
-/// first of them, if one mask has both, or else before them, if they don't end with a test of flags. Returns how many
-/// tests there are then, or `None` if nothing has changed.
-pub(crate) fn join_flags(tests: &mut [Test], start: u8, is_and: bool) -> Option<usize>
+/// Joins the last test to the formula of the tests before it, which start at this index: to the first of them, if one mask
+/// of flags has both, or else before them, if it is asked before them. Returns how many tests there are then, or `None` if
+/// nothing has changed.
+pub(crate) fn join_early(tests: &mut [Test], start: u8, is_and: bool) -> Option<usize>
     requires { start < 64 }
     ensures none { IfNone result (tests.new ≡ tests.old) }
     ensures some { IfSome result (λ n. (0 < n) × (n ≤ length tests.old)) }
@@ -29,18 +29,25 @@ pub(crate) fn join_flags(tests: &mut [Test], start: u8, is_and: bool) -> Option<
         return None;
     }
     let last = tests[count - 1];
-    if last.kind != kind::FLAGS {
-        return None;
-    }
     if let Some(merged) = merged(&tests[0], &last, decided(is_and)) {
         tests[0] = merged;
         return Some(count - 1);
     }
-    if tests[count - 2].kind == kind::FLAGS {
+    if !is_asked_first(&last, &tests[0], &tests[count - 2]) {
         return None;
     }
     put_first(tests, leading_on(&last, start + 1, is_and));
     Some(count)
+}
+
+/// Returns whether the last test is asked before the others, of which these are the first and the last. Tests of the base
+/// header come before all others, since they need no walk, and tests of flags before those that need more than flags.
+fn is_asked_first(last: &Test, first: &Test, before: &Test) -> bool {
+    if last.is_of_base() {
+        !before.is_of_base()
+    } else {
+        last.kind == kind::FLAGS && before.kind != kind::FLAGS && !first.is_of_base()
+    }
 }
 
 /// Returns the index to which an operand leads that decides: a false one of `and`, or a true one of `or`.

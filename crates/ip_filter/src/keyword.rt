@@ -121,6 +121,9 @@ fn alone(word: &[u8]) -> Option<Term>
     if word == b"no-transport".as_slice() {
         return Some(Term::NoTransport);
     }
+    if word == b"no-length".as_slice() {
+        return Some(Term::NoLength);
+    }
     if word == b"icmp".as_slice() {
         return Some(Term::Icmp);
     }

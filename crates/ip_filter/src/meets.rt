@@ -4,7 +4,9 @@ ghost use Rattle.std.specs.Option.{option_map_or};
 ghost use Rattle.ip_dissect.specs.Dissection.{DissectedParts, dissected};
 ghost use Rattle.ip_filter.specs.Transport.{transport_of, esp_spi, tcp_flags};
 ghost use Rattle.ip_filter.specs.Tests.{comparison_in, network_in, compared, is_in_range, meets, meets_in_payload};
+ghost use Rattle.ip_filter.specs.Truth.{compares};
 
+use crate::by_base::start_of;
 use crate::facts::Facts;
 use crate::header_condition::HeaderCondition;
 use crate::transport::{
@@ -71,12 +73,15 @@ pub(crate) mod kind {
     pub const ICMP6_TYPE: u8 = 28;
 
     pub const ICMP6_CODE: u8 = 29;
+
+    pub const NO_LENGTH: u8 = 30;
 }
 
 impl Test {
-    /// Returns whether the packet meets the test.
+    /// Returns whether the packet meets the test, which is none of an option.
     #[inline(always)]
     pub(crate) fn is_met(&self, facts: &Facts<'_>) -> bool
+        requires { (self.now.kind == 25) ≡ false }
         ensures { result ≡ meets self.now (dissected facts.now.packet.bytes.now) }
     {
         match self.kind {
@@ -94,7 +99,6 @@ impl Test {
                 facts.has_header(HeaderCondition::SecurityParameters(self.number))
                     || self.has_esp_spi(facts)
             }
-            kind::OPTION => facts.has_header(HeaderCondition::Option(self.number)),
             kind::ROUTING_TYPE => facts.has_header(HeaderCondition::RoutingType(self.number)),
             kind::SEGMENTS_LEFT => match comparison_of(self.comparison) {
                 Some(comparison) => {
@@ -103,11 +107,12 @@ impl Test {
                 None => false,
             },
             kind::IDENTIFICATION => facts.has_identification(self.number),
-            kind::SOURCE => self.has_source(&facts.packet),
-            kind::DESTINATION => self.has_destination(&facts.packet),
-            kind::EITHER => self.has_either(&facts.packet),
+            kind::SOURCE => self.has_source(&start_of(&facts.packet)),
+            kind::DESTINATION => self.has_destination(&start_of(&facts.packet)),
+            kind::EITHER => self.has_either(&start_of(&facts.packet)),
             kind::LAYER => { facts.has_one_of(self.address_low) && facts.is_in_layer(self.number) }
             kind::VERSION_LEADS_TO => self.version_leads_to(&facts.packet),
+            kind::NO_LENGTH => facts.lacks_length(),
             _ => self.is_met_in_payload(facts),
         }
     }
@@ -124,7 +129,7 @@ impl Test {
                 self.has_in_range(facts.port_at(SOURCE_PORT))
                     || self.has_in_range(facts.port_at(DESTINATION_PORT))
             }
-            kind::NO_TRANSPORT => facts.lacks_ports(),
+            kind::NO_TRANSPORT => facts.lacks_transport(),
             kind::ICMP_TYPE => self.is_number(facts.icmp_byte(ICMP_TYPE)),
             kind::ICMP_CODE => self.is_number(facts.icmp_byte(ICMP_CODE)),
             kind::ICMP6_TYPE => self.is_number(facts.icmp6_byte(ICMP_TYPE)),
@@ -141,10 +146,19 @@ impl Test {
     pub(crate) fn compares(&self, quantity: Quantity, facts: &Facts<'_>) -> bool
         ensures { result ≡ compared self.now quantity (dissected facts.now.packet.bytes.now) }
     {
+        self.compares_number(facts.quantity(quantity))
+    }
+
+    /// Returns whether the number is there, and compares as the test asks.
+    #[inline(always)]
+    pub(crate) fn compares_number(&self, number: Option<u64>) -> bool
+        ensures { result ≡ option_map_or (λ c. option_map_or (λ n. compares c n self.now.number) number false)
+            (comparison_in self.now.comparison) false }
+    {
         let Some(comparison) = comparison_of(self.comparison) else {
             return false;
         };
-        match facts.quantity(quantity) {
+        match number {
             Some(number) => comparison.holds(number, self.number),
             None => false,
         }

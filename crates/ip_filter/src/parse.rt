@@ -32,7 +32,10 @@ impl Filter {
             }
         }
         match builder.finish() {
-            Ok(steps) => Ok(Filter::of(&steps)),
+            Ok(()) => Ok(Filter {
+                count: builder.compiler.filter.used_tests().len(),
+                ..builder.compiler.filter
+            }),
             Err(expected) => Err(ParseError {
                 offset: text.len(),
                 expected,

@@ -1,8 +1,7 @@
 //! Terms, as a filter's text writes them.
 ghost use Rattle.std.specs.Prelude.{◌≡◌, IfOk, IfErr, IfSome, IfNone};
 ghost use Rattle.ip_filter.specs.declared.keyword.Keyword.TheVariants as is;
-ghost use Rattle.ip_filter.specs.Grammar.{Finds, AreCompared, AreSide, source, destination};
-ghost use Rattle.ip_filter.specs.Numbers.{layer_named};
+ghost use Rattle.ip_filter.specs.Grammar.{Finds, AreCompared, AreSide, layer_with, source, destination};
 ghost use Rattle.ip_filter.specs.Reading.{IsCountKeyword, IsSideKeyword, BeginsOtherwise, ReadsTerm, RefusesTerm, ReadsArgument, ReadsArguments, RefusesArguments};
 
 use crate::arguments::{
@@ -10,7 +9,7 @@ use crate::arguments::{
     read_network, read_number, read_ports, read_protocol, read_tcp_flags, read_version,
 };
 use crate::keyword::{AddressKeyword, Keyword, NumberKeyword};
-use crate::layers::parse_layer;
+use crate::layers::{LayerError, parse_layer_with};
 use crate::networks::parse_network;
 use crate::numbers::parse_fault_kind;
 use crate::words::first_word;
@@ -53,20 +52,20 @@ pub(crate) fn read_term(keyword: Keyword, text: &[u8]) -> ReadTerm<'_>
 fn read_truncated(text: &[u8]) -> (Term, &[u8])
     ensures { ReadsTerm is.Truncated text.now result.0 result.1.now }
 {
-    match read_layer(text) {
+    match read_layer(LayerError::Truncated, text) {
         Some((layer, rest)) => (Term::TruncatedAt(layer), rest),
         None => (Term::Truncated, text),
     }
 }
 
-/// Reads a layer, if the text begins with one.
+/// Reads a layer that can have the error, if the text begins with one.
 #[tactic(auto, using(crate::proofs::ArgumentLemmas::this_word, crate::proofs::TermLemmas::no_word_is_no_layer, crate::proofs::TermLemmas::other_is_no_layer))]
-fn read_layer(text: &[u8]) -> Option<(Layer, &[u8])>
-    ensures some { IfSome result (λ r. ReadsArgument (Finds layer_named) text.now r.0 r.1.now) }
-    ensures none { IfNone result (BeginsOtherwise layer_named text.now) }
+fn read_layer(error: LayerError, text: &[u8]) -> Option<(Layer, &[u8])>
+    ensures some { IfSome result (λ r. ReadsArgument (Finds (layer_with error)) text.now r.0 r.1.now) }
+    ensures none { IfNone result (BeginsOtherwise (layer_with error) text.now) }
 {
     match first_word(text) {
-        Some(word) => match parse_layer(word.bytes) {
+        Some(word) => match parse_layer_with(error, word.bytes) {
             Some(layer) => Some((layer, word.rest)),
             None => None,
         },
@@ -81,7 +80,7 @@ fn read_fault(text: &[u8]) -> (Term, &[u8])
 {
     match first_word(text) {
         Some(word) => match parse_fault_kind(word.bytes) {
-            Some(kind) => match read_layer(word.rest) {
+            Some(kind) => match read_layer(LayerError::Fault(kind), word.rest) {
                 Some((layer, rest)) => (Term::FaultAt(kind, layer), rest),
                 None => (Term::FaultOf(kind), word.rest),
             },

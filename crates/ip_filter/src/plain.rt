@@ -5,6 +5,7 @@ ghost use Rattle.ip_dissect.specs.Outline.{is_plain};
 ghost use Rattle.ip_filter.specs.Tests.{meets};
 ghost use Rattle.ip_filter.specs.Program.{passes};
 
+use crate::by_base::start_of;
 use crate::facts::Facts;
 use crate::flags::has_one_of;
 use crate::meets::kind;
@@ -59,10 +60,11 @@ impl Test {
             kind::DSCP => self.compares(Quantity::Dscp, facts),
             kind::ECN => self.compares(Quantity::Ecn, facts),
             kind::FLOW_LABEL => self.compares(Quantity::FlowLabel, facts),
+            kind::NO_LENGTH => facts.lacks_length(),
             kind::IDENTIFICATION => facts.has_identification(self.number),
-            kind::SOURCE => self.has_source(&facts.packet),
-            kind::DESTINATION => self.has_destination(&facts.packet),
-            kind::EITHER => self.has_either(&facts.packet),
+            kind::SOURCE => self.has_source(&start_of(&facts.packet)),
+            kind::DESTINATION => self.has_destination(&start_of(&facts.packet)),
+            kind::EITHER => self.has_either(&start_of(&facts.packet)),
             // of an authentication header there is none
             kind::SECURITY_PARAMETERS => self.has_esp_spi(facts),
             // asked of an extension header

@@ -1,11 +1,11 @@
 //! The numbers that a packet has.
 ghost use Rattle.std.specs.Prelude.{◌≡◌};
 ghost use Rattle.ip_dissect.specs.Dissection.{dissected};
-ghost use Rattle.ip_filter.specs.Truth.{of_packet, quantity_of};
+ghost use Rattle.ip_filter.specs.Truth.{of_packet, quantity_of, lacks_length};
 
 use crate::Quantity;
+use crate::by_base::{dscp, ecn, flow_label, hop_limit, start_of};
 use crate::facts::Facts;
-use ip_dissect::BaseHeader;
 
 impl Facts<'_> {
     /// Returns the quantity, if the packet has it.
@@ -20,28 +20,24 @@ impl Facts<'_> {
             Quantity::Payload => self.of_packet(outline.payload_len),
             Quantity::Length => match outline.stated_len {
                 Some(len) => Some(len as u64),
-                None => None,
+                None => self.of_packet(self.packet.bytes.len() - outline.padding_len),
             },
-            Quantity::HopLimit => match &self.packet.base {
-                Some(BaseHeader::Ipv4(header)) => Some(u64::from(header.ttl())),
-                Some(BaseHeader::Ipv6(header)) => Some(u64::from(header.hop_limit())),
-                None => None,
-            },
-            Quantity::Dscp => match &self.packet.base {
-                Some(BaseHeader::Ipv4(header)) => Some(u64::from(header.dcp())),
-                Some(BaseHeader::Ipv6(header)) => Some(u64::from(header.traffic_class() / 4)),
-                None => None,
-            },
-            Quantity::Ecn => match &self.packet.base {
-                Some(BaseHeader::Ipv4(header)) => Some(u64::from(header.ecn())),
-                Some(BaseHeader::Ipv6(header)) => Some(u64::from(header.traffic_class() % 4)),
-                None => None,
-            },
-            Quantity::FlowLabel => match &self.packet.base {
-                Some(BaseHeader::Ipv6(header)) => Some(u64::from(header.flow_label())),
-                _ => None,
-            },
+            Quantity::HopLimit => hop_limit(&start_of(&self.packet)),
+            Quantity::Dscp => dscp(&start_of(&self.packet)),
+            Quantity::Ecn => ecn(&start_of(&self.packet)),
+            Quantity::FlowLabel => flow_label(&start_of(&self.packet)),
         }
+    }
+
+    /// Returns whether the base header states no length, although bytes follow it.
+    #[inline(always)]
+    pub(crate) fn lacks_length(&self) -> bool
+        ensures { result ≡ lacks_length (dissected self.now.packet.bytes.now) }
+    {
+        let outline = &self.packet.outline;
+        outline.version != 0
+            && outline.stated_len.is_none()
+            && (outline.header_count > 0 || outline.payload_len > 0)
     }
 
     /// Returns the number, if there is a base header.

@@ -1,15 +1,17 @@
 //! Runs the tests of a filter on a packet.
-ghost use Rattle.std.specs.Prelude.{◌≡◌, ◌≤◌, ◌==◌, ◌||◌, ◌∷◌, [], length, true, false, if◌then◌else◌};
+ghost use Rattle.std.specs.Prelude.{◌≡◌, ◌≤◌, ◌==◌, ◌||◌, ◌∷◌, [], length, true, if◌then◌else◌};
 ghost use Rattle.ip_dissect.specs.Dissection.{dissected};
 ghost use Rattle.ip_dissect.specs.End.{has_error};
 ghost use Rattle.ip_filter.specs.Flags.{AreKnown};
+ghost use Rattle.ip_filter.specs.OptionTypes.{AreTypesOf};
 ghost use Rattle.ip_filter.specs.Reached.{IsLedTo, IsReached};
-ghost use Rattle.ip_filter.specs.Tests.{meets, frame_meets};
+ghost use Rattle.ip_filter.specs.Tests.{meets};
 ghost use Rattle.ip_filter.specs.Program.{tests_of, passes};
-ghost use Rattle.ip_filter.specs.Frames.{frame_of};
 
 use crate::facts::Facts;
 use crate::flags::Flags;
+use crate::meets::kind;
+use crate::option_types::OptionTypes;
 use crate::plain::run_plain;
 use crate::{Filter, Test};
 use ip_dissect::{Packet, PacketStart, PacketVisitor, Visited};
@@ -26,13 +28,6 @@ impl Filter {
         run_on(self.used_tests(), bytes)
     }
 
-    /// Returns whether a frame passes that is not IP: it meets no test.
-    pub fn matches_other(&self) -> bool
-        ensures { result ≡ passes (tests_of self.now) (λ x. false) }
-    {
-        run(self.used_tests(), None)
-    }
-
     /// Returns the tests that are used, at most 64.
     #[inline(always)]
     pub fn used_tests(&self) -> &[Test]
@@ -43,12 +38,12 @@ impl Filter {
     }
 }
 
-/// How far early tests lead a packet.
+/// How far tests lead a packet.
 #[derive(Clone, Copy)]
 pub(crate) enum Reached {
     /// Past all tests: whether it passes.
     End(bool),
-    /// To the test with this index, which is not an early one.
+    /// To the test with this index, which needs to know more of the packet.
     Next(usize),
 }
 
@@ -93,28 +88,63 @@ fn run_all(tests: &[Test], bytes: &[u8]) -> bool
     }
 }
 
-/// Returns whether a packet passes that has these flags. Early tests come first: they need no part of the packet to be
-/// stored.
+/// Runs tests that the base header decides on a packet, up to the first test that is not one.
 #[inline(always)]
-fn run_on_packet(tests: &[Test], packet: Packet<'_>, flags: Flags) -> bool
+fn run_by_base(tests: &[Test], start: &PacketStart<'_>) -> Reached
     requires few { length tests.now ≤ 64 }
+    ensures { IsReached tests.now (λ x. meets x (dissected start.now.bytes.now)) result }
+{
+    let mut next = 0;
+    'tests: while next < tests.len() {
+        let test = &tests[next];
+        let Some(after) = test.index_by_base(start) else {
+            return Reached::Next(next);
+        };
+        if after <= next {
+            return Reached::End(false);
+        }
+        next = after;
+    }
+    Reached::End(next == PASSED)
+}
+
+/// Walks a packet that the tests led to the one with the index `first`, and returns whether it passes.
+#[inline(always)]
+fn walk_from(tests: &[Test], first: usize, start: PacketStart<'_>) -> bool
+    requires few { length tests.now ≤ 64 }
+    requires led { IsLedTo tests.now (λ x. meets x (dissected start.bytes.now)) first }
+    ensures { result ≡ passes tests.now (λ x. meets x (dissected start.entry.bytes.now)) }
+{
+    let mut flags = Flags::none();
+    let packet = start.walk(&mut flags);
+    let flags = flags.of(&packet);
+    run_on_packet(tests, first, packet, flags)
+}
+
+/// Returns whether a packet passes that has these flags, and which the tests led to the one with the index `first`. Early
+/// tests come first: they need no part of the packet to be stored.
+#[inline(always)]
+fn run_on_packet(tests: &[Test], first: usize, packet: Packet<'_>, flags: Flags) -> bool
+    requires few { length tests.now ≤ 64 }
+    requires led { IsLedTo tests.now (λ x. meets x (dissected packet.bytes.now)) first }
     requires flags { AreKnown (dissected packet.bytes.now) flags }
     ensures { result ≡ passes tests.now (λ x. meets x (dissected packet.entry.bytes.now)) }
 {
-    match run_early(tests, &packet, flags) {
+    match run_early(tests, first, &packet, flags) {
         Reached::End(passed) => passed,
         Reached::Next(next) => run_stored(tests, next, &Facts { packet, flags }),
     }
 }
 
-/// Runs early tests on a packet, up to the first test that is not one.
+/// Runs early tests on a packet, from the one with the index `first` up to the first test that is not one.
 #[inline(always)]
-fn run_early(tests: &[Test], packet: &Packet<'_>, flags: Flags) -> Reached
+fn run_early(tests: &[Test], first: usize, packet: &Packet<'_>, flags: Flags) -> Reached
     requires few { length tests.now ≤ 64 }
+    requires led { IsLedTo tests.now (λ x. meets x (dissected packet.now.bytes.now)) first }
     requires flags { AreKnown (dissected packet.now.bytes.now) flags }
     ensures { IsReached tests.now (λ x. meets x (dissected packet.now.bytes.now)) result }
 {
-    let mut next = 0;
+    let mut next = first;
     'tests: while next < tests.len() {
         let test = &tests[next];
         let Some(after) = test.index_early(packet, flags) else {
@@ -190,10 +220,10 @@ impl<'a> PacketVisitor<'a> for Tester<'_> {
 
     #[inline(always)]
     fn visit_slow(&mut self, start: PacketStart<'a>) -> bool {
-        let mut flags = Flags::none();
-        let packet = start.walk(&mut flags);
-        let flags = flags.of(&packet);
-        run_on_packet(self.tests, packet, flags)
+        match run_by_base(self.tests, &start) {
+            Reached::End(passed) => passed,
+            Reached::Next(next) => walk_from(self.tests, next, start),
+        }
     }
 }
 
@@ -204,29 +234,13 @@ fn run_stored(tests: &[Test], first: usize, facts: &Facts<'_>) -> bool
     requires led { IsLedTo tests.now (λ x. meets x (dissected facts.now.packet.bytes.now)) first }
     ensures { result ≡ passes tests.now (λ x. meets x (dissected facts.now.packet.bytes.now)) }
 {
-    run_from(tests, first, Some(facts))
-}
-
-/// Returns whether the packet passes the tests. Without a packet none is met.
-#[inline(always)]
-fn run(tests: &[Test], packet: Option<&Facts<'_>>) -> bool
-    requires { length tests.now ≤ 64 }
-    ensures { result ≡ passes tests.now (frame_meets (frame_of packet.entry)) }
-{
-    run_from(tests, 0, packet)
-}
-
-/// Returns whether the packet passes the tests, which led it to the one with the index `first`. Without a packet none is
-/// met.
-#[inline(always)]
-fn run_from(tests: &[Test], first: usize, packet: Option<&Facts<'_>>) -> bool
-    requires few { length tests.now ≤ 64 }
-    requires led { IsLedTo tests.now (frame_meets (frame_of packet)) first }
-    ensures { result ≡ passes tests.now (frame_meets (frame_of packet.entry)) }
-{
     let mut next = first;
     'tests: while next < tests.len() {
-        let after = index_after(&tests[next], packet);
+        let test = &tests[next];
+        if test.kind == kind::OPTION {
+            return run_with_options(tests, next, facts);
+        }
+        let after = test.next_index(test.is_met(facts));
         if after <= next {
             return false;
         }
@@ -235,22 +249,38 @@ fn run_from(tests: &[Test], first: usize, packet: Option<&Facts<'_>>) -> bool
     next == PASSED
 }
 
-/// Returns the index of the test to which this one leads the packet.
-#[inline(always)]
-fn index_after(test: &Test, packet: Option<&Facts<'_>>) -> usize
-    ensures { result ≡ (if frame_meets (frame_of packet.entry) test.now then test.now.if_met
-        else test.now.if_not) }
+/// Returns whether a packet passes whose parts are stored, and which the tests led to the one with the index `first`. Its
+/// options are walked once, for all tests that follow.
+#[inline(never)]
+fn run_with_options(tests: &[Test], first: usize, facts: &Facts<'_>) -> bool
+    requires few { length tests.now ≤ 64 }
+    requires led { IsLedTo tests.now (λ x. meets x (dissected facts.now.packet.bytes.now)) first }
+    ensures { result ≡ passes tests.now (λ x. meets x (dissected facts.now.packet.bytes.now)) }
 {
-    test.next_index(meets(test, packet))
+    let types = facts.option_types();
+    let mut next = first;
+    'tests: while next < tests.len() {
+        let test = &tests[next];
+        let after = test.next_index(test.is_met_with(facts, &types));
+        if after <= next {
+            return false;
+        }
+        next = after;
+    }
+    next == PASSED
 }
 
-/// Returns whether the packet meets the test.
-#[inline(always)]
-fn meets(test: &Test, packet: Option<&Facts<'_>>) -> bool
-    ensures { result ≡ frame_meets (frame_of packet.entry) test.now }
-{
-    match packet {
-        Some(packet) => test.is_met(packet),
-        None => false,
+impl Test {
+    /// Returns whether a packet meets the test whose options have these types.
+    #[inline(never)]
+    fn is_met_with(&self, facts: &Facts<'_>, types: &OptionTypes) -> bool
+        requires { AreTypesOf (dissected facts.now.packet.bytes.now).headers types.now }
+        ensures { result ≡ meets self.now (dissected facts.now.packet.bytes.now) }
+    {
+        if self.kind == kind::OPTION {
+            types.has(self.number)
+        } else {
+            self.is_met(facts)
+        }
     }
 }

@@ -28,7 +28,8 @@ pub enum Quantity {
     ChainBytes,
     /// The number of payload bytes that are present.
     Payload,
-    /// The packet's length in bytes by its base header. A packet that states none, as a jumbogram, has none.
+    /// The packet's length in bytes by its base header. If that states none, as in a jumbogram, the number of bytes that are
+    /// there.
     Length,
     /// The hop limit, or the time to live of an IPv4 packet (RFC 8200, section 3; RFC 791, section 3.1).
     HopLimit,
@@ -130,8 +131,13 @@ pub enum Term {
     DestinationPort(Ports),
     /// The source or the destination port is one of these.
     Port(Ports),
-    /// The payload should begin with ports, but is too short for both.
+    /// The payload should begin with a header of TCP, UDP, UDP-Lite, SCTP, DCCP, or of IPv4's ICMP or IPv6's ICMPv6, but not all
+    /// of it is there (RFC 7112, section 5). The data offset of TCP and of DCCP says how long theirs is; one that is too small
+    /// counts as no header.
     NoTransport,
+    /// The base header states the length 0, although bytes follow it: the payload length of IPv6 (RFC 8200, section 3), or the
+    /// total length of IPv4 (RFC 791, section 3.1). A jumbo payload option (RFC 2675) is not asked.
+    NoLength,
     /// The number of ICMP, 1, follows the headers of an IPv4 packet (RFC 792), whether or not there is an error.
     Icmp,
     /// The number of ICMPv6, 58, follows the headers of an IPv6 packet (RFC 4443, section 1), whether or not there is an error.

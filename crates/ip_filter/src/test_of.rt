@@ -61,6 +61,7 @@ impl Test {
             Term::DestinationPort(ports) => Test::of_ports(kind::DESTINATION_PORT, ports),
             Term::Port(ports) => Test::of_ports(kind::PORT, ports),
             Term::NoTransport => Test::of_number(kind::NO_TRANSPORT, 0),
+            Term::NoLength => Test::of_number(kind::NO_LENGTH, 0),
             Term::Icmp => Test::of_version_leading_to(4, protocol::ICMP),
             Term::Icmp6 => Test::of_version_leading_to(6, protocol::ICMP6),
             Term::IcmpType(number) => Test::of_number(kind::ICMP_TYPE, u64::from(number)),

@@ -1,7 +1,7 @@
 //! Ports, the types of ICMP and the index of ESP: what the payload begins with.
 ghost use Rattle.std.specs.Prelude.{◌≡◌, ◌≤◌, ◌+◌};
 ghost use Rattle.ip_dissect.specs.Dissection.{DissectedParts, dissected};
-ghost use Rattle.ip_filter.specs.Transport.{is_at_payload, transport_of, has_ports, port_at, transport_byte, icmp_byte, icmp6_byte, esp_spi, tcp_flags, lacks_ports};
+ghost use Rattle.ip_filter.specs.Transport.{is_at_payload, transport_of, has_ports, port_at, transport_byte, icmp_byte, icmp6_byte, esp_spi, tcp_flags, words_len, tcp_len, dccp_len, upper_layer_len, lacks_upper_layer, lacks_transport};
 
 use crate::facts::Facts;
 
@@ -36,8 +36,17 @@ pub(crate) const ICMP_TYPE: usize = 0;
 /// The offset of the code of an ICMP message.
 pub(crate) const ICMP_CODE: usize = 1;
 
+/// The offset of the data offset in a TCP header: its high half.
+const TCP_DATA_OFFSET: usize = 12;
+
 /// The offset of the flags in a TCP header.
 const TCP_FLAGS: usize = 13;
+
+/// The offset of the data offset in a DCCP header.
+const DCCP_DATA_OFFSET: usize = 4;
+
+/// The offset of the extended sequence number bit in a DCCP header: the lowest bit.
+const DCCP_EXTENDED: usize = 8;
 
 impl<'a> Facts<'a> {
     /// Returns the port at an offset from the start of the payload, if the payload begins with ports and this one is there.
@@ -56,14 +65,14 @@ impl<'a> Facts<'a> {
         Some(u16::from_be_bytes([transport[offset], transport[offset + 1]]))
     }
 
-    /// Returns whether the payload should begin with ports, but is too short for both.
+    /// Returns whether the payload should begin with an upper layer's header, but is too short for it.
     #[inline(always)]
-    pub(crate) fn lacks_ports(&self) -> bool
-        ensures { result ≡ lacks_ports (dissected self.now.packet.bytes.now) }
+    pub(crate) fn lacks_transport(&self) -> bool
+        ensures { result ≡ lacks_transport (dissected self.now.packet.bytes.now) }
     {
-        has_ports(self.packet.outline.next_header.0)
-            && self.is_at_payload()
-            && self.packet.outline.payload_len < 4
+        let outline = &self.packet.outline;
+        self.is_at_payload()
+            && lacks_upper_layer(outline.version, outline.next_header.0, self.transport())
     }
 
     /// Returns the byte at an offset from the start of an ICMP message, if the payload of an IPv4 packet is one and the byte
@@ -150,6 +159,66 @@ pub(crate) fn tcp_flags(number: u8, transport: &[u8]) -> Option<u8>
     } else {
         None
     }
+}
+
+/// Returns whether the payload is too short for the upper layer's header that begins it. Not inlined, as the flags of TCP.
+#[inline(never)]
+fn lacks_upper_layer(version: u8, number: u8, payload: &[u8]) -> bool
+    ensures { result ≡ lacks_upper_layer version number payload.now }
+{
+    match upper_layer_len(version, number, payload) {
+        Some(len) => payload.len() < len,
+        None => true,
+    }
+}
+
+/// Returns how long the upper layer's header is that begins the payload, or `None` if that isn't known: the byte that states
+/// it isn't there, or states too little. Returns 0 for a protocol of which nothing is asked.
+fn upper_layer_len(version: u8, number: u8, payload: &[u8]) -> Option<usize>
+    ensures { result ≡ upper_layer_len version number payload.now }
+{
+    match number {
+        protocol::TCP => tcp_len(payload),
+        protocol::DCCP => dccp_len(payload),
+        protocol::UDP | protocol::UDP_LITE => Some(8),
+        protocol::SCTP => Some(12),
+        protocol::ICMP => Some(if version == 4 { 8 } else { 0 }),
+        protocol::ICMP6 => Some(if version == 6 { 4 } else { 0 }),
+        _ => Some(0),
+    }
+}
+
+/// Returns the length of a TCP header by its data offset (RFC 9293, section 3.1).
+fn tcp_len(header: &[u8]) -> Option<usize>
+    ensures { result ≡ tcp_len header.now }
+{
+    if header.len() <= TCP_DATA_OFFSET {
+        return None;
+    }
+    words_len(20, header[TCP_DATA_OFFSET] / 16)
+}
+
+/// Returns the length of a DCCP header by its data offset (RFC 4340, section 5.1).
+fn dccp_len(header: &[u8]) -> Option<usize>
+    ensures { result ≡ dccp_len header.now }
+{
+    if header.len() <= DCCP_EXTENDED {
+        return None;
+    }
+    let fixed = if header[DCCP_EXTENDED] % 2 == 1 {
+        16
+    } else {
+        12
+    };
+    words_len(fixed, header[DCCP_DATA_OFFSET])
+}
+
+/// Returns the length of a header in bytes from its length in words of 32 bits, if it has room for its fixed part.
+fn words_len(fixed: usize, words: u8) -> Option<usize>
+    ensures { result ≡ words_len fixed words }
+{
+    let len = 4 * usize::from(words);
+    if fixed <= len { Some(len) } else { None }
 }
 
 /// Returns whether the headers of a protocol begin with ports.

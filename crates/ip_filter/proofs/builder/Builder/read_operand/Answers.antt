@@ -19,5 +19,5 @@ returns-in-Err-clause-err c = bad_term c.args.self.now c.args.word (search rules
 
 pub returns-in-Ok-clause-ok : goal.returns-in-Ok-clause-ok
 returns-in-Ok-clause-ok c =
-    term_read c.args.self.now c.args.word (search rules) (search rules) c.in-Some.keyword (search rules) c.push-in-Ok.new.to c.saturating_add-self-in-Ok.result c.in-Ok.term c.in-Ok.rest.now
-    c.end_operand.new.self (search rules) c.saturating_add-self-in-Ok.ensures c.push-in-Ok.ensures c.end_operand.ensures
+    term_read c.args.self.now c.args.word (search rules) (search rules) c.in-Some.keyword (search rules) c.add.new.self c.saturating_add-self-in-Ok.result c.in-Ok.term c.in-Ok.rest.now
+    c.end_operand.new.self (search rules) c.saturating_add-self-in-Ok.ensures c.add.ensures c.end_operand.ensures

@@ -6,7 +6,7 @@ pub returns-then-is_and-clause-ok : goal.returns-then-is_and-clause-ok
 returns-then-is_and-clause-ok c = and_read c.args.self.now c.args.word (search rules) c.if-self-ge-MAX_TERMS.false
 
 pub returns-then-is_or-clause-ok : goal.returns-then-is_or-clause-ok
-returns-then-is_or-clause-ok c = or_read c.args.self.now c.args.word c.push_or.new.to (search rules) c.if-self-ge-MAX_TERMS-2.false c.push_or.ensures.step c.push_or.ensures.none
+returns-then-is_or-clause-ok c = or_read c.args.self.now c.args.word c.join_or.new.to (search rules) c.if-self-ge-MAX_TERMS-2.false c.join_or.ensures
 
 pub returns-in-Some-clause-ok : goal.returns-in-Some-clause-ok
 returns-in-Some-clause-ok c = closed c.args.self.now c.args.word c.pop.new.self c.in-Some.outer c.close.new.self (search rules) c.in-Some.ensures.items c.close.ensures

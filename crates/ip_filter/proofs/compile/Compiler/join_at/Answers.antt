@@ -17,7 +17,7 @@ returns c = λ frame f g fs few are.
       | then-is_and w ↦ ap (λ (p : ℕ × ℕ). p.1) w.if_met-is ∙ ap (λ b. if b then 65 else j) (sym w.if-is_and.true)
       | else-is_and w ↦ ap (λ (p : ℕ × ℕ). p.1) w.if_met-is ∙ ap (λ b. if b then 65 else j) (sym w.if-is_and.false)
     ] in
-    let none = c.join_flags_at.ensures.none c.if-join_flags_at.false in
+    let none = c.join_early_at.ensures.none c.if-join_early_at.false in
     let same : c.redirect.new.self.starts.items ≡ c.args.self.now.starts.items = c.redirect.ensures.starts ∙ ap (λ x. x.starts.items) none in
     in_order frame c.args.is_and f g fs c.redirect.new.self.starts.items j xs (tests_of c.redirect.new.self.filter) few
     (λ rest i is before within. c.redirect.ensures.tests rest i (ap (λ x. x.starts.items) none ∙ sym same ∙ is) (subst (λ k. i ≤ k) (sym c.from-2.ensures) before)

@@ -3,7 +3,7 @@ use Rattle.ip_codes.specs.Codes.{layer_code}
 use Rattle.ip_dissect.specs.Dissection.{dissected}
 use Rattle.ip_filter.specs.Truth.{holds, is_in_layer}
 use Rattle.ip_filter.proofs.MaskLemmas.{by_flags, fragment_mask, first_mask, later_mask, truncated_mask, incomplete_mask, faults_mask}
-use Rattle.ip_filter.proofs.TestLemmas.{by_identification, by_layer, by_port, by_icmp_type, by_icmp_code, by_icmp6_type, by_icmp6_code, by_spi, by_version, by_segments_left}
+use Rattle.ip_filter.proofs.TestLemmas.{by_identification, by_layer, by_source_port, by_destination_port, by_port, by_icmp_type, by_icmp_code, by_icmp6_type, by_icmp6_code, by_spi, by_version, by_segments_left}
 use Rattle.ip_filter.proofs.filter.Test.of.Goals as goal
 
 pub returns-in-Fragment-clause-meets : goal.returns-in-Fragment-clause-meets
@@ -54,6 +54,16 @@ returns-in-SegmentsLeft-clause-meets c =
 pub returns-in-Identification-clause-meets : goal.returns-in-Identification-clause-meets
 returns-in-Identification-clause-meets c = λ s. by_identification c.of_number-in-Identification.result c.in-Identification.identification (dissected s) c.of_number-in-Identification.ensures.kind (search rules) ∙ ap (λ t. holds t (dissected s)) (sym c.in-Identification.is)
 
+pub returns-in-SourcePort-clause-meets : goal.returns-in-SourcePort-clause-meets
+returns-in-SourcePort-clause-meets c =
+    let is = c.of_ports.ensures in
+    λ s. by_source_port c.of_ports.result c.in-SourcePort.ports (dissected s) is.kind is.first is.last ∙ ap (λ t. holds t (dissected s)) (sym c.in-SourcePort.is)
+
+pub returns-in-DestinationPort-clause-meets : goal.returns-in-DestinationPort-clause-meets
+returns-in-DestinationPort-clause-meets c =
+    let is = c.of_ports-in-DestinationPort.ensures in
+    λ s. by_destination_port c.of_ports-in-DestinationPort.result c.in-DestinationPort.ports (dissected s) is.kind is.first is.last ∙ ap (λ t. holds t (dissected s)) (sym c.in-DestinationPort.is)
+
 pub returns-in-Port-clause-meets : goal.returns-in-Port-clause-meets
 returns-in-Port-clause-meets c =
     let is = c.of_ports-in-Port.ensures in
@@ -66,10 +76,10 @@ pub returns-in-TruncatedAt-clause-meets : goal.returns-in-TruncatedAt-clause-mee
 returns-in-TruncatedAt-clause-meets c =
     let is = c.of_layer.ensures in
     λ s. by_layer c.of_layer.result _ _ (dissected s) is.kind is.layer is.flags
-    ∙ ap (λ b. b && is_in_layer (layer_code c.in-TruncatedAt.layer) (dissected s).end) (truncated_mask s) ∙ ap (λ t. holds t (dissected s)) (sym c.in-TruncatedAt.is)
+    ∙ ap (λ b. b && is_in_layer (layer_code c.in-TruncatedAt.layer) (dissected s).version (dissected s).end) (truncated_mask s) ∙ ap (λ t. holds t (dissected s)) (sym c.in-TruncatedAt.is)
 
 pub returns-in-FaultAt-clause-meets : goal.returns-in-FaultAt-clause-meets
 returns-in-FaultAt-clause-meets c =
     let is = c.of_layer-in-FaultAt.ensures in
     λ s. by_layer c.of_layer-in-FaultAt.result _ _ (dissected s) is.kind is.layer is.flags
-    ∙ ap (λ b. b && is_in_layer (layer_code c.in-FaultAt.layer) (dissected s).end) (c.fault_mask-in-FaultAt.ensures s) ∙ ap (λ t. holds t (dissected s)) (sym c.in-FaultAt.is)
+    ∙ ap (λ b. b && is_in_layer (layer_code c.in-FaultAt.layer) (dissected s).version (dissected s).end) (c.fault_mask-in-FaultAt.ensures s) ∙ ap (λ t. holds t (dissected s)) (sym c.in-FaultAt.is)

@@ -1,0 +1,14 @@
+use Rattle.std.proofs.Common.{refl}
+use Rattle.ip_dissect.specs.Dissection.{dissected}
+use Rattle.ip_filter.specs.Tests.{meets}
+use Rattle.ip_filter.proofs.ProgramLemmas.{led_on, led_back}
+use Rattle.ip_filter.proofs.run.run_by_base.Goals as goal
+
+pub tests-init : goal.tests-init
+tests-init c = refl
+
+pub tests-preserved : goal.tests-preserved
+tests-preserved c = led_on (λ x. meets x (dissected c.args.start.now.bytes.now)) c.args.tests.now c.tests.next c.in-Some.after _ c.tests-test.true c.in-Some.ensures c.if-after-next.false c.tests.invariant
+
+pub returns-then-after-next : goal.returns-then-after-next
+returns-then-after-next c = led_back (λ x. meets x (dissected c.args.start.now.bytes.now)) c.args.tests.now c.tests.next c.in-Some.after _ c.tests-test.true c.in-Some.ensures c.if-after-next.true c.requires.few c.tests.invariant

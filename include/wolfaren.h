@@ -16,7 +16,8 @@
  *  - For extension headers without an IP header: wolfaren_parse_chain, or wolfaren_next_header for one after another.
  *  - For what is in an extension header: wolfaren_next_option, wolfaren_routing_fields and wolfaren_routing_address,
  *    wolfaren_fragment_fields, wolfaren_authentication_fields.
- *  - For fragments, which make packets whole: wolfaren_defragment and wolfaren_write_whole_packet.
+ *  - For fragments, which make packets whole: wolfaren_defragmenter_init, wolfaren_defragmenter_add and
+ *    wolfaren_defragmenter_packet.
  *  - For packets with other extension headers or another payload: wolfaren_without_number, wolfaren_without_index,
  *    wolfaren_with_header (at any index, such as wolfaren_recommended_index), wolfaren_with_payload, wolfaren_cleared and
  *    wolfaren_in_order.
@@ -40,9 +41,9 @@
  * The library needs memcpy, memmove and memset, and nothing else. It is compiled for x86-64-v2 (SSE4.2) and the System
  * V calling convention; wolfaren_cpu_is_supported returns whether a processor has these instructions. It uses SSE
  * registers, the red zone below the stack pointer, and less than 1 KB of stack, except for wolfaren_parse_filter, which
- * uses 73 KB. A kernel must therefore save the SSE registers around calls, and must not take an interrupt on the same
- * stack. For ARM64 it is compiled for ARMv8-A, the AAPCS64 calling convention and little-endian data, and may use vector
- * registers.
+ * uses less than 8 KB. A kernel must therefore save the SSE registers around calls, and must not take an interrupt on the
+ * same stack. For ARM64 it is compiled for ARMv8-A, the AAPCS64 calling convention and little-endian data, and may use
+ * vector registers.
  */
 #ifndef WOLFAREN_H
 #define WOLFAREN_H
@@ -59,10 +60,10 @@
 #define WOLFAREN_VERSION (10000 * WOLFAREN_VERSION_MAJOR + 100 * WOLFAREN_VERSION_MINOR + WOLFAREN_VERSION_PATCH)
 
 /* A checksum of the structs, numbers and calls in this header, made by scripts/abi of the repository. */
-#define WOLFAREN_ABI 0xf8005f5du
+#define WOLFAREN_ABI 0xd6dd6c91u
 
 /* The symbol that is named after the checksum. */
-#define WOLFAREN_ABI_SYMBOL wolfaren_abi_f8005f5d
+#define WOLFAREN_ABI_SYMBOL wolfaren_abi_d6dd6c91
 
 /* The machines for which the library is built. */
 #if !defined(__ELF__) && !defined(__linux__)
@@ -272,9 +273,11 @@ enum {
     WOLFAREN_AT_PAYLOAD = 0,
     /* The payload follows them, but continues that of an earlier fragment: the fragment offset isn't 0. */
     WOLFAREN_AT_LATER_FRAGMENT = 1,
-    /* A header is incomplete, but lies within the stated length, or no length is stated. `fault` says which. */
+    /* A header is incomplete, but lies within the stated length, or no length is stated. `fault` says which, and how many
+     * bytes it needs: those that its length field states or, if that isn't there either, the least that it can have. */
     WOLFAREN_AT_TRUNCATED_HEADER = 2,
-    /* A header doesn't fit within the stated length, or is malformed. `fault` says how. */
+    /* A header doesn't fit within the stated length, or is malformed. `fault` says how. A header whose length field is there
+     * is a fault or not whether or not the rest of it is there. */
     WOLFAREN_AT_FAULT = 3
 };
 
@@ -284,7 +287,7 @@ enum {
  */
 struct wolfaren_dissection {
     size_t base_len;             /* length of the IP header in bytes; 0 if there is none */
-    size_t stated_len;           /* length of the packet in bytes as the IP header states it; 0 if it states none */
+    size_t stated_len;           /* length of the packet in bytes as the IP header states it; 0 if it states none: see below */
     size_t headers;              /* number of extension headers */
     size_t payload_offset;       /* where the payload begins, in bytes from the start of the packet */
     size_t payload_len;          /* number of payload bytes that are present */
@@ -305,7 +308,9 @@ struct wolfaren_dissection {
  *
  * The packet ends where its total length (IPv4) or payload length (IPv6) says. If that field is 0, no length is stated,
  * as in a jumbogram (RFC 2675) or a packet captured before segmentation offload, and the packet extends to the end of
- * the bytes. The headers are the longest chain within the packet in which nothing follows a fragment header with a
+ * the bytes. A host may read such a packet otherwise: an IPv6 packet with the payload length 0 and no jumbo payload option is
+ * empty (RFC 8200, section 3). Who decides by what is in the payload tests `stated_len` first, as the filter `not no-length`
+ * does. The headers are the longest chain within the packet in which nothing follows a fragment header with a
  * non-zero offset, and there are none after an IPv4 header with a non-zero offset: what follows there is the middle of
  * a payload, which the sender chooses.
  *
@@ -451,8 +456,9 @@ struct wolfaren_packet {
 
 /*
  * Parses the IP packet at the start of the `len` bytes. The packet ends where its total length (IPv4) or payload length
- * (IPv6) says. An IPv6 packet with payload length 0 extends to the end of the bytes, as a jumbogram does (RFC 2675).
- * The packet and its extension headers must be complete.
+ * (IPv6) says. An IPv6 packet with payload length 0 states no length and extends to the end of the bytes, as a jumbogram
+ * does (RFC 2675): before you trust its payload, test `packet->len_source`, which is then WOLFAREN_SLICE. The packet and its
+ * extension headers must be complete.
  *
  * On success, returns true, fills in `packet`, and stores the headers' positions in `headers` as wolfaren_parse_chain
  * does, but with offsets from the start of the packet; `fault` is left unchanged. On error, returns false and stores
@@ -468,10 +474,10 @@ bool wolfaren_parse_packet(const uint8_t *bytes, size_t len, struct wolfaren_hea
                            struct wolfaren_packet *packet, struct wolfaren_fault *fault) WOLFAREN_NONNULL(5, 6);
 
 /*
- * Parses an IP packet like wolfaren_parse_packet, but accepts an IPv6 packet that is truncated, as in a capture. If
- * there are fewer bytes than its payload length states, the packet extends to the end of the bytes and
- * `packet->len_source` is WOLFAREN_SLICE. Its extension headers must still be complete, and an IPv4 packet must be
- * complete.
+ * Parses an IP packet like wolfaren_parse_packet, but accepts an IPv6 packet whose payload is truncated. It isn't the call for
+ * packets that a snap length truncated, since it rejects those of IPv4: wolfaren_dissect is. If there are fewer bytes than
+ * the payload length states, the packet extends to the end of the bytes and `packet->len_source` is WOLFAREN_SLICE. Its
+ * extension headers must still be complete, and an IPv4 packet must be complete.
  */
 WOLFAREN_USE_RESULT
 bool wolfaren_parse_packet_lax(const uint8_t *bytes, size_t len, struct wolfaren_header *headers, size_t room,
@@ -493,7 +499,8 @@ struct wolfaren_payload {
  * wolfaren_parse_packet, and checks each extension header, but neither counts the headers nor reports their positions.
  * That makes it faster. What wolfaren_parse_packet says of fragments applies here too: a filter must not rely on
  * `payload->number` if `payload->fragmented` is 1. wolfaren_dissect is the call for filters: it says which fragment a
- * packet is, and stops at the payload of a later one.
+ * packet is, and stops at the payload of a later one. The payload of a packet that states no length is all bytes after its
+ * headers: before you trust it, test `payload->len_source`, which is then WOLFAREN_SLICE.
  *
  * On success, returns true and fills in `payload`; `fault` is left unchanged. On error, returns false and stores the
  * error in `fault`; `payload` is left unchanged.
@@ -510,7 +517,7 @@ bool wolfaren_find_payload_lax(const uint8_t *bytes, size_t len, struct wolfaren
 /* The fields of a fragment header (RFC 8200, section 4.5). */
 struct wolfaren_fragment {
     uint32_t identification;  /* shared by all fragments of a packet */
-    uint16_t fragment_offset; /* where the fragment lies in the payload, in units of 8 bytes */
+    uint32_t fragment_offset; /* where the fragment lies in the payload, in bytes */
     uint8_t more_fragments;   /* 1 if more fragments follow, 0 if this is the last */
     uint8_t next_header;      /* the protocol number of what follows the header */
 };
@@ -639,10 +646,10 @@ WOLFAREN_USE_RESULT
 bool wolfaren_write_headers(const uint8_t *bytes, size_t len, const struct wolfaren_header *headers, size_t count,
                             uint8_t *out, size_t room, size_t *written) WOLFAREN_NONNULL(7);
 
-/* A buffer size, in bytes, that is large enough for any packet of wolfaren_write_whole_packet. */
+/* A buffer size, in bytes, that is large enough for any packet of wolfaren_defragmenter_packet. */
 #define WOLFAREN_WHOLE_PACKET_ROOM 65575
 
-/* What became of a packet that wolfaren_defragment got. */
+/* What became of a packet that wolfaren_defragmenter_add got. */
 enum wolfaren_outcome {
     WOLFAREN_NOT_FRAGMENT = 0,     /* no fragment, or an atomic one, which is a packet by itself (RFC 6946) */
     WOLFAREN_MORE_WANTED = 1,      /* fragments of its packet are missing */
@@ -664,7 +671,7 @@ enum wolfaren_outcome {
 enum wolfaren_loss {
     WOLFAREN_NO_LOSS = 0,
     WOLFAREN_TIMED_OUT = 1, /* one that wasn't whole in time after its first fragment (RFC 8200, section 4.5) */
-    WOLFAREN_DISPLACED = 2  /* the oldest one of those that share slots with the other one */
+    WOLFAREN_DISPLACED = 2  /* the one that had its slot longest, since all slots were in use */
 };
 
 /* A slot: that of a packet which isn't whole yet, or free. It is free if all its bytes are 0. The library reads and writes
@@ -694,7 +701,7 @@ struct wolfaren_reassembly {
 /*
  * The fragments of one packet. There are none if all its bytes are 0. The library reads and writes the fields. It touches
  * `marks`, `head` and `payload` only as far as the packet needs them: memory that the system fills with zeros, by calloc or
- * mmap, is used page by page as packets need it.
+ * mmap, is used page by page as packets need it. A packet of two fragments of 1,500 bytes needs two pages of 4,096 bytes.
  */
 struct wolfaren_packet_memory {
     struct wolfaren_reassembly reassembly;
@@ -706,10 +713,11 @@ struct wolfaren_packet_memory {
     uint8_t short_head[64]; /* the first fragment's headers, if they are that short */
     uint8_t payload[65536]; /* the payload */
     uint8_t head[4096];     /* longer headers of the first fragment */
+    uint8_t unused[912];    /* what is missing to a multiple of 1,024 bytes */
 };
 
-/* Counts of packets that wolfaren_defragment got. Each stops at UINT64_MAX. Set all to 0 at first. */
-struct wolfaren_defragmenter_counts {
+/* Counts of packets that wolfaren_defragmenter_add got. Each stops at UINT64_MAX. */
+struct wolfaren_fragment_counts {
     uint64_t outcomes[14]; /* packets by outcome: the index is an enum wolfaren_outcome */
     uint64_t losses[3];    /* packets by which one was given up for them: the index is an enum wolfaren_loss */
 };
@@ -718,10 +726,10 @@ struct wolfaren_defragmenter_counts {
  * section 3.3.2; RFC 8200, section 4.5). */
 #define WOLFAREN_DEFAULT_TIMEOUT UINT64_C(60000000000)
 
-/* How wolfaren_defragment gives packets slots, and when they are given up: the same at each call. */
+/* How packets are found, and when they are given up: a part of struct wolfaren_defragmenter. */
 struct wolfaren_defragmenter_settings {
-    uint64_t seed[2]; /* the key of the hash that selects slots: random numbers that senders don't know */
-    uint64_t timeout; /* after how many nanoseconds a packet that isn't whole is given up */
+    uint64_t seed[2]; /* the key of the hash by which slots are found (SipHash-1-3); it stays the same */
+    uint64_t timeout; /* after how many nanoseconds a packet that isn't whole is given up; set it at any time */
 };
 
 /* What became of a packet. */
@@ -731,15 +739,64 @@ struct wolfaren_added {
     uint8_t loss;    /* an enum wolfaren_loss */
 };
 
+/* Lists through the numbers of slots: a part of struct wolfaren_defragmenter. */
+struct wolfaren_links {
+    uint32_t *next;        /* the one after each */
+    size_t next_count;     /* number of elements */
+    uint32_t *previous;    /* the one before each */
+    size_t previous_count; /* number of elements */
+};
+
+/*
+ * A defragmenter, at the start of the memory that wolfaren_defragmenter_init got. The caller may read all of it, and write
+ * `settings.timeout`. The memory can't be moved.
+ */
+struct wolfaren_defragmenter {
+    struct wolfaren_slot *slots;             /* the slots */
+    size_t slot_count;                       /* how many packets may be incomplete at once */
+    uint32_t places;                         /* the same number */
+    struct wolfaren_links ages;              /* the free slots, and those in use by age */
+    struct wolfaren_links chains;            /* the slots in use by hash */
+    struct wolfaren_packet_memory *memories; /* the memory of each slot */
+    size_t memory_count;                     /* the same number */
+    struct wolfaren_fragment_counts *counts; /* what became of its packets */
+    struct wolfaren_defragmenter_settings settings;
+};
+
+/*
+ * Returns how many bytes of memory a defragmenter for so many incomplete packets at once needs: some 73 KB for each. Returns
+ * SIZE_MAX for more than some 2^31, or if that many bytes can't be counted.
+ */
+WOLFAREN_USE_RESULT
+size_t wolfaren_defragmenter_size(size_t slots);
+
+/*
+ * Makes a defragmenter in `size` bytes of memory, with as many slots as wolfaren_defragmenter_size has room for. The memory must
+ * be zeros, as by calloc or mmap, and is the defragmenter's until the caller frees it. `seed` should be two random numbers that
+ * senders don't know. Packets are given up after WOLFAREN_DEFAULT_TIMEOUT.
+ *
+ * Writes some 80 bytes for each slot. The other pages stay untouched until packets need them.
+ *
+ * Returns NULL, and writes nothing, if the memory isn't aligned to 8 bytes, or less than wolfaren_defragmenter_size(0).
+ */
+WOLFAREN_USE_RESULT
+struct wolfaren_defragmenter *wolfaren_defragmenter_init(void *memory, size_t size, const uint64_t seed[2])
+    WOLFAREN_NONNULL(1, 3);
+
+/*
+ * Frees all slots, and sets the counts to 0. The settings stay. Returns true for a defragmenter that
+ * wolfaren_defragmenter_init made. Otherwise, if its arrays have no room for the slots, changes nothing and returns false.
+ */
+bool wolfaren_defragmenter_clear(struct wolfaren_defragmenter *defragmenter) WOLFAREN_NONNULL(1);
+
 /*
  * Adds the packet at the start of the `len` bytes, which arrived at `time`, in nanoseconds since any moment. Stores what
  * became of it in `*added`, and counts it.
  *
- * A fragment goes to its packet's slot and the memory with the slot's index (RFC 791, section 3.2; RFC 8200, section 4.5).
- * A packet's key is its addresses and identification, in IPv4 also its protocol, and `context`: a number of the caller's for
- * where the packet arrived, such as an interface and a VLAN. Fragments may arrive in any order, and repeated. If the outcome
- * is WOLFAREN_WHOLE, wolfaren_write_whole_packet writes the packet of `memories[added->slot]`, until another packet is stored
- * there; the slot is free again.
+ * A fragment goes to its packet's slot (RFC 791, section 3.2; RFC 8200, section 4.5). A packet's key is its addresses and
+ * identification, in IPv4 also its protocol, and `context`: a number of the caller's for where the packet arrived, such as an
+ * interface and a VLAN. Fragments may arrive in any order, and repeated. If the outcome is WOLFAREN_WHOLE,
+ * wolfaren_defragmenter_packet writes the packet of `added->slot`, until another packet is stored there; the slot is free again.
  *
  * With WOLFAREN_MORE_WANTED, WOLFAREN_OVERLAP, WOLFAREN_TWO_ENDS, WOLFAREN_ABANDONED and WOLFAREN_MIXED_ECN, `added->slot` is
  * the slot of the fragment's packet. WOLFAREN_TOO_LONG has a slot only if the fragment is refused because of the others. The
@@ -749,39 +806,37 @@ struct wolfaren_added {
  * the packet is dropped (RFC 3168, section 5.3).
  *
  * A packet that isn't whole at the timeout after its first fragment is given up when its next fragment arrives, when another
- * packet needs its slot, or by wolfaren_give_up. Of more than 8 slots, 8 are for packets with the same hash (SipHash-1-3, with
- * the key `settings->seed`). If all of them are in use, the packet whose first fragment is the oldest is given up. A time in
- * the future counts as one that is as far in the past, since times aren't always in order.
- *
- * Returns false, and changes nothing, if there aren't as many memories as slots. A memory has 71,792 bytes. The memories
- * may lie in fresh pages of zeros; a page is used when the first packet needs it.
+ * packet needs its slot, or by wolfaren_defragmenter_give_up. A time in the future counts as one that is as far in the past,
+ * since times aren't always in order. Another packet is given up only if all slots are in use: the one that has had its slot
+ * longest. The packet that was given up was in the slot `added->slot`.
  */
-WOLFAREN_USE_RESULT
-bool wolfaren_defragment(struct wolfaren_slot *slots, size_t slot_count, struct wolfaren_packet_memory *memories,
-                         size_t memory_count, struct wolfaren_defragmenter_counts *counts,
-                         const struct wolfaren_defragmenter_settings *settings, const uint8_t *bytes, size_t len,
-                         uint32_t context, uint64_t time, struct wolfaren_added *added) WOLFAREN_NONNULL(5, 6, 11);
+void wolfaren_defragmenter_add(struct wolfaren_defragmenter *defragmenter, uint32_t context, const uint8_t *bytes, size_t len,
+                               uint64_t time, struct wolfaren_added *added) WOLFAREN_NONNULL(1, 6);
 
 /*
- * Gives up the packet of a slot if it isn't whole more than `timeout` nanoseconds after its first fragment, as of `time`. If so,
- * counts it as WOLFAREN_TIMED_OUT in `counts->losses`, frees the slot, and returns true. Otherwise changes nothing and returns
- * false.
- */
-bool wolfaren_give_up(struct wolfaren_slot *slot, struct wolfaren_defragmenter_counts *counts, uint64_t timeout,
-                      uint64_t time) WOLFAREN_NONNULL(1, 2);
-
-/*
- * Writes the whole packet of a memory to the start of `out`, which has `room` bytes: the headers of the first fragment up to
- * the fragment header, with the number of what follows it and the length of the whole packet, and the payload. In IPv4 the
- * more fragments flag is cleared, and the header's checksum computed.
+ * Writes the whole packet of a slot to the start of `out`, which has `room` bytes: the headers of the first fragment up to the
+ * fragment header, with the number of what follows it and the length of the whole packet, and the payload. In IPv4 the more
+ * fragments flag is cleared, and the header's checksum computed.
  *
  * On success, returns true and stores the number of bytes written in `*written`. Otherwise writes nothing to `out`, stores 0
- * in `*written` and returns false: the packet isn't whole, or `room` is less than its length. If `room` is
- * WOLFAREN_WHOLE_PACKET_ROOM, it is enough.
+ * in `*written` and returns false: there is no such slot, its packet isn't whole, or `room` is less than its length. If `room`
+ * is WOLFAREN_WHOLE_PACKET_ROOM, it is enough.
  */
 WOLFAREN_USE_RESULT
-bool wolfaren_write_whole_packet(const struct wolfaren_packet_memory *memory, uint8_t *out, size_t room, size_t *written)
-    WOLFAREN_NONNULL(1, 4);
+bool wolfaren_defragmenter_packet(const struct wolfaren_defragmenter *defragmenter, size_t slot, uint8_t *out, size_t room,
+                                  size_t *written) WOLFAREN_NONNULL(1, 5);
+
+/*
+ * Gives up the packet of a slot if it isn't whole after the timeout, as of `time`. If so, counts it as WOLFAREN_TIMED_OUT in
+ * the losses, frees the slot, and returns true. Otherwise, or if there is no such slot, changes nothing and returns false.
+ */
+bool wolfaren_defragmenter_give_up(struct wolfaren_defragmenter *defragmenter, size_t slot, uint64_t time) WOLFAREN_NONNULL(1);
+
+/* Returns the counts of a defragmenter. */
+static inline const struct wolfaren_fragment_counts *wolfaren_defragmenter_counts(const struct wolfaren_defragmenter *from)
+{
+    return from->counts;
+}
 
 /* Why a packet wasn't rewritten: values of `refusal` in struct wolfaren_rewritten. The first in this list that applies is
  * stored. */
@@ -790,16 +845,16 @@ enum wolfaren_refusal {
     WOLFAREN_REFUSED_HEADERS = 1,         /* no IP header, or its headers are truncated or faulty: wolfaren_dissect says why */
     WOLFAREN_REFUSED_MISSING = 2,         /* fewer bytes are here than it states */
     WOLFAREN_REFUSED_LATER_FRAGMENT = 3,  /* it is a middle or last fragment of IPv4 */
-    WOLFAREN_REFUSED_NOT_A_HEADER = 11,   /* the bytes aren't one header of the number, or in IPv4 no authentication header */
-    WOLFAREN_REFUSED_NO_HEADER = 4,       /* it has no such header */
-    WOLFAREN_REFUSED_FRAGMENT_HEADER = 5, /* the header is the fragment header of a fragment that isn't atomic */
-    WOLFAREN_REFUSED_MISPLACED = 12,      /* the header can't be at this index */
-    WOLFAREN_REFUSED_FRAGMENTED = 6,      /* the change is in the part of the packet that is fragmented */
-    WOLFAREN_REFUSED_AUTHENTICATED = 7,   /* an authentication header covers the change (RFC 4302, section 3.3.3) */
-    WOLFAREN_REFUSED_HEADER_FOLLOWS = 8,  /* the payload would be read as an extension header, in IPv4 an authentication header */
-    WOLFAREN_REFUSED_NO_LENGTH = 13,      /* its length would change, and its length field is 0, as in a jumbogram (RFC 2675) */
-    WOLFAREN_REFUSED_TOO_LONG = 9,        /* its length field can't state the length */
-    WOLFAREN_REFUSED_NO_ROOM = 10         /* `room` is less than the length */
+    WOLFAREN_REFUSED_NOT_A_HEADER = 4,    /* the bytes aren't one header of the number, or in IPv4 no authentication header */
+    WOLFAREN_REFUSED_NO_HEADER = 5,       /* it has no such header */
+    WOLFAREN_REFUSED_FRAGMENT_HEADER = 6, /* the header is the fragment header of a fragment that isn't atomic */
+    WOLFAREN_REFUSED_MISPLACED = 7,       /* the header can't be at this index */
+    WOLFAREN_REFUSED_FRAGMENTED = 8,      /* the change is in the part of the packet that is fragmented */
+    WOLFAREN_REFUSED_AUTHENTICATED = 9,   /* an authentication header covers the change (RFC 4302, section 3.3.3) */
+    WOLFAREN_REFUSED_HEADER_FOLLOWS = 10, /* the payload would be read as an extension header, in IPv4 an authentication header */
+    WOLFAREN_REFUSED_NO_LENGTH = 11,      /* its length would change, and its length field is 0, as in a jumbogram (RFC 2675) */
+    WOLFAREN_REFUSED_TOO_LONG = 12,       /* its length field can't state the length */
+    WOLFAREN_REFUSED_NO_ROOM = 13         /* `room` is less than the length */
 };
 
 /* A packet that was rewritten, or why it wasn't. */
@@ -887,10 +942,19 @@ bool wolfaren_in_order(const uint8_t *bytes, size_t len, bool may_be_invalid, ui
  * Formats the fault as text, such as "not enough bytes for the routing header at offset 40: 8 needed, 1 there". It names
  * the faulty extension header, if there is one, and otherwise the layer. Writes the text and a terminating null byte to
  * `text`, which has `room` bytes. Returns the length of the text in bytes, without the null byte. If the return value is
- * `room` or more, nothing is written. Returns 0 for a fault that no call reports, such as one of kind WOLFAREN_NO_FAULT or
- * of an unknown kind.
+ * `room` or more, nothing is written. Returns 0 for a fault of kind WOLFAREN_NO_FAULT or of an unknown kind. A fault of any
+ * other kind has a text, even if no call reports its values.
  */
 size_t wolfaren_fault_text(const struct wolfaren_fault *fault, char *text, size_t room) WOLFAREN_NONNULL(1);
+
+/*
+ * Format an outcome of wolfaren_defragmenter_add, a loss and a refusal as text, such as "the fragment overlaps another one", "the
+ * packet was not whole in time" and "the packet has no such header", as wolfaren_fault_text formats a fault. Return 0 for 0 of
+ * the latter two and for an unknown code.
+ */
+size_t wolfaren_outcome_text(uint8_t outcome, char *text, size_t room);
+size_t wolfaren_loss_text(uint8_t loss, char *text, size_t room);
+size_t wolfaren_refusal_text(uint8_t refusal, char *text, size_t room);
 
 /* The greatest number of tests that a filter uses, and the index to which a packet that passes is led. */
 #define WOLFAREN_FILTER_TESTS 64
@@ -908,7 +972,7 @@ enum wolfaren_test {
     WOLFAREN_TEST_SOURCE = 8,              /* the source address is in the network */
     WOLFAREN_TEST_DESTINATION = 9,         /* the destination address is in the network */
     WOLFAREN_TEST_EITHER = 10,             /* the source or the destination address is in the network */
-    WOLFAREN_TEST_LENGTH = 11,             /* the packet's length by its base header compares so with `number` */
+    WOLFAREN_TEST_LENGTH = 11,             /* the packet's length, stated or there, compares so with `number` */
     WOLFAREN_TEST_HOP_LIMIT = 12,          /* the hop limit, or IPv4's time to live, does */
     WOLFAREN_TEST_DSCP = 13,               /* the differentiated services code point does */
     WOLFAREN_TEST_ECN = 14,                /* the bits of explicit congestion notification do, as a number from 0 to 3 */
@@ -916,17 +980,18 @@ enum wolfaren_test {
     WOLFAREN_TEST_SOURCE_PORT = 16,        /* the source port is in the range from `number` to `address_low` */
     WOLFAREN_TEST_DESTINATION_PORT = 17,   /* the destination port is */
     WOLFAREN_TEST_PORT = 18,               /* the source or the destination port is */
-    WOLFAREN_TEST_NO_TRANSPORT = 19,       /* the payload should start with ports, but is too short for both */
+    WOLFAREN_TEST_NO_TRANSPORT = 19,       /* the payload should start with an upper-layer header, but lacks part of it */
     WOLFAREN_TEST_ICMP_TYPE = 20,          /* the type of the ICMP message of an IPv4 packet is `number` */
     WOLFAREN_TEST_ICMP_CODE = 21,          /* its code is `number` */
     WOLFAREN_TEST_TCP_FLAGS = 22,          /* of the flags of TCP in `address_low`, exactly those in `number` are set */
     WOLFAREN_TEST_ROUTING_TYPE = 23,       /* a routing header has the type `number` */
     WOLFAREN_TEST_SEGMENTS_LEFT = 24,      /* the segments left of a routing header compare so with `number` */
     WOLFAREN_TEST_OPTION = 25,             /* hop-by-hop or destination options have one of type `number` */
-    WOLFAREN_TEST_LAYER = 26,              /* a flag in `address_low` is set by an error in the layer `number`: 1 .. 11 */
+    WOLFAREN_TEST_LAYER = 26,              /* a flag in `address_low`, and the error is in layer `number` (7: any IPv6 extension) */
     WOLFAREN_TEST_VERSION_LEADS_TO = 27,   /* the packet has the IP version `version`, and `number` follows the headers */
     WOLFAREN_TEST_ICMP6_TYPE = 28,         /* the type of the ICMPv6 message of an IPv6 packet is `number` */
-    WOLFAREN_TEST_ICMP6_CODE = 29          /* its code is `number` */
+    WOLFAREN_TEST_ICMP6_CODE = 29,         /* its code is `number` */
+    WOLFAREN_TEST_NO_LENGTH = 30           /* the base header states length 0, although bytes follow it */
 };
 
 /*
@@ -975,11 +1040,13 @@ struct wolfaren_filter_test {
  * matches a packet that is led to WOLFAREN_FILTER_PASSED. It doesn't match one that is led to any other index without a
  * test, or from a test to an index that isn't greater. wolfaren_parse_filter makes a program from a text: `and`, `or` and
  * `not` determine where tests lead. A program has at most one test for each term: terms of flags are joined to one test
- * where one mask has their flags, and tests of flags come before others where the order doesn't matter.
+ * where one mask has their flags. Where the order doesn't matter, tests that the base header decides come first, then tests
+ * of flags.
  *
  * A filter is plain data, which a program may copy, store and modify. Any contents are valid: a count above
  * WOLFAREN_FILTER_TESTS means WOLFAREN_FILTER_TESTS, and no packet meets a test with an unknown code or with a number
- * that is too large for it. A filter without tests matches nothing.
+ * that is too large for it. A prefix length above 32 (IPv4) or 128 (IPv6) means all bits. A filter without tests matches
+ * nothing.
  */
 struct wolfaren_filter {
     size_t count;                                             /* number of tests */
@@ -1029,13 +1096,16 @@ struct wolfaren_filter_error {
  *                                        packet; after `leads-to`, the number alone
  *   fragment, first-fragment, later-fragment
  *   truncated, incomplete
- *   truncated LAYER                      LAYER is IP-header, IPv4-header, IPv4-packet, authentication, IPv6-header,
- *                                        IPv6-packet, IPv6-extension, hop-by-hop, destination-options, routing or
- *                                        fragment
- *   fault, fault KIND, fault KIND LAYER  KIND is too-short, not-at-start, zero-length, unsupported-version or
- *                                        header-length
+ *   truncated LAYER                      LAYER is IP-header, IPv4-header, IPv6-header or HEADER; HEADER is hop-by-hop,
+ *                                        routing, fragment, authentication, destination-options, or IPv6-extension,
+ *                                        which is any of these in an IPv6 packet
+ *   fault, fault KIND, fault KIND LAYER  KIND LAYER is too-short HEADER, too-short IPv4-packet, not-at-start hop-by-hop,
+ *                                        zero-length authentication, unsupported-version IP-header or header-length
+ *                                        IPv4-header; IPv6-extension after not-at-start and zero-length too
  *   headers OP N, chain-bytes OP N, payload OP N       OP is =, !=, <, <=, > or >=
- *   length OP N                          the length that the IP header states; false if it states none
+ *   length OP N                          the length that the IP header states, or the bytes that are there if it states none
+ *   no-length                            the IP header states length 0, although bytes follow it; a jumbo payload option
+ *                                        doesn't count
  *   hop-limit OP N, ttl OP N             the hop limit, or IPv4's time to live
  *   dscp OP N, ecn OP N                  the differentiated services code point; explicit congestion notification
  *   flow OP N                            the flow label; false of IPv4 packets
@@ -1049,7 +1119,7 @@ struct wolfaren_filter_error {
  *   src NET, dst NET, net NET            NET is an IPv4 or IPv6 address, alone or with a slash and a number of bits
  *   host A                               A is an IPv4 or IPv6 address
  *   src port P, dst port P, port P       P is a port or a range such as 1024-65535
- *   no-transport                         the payload should start with ports, but is too short for both
+ *   no-transport                         the payload should start with an upper-layer header, but lacks part of it
  *   icmp-type T, icmp-code N             the type and the code of an ICMP message of an IPv4 packet; T is a number or a name
  *   icmp6-type T, icmp6-code N           those of an ICMPv6 message of an IPv6 packet
  *   tcp-flags LIST, tcp-flags LIST/LIST  these flags of TCP are set; of those after the slash, exactly these. LIST is a
@@ -1058,6 +1128,10 @@ struct wolfaren_filter_error {
  * TCP, UDP, UDP-Lite, SCTP and DCCP have ports. Ports, types, codes and flags of TCP are read from the payload, so extension
  * headers may precede them. A later fragment has none, nor has a packet with an error or a truncated header. The terms about
  * fragments hold of an IPv6 packet if they do of one of its fragment headers.
+ *
+ * `no-transport` asks for the header of TCP up to its data offset, of DCCP likewise, of SCTP (12 bytes), of UDP, UDP-Lite and
+ * ICMP after IPv4 (8 bytes) and of ICMPv6 after IPv6 (4 bytes). It holds of a first fragment that has less of it (RFC 7112),
+ * and of a packet whose data offset is too small.
  *
  * These are the names of types, those of libpcap's expressions:
  * icmp-echoreply, icmp-unreach, icmp-sourcequench, icmp-redirect, icmp-echo, icmp-routeradvert, icmp-routersolicit,
@@ -1181,16 +1255,18 @@ WOLFAREN_LAYOUT(wolfaren_statistics, 8152, faults, 7128);
 WOLFAREN_LAYOUT(wolfaren_packet_span, 16, len, 8);
 WOLFAREN_LAYOUT(wolfaren_packet, 40, len_source, 38);
 WOLFAREN_LAYOUT(wolfaren_payload, 32, len_source, 30);
-WOLFAREN_LAYOUT(wolfaren_fragment, 8, next_header, 7);
+WOLFAREN_LAYOUT(wolfaren_fragment, 12, next_header, 9);
 WOLFAREN_LAYOUT(wolfaren_authentication, 24, next_header, 16);
 WOLFAREN_LAYOUT(wolfaren_option_cursor, 16, end, 8);
 WOLFAREN_LAYOUT(wolfaren_option, 32, may_change, 26);
 WOLFAREN_LAYOUT(wolfaren_routing, 40, next_header, 34);
 WOLFAREN_LAYOUT(wolfaren_slot, 56, version, 49);
 WOLFAREN_LAYOUT(wolfaren_reassembly, 2072, run_count, 2070);
-WOLFAREN_LAYOUT(wolfaren_packet_memory, 71792, head, 67693);
-WOLFAREN_LAYOUT(wolfaren_defragmenter_counts, 136, losses, 112);
+WOLFAREN_LAYOUT(wolfaren_packet_memory, 72704, unused, 71789);
+WOLFAREN_LAYOUT(wolfaren_fragment_counts, 136, losses, 112);
 WOLFAREN_LAYOUT(wolfaren_defragmenter_settings, 24, timeout, 16);
+WOLFAREN_LAYOUT(wolfaren_links, 32, previous_count, 24);
+WOLFAREN_LAYOUT(wolfaren_defragmenter, 136, settings, 112);
 WOLFAREN_LAYOUT(wolfaren_added, 16, loss, 9);
 WOLFAREN_LAYOUT(wolfaren_rewritten, 16, keeps_checksums, 9);
 WOLFAREN_LAYOUT(wolfaren_filter_test, 32, if_not, 29);

@@ -62,7 +62,7 @@ module _ (b s packet after : List ℕ) (t : Option ℕ) (whole : packet ≡ pack
     offset6 forty = omega (arith, forty, ap length is.rest, length-drop (length (bytes_of (chain_to_later (ipv6_next_header b) after))) after, is.within, ap (λ c. length (bytes_of c)) chain6)
 
     pub fields6 : length b ≡ 40 → (f : Option Fragment) → f ≡ ipv6_fragment (map plain_header_of x.headers.items) → (missing : ℕ) → missing ≡ missing_of t (length s) → (e : End)
-        → e ≡ (if has_later (map plain_header_of x.headers.items) then LaterFragment else option_map_or (exts_end t) (slice_fault (length b + (length after - length x.rest.now)) (is_empty (map plain_header_of x.headers.items)) x.number x.rest.now) Payload)
+        → e ≡ (if has_later (map plain_header_of x.headers.items) then LaterFragment else option_map_or (exts_end t x.rest.now) (slice_fault (length b + (length after - length x.rest.now)) (is_empty (map plain_header_of x.headers.items)) x.number x.rest.now) Payload)
         → HasFieldsOf (ipv6_dissected b s) (record { version = 6; base_len = length b; stated = t; headers = x.headers; number = x.number; payload_len = length x.rest.now; fragment = f; missing = missing; padding_len = length s - length packet; end = e })
     fields6 forty f fragment missing here e end = record {
       version = refl;
@@ -81,7 +81,7 @@ module _ (b s packet after : List ℕ) (t : Option ℕ) (whole : packet ≡ pack
     chain4 : ipv4_chain_in b after ≡ ipv4_chain b s
     chain4 = ap (ipv4_chain_in b) (after_is (ipv4_stated b) stated)
 
-    pub end4 : (e : End) → e ≡ (if not (total_len b == 0) && nat_lt (total_len b) (length b) then Fault (Len (too_short Ipv4HeaderTotalLen (total_len b) 0 Ipv4Packet (length b))) None else if not (ipv4_fragment_offset b == 0) then LaterFragment else option_map_or (auth_end t) (option_map (auth_in_packet Slice (length b)) (ipv4_chain_fault (protocol b) after)) Payload) → e ≡ ipv4_end b s
+    pub end4 : (e : End) → e ≡ (if not (total_len b == 0) && nat_lt (total_len b) (length b) then Fault (Len (too_short Ipv4HeaderTotalLen (total_len b) 0 Ipv4Packet (length b))) None else if not (ipv4_fragment_offset b == 0) then LaterFragment else option_map_or (auth_end t after) (option_map (auth_in_packet Slice (length b)) (ipv4_chain_fault (protocol b) after)) Payload) → e ≡ ipv4_end b s
     end4 e end =
         let after : after ≡ after_base b (ipv4_stated b) s = after_is (ipv4_stated b) stated in
         rw (end, stated, after) (search (rules, eqb_tells (ipv4_fragment_offset b) 0))

@@ -126,7 +126,7 @@ fn plain_ipv6<'a>(
 /// Returns the end of an IPv6 packet after this chain, which ends at the offset.
 fn ipv6_end(chain: &PlainChain<'_>, offset: usize, stated: Option<usize>) -> End
     ensures { result ≡ (if has_later (map plain_header_of chain.now.headers.items) then LaterFragment
-        else option_map_or (exts_end stated) (slice_fault offset
+        else option_map_or (exts_end stated chain.now.rest.now) (slice_fault offset
         (is_empty (map plain_header_of chain.now.headers.items)) chain.now.number chain.now.rest.now)
         Payload) }
 {
@@ -134,7 +134,8 @@ fn ipv6_end(chain: &PlainChain<'_>, offset: usize, stated: Option<usize>) -> End
         return End::LaterFragment;
     }
     let first = chain.headers.is_empty();
-    exts_end(plain_fault(first, chain.number, chain.rest, offset), stated)
+    let fault = plain_fault(first, chain.number, chain.rest, offset);
+    exts_end(fault, chain.rest, stated)
 }
 
 /// Dissects the IPv4 packet with this base header. Returns an error only if memory runs out.
@@ -174,7 +175,7 @@ fn ipv4_end(base: &[u8], after: &[u8], stated: Option<usize>) -> End
         then Fault (Len (too_short Ipv4HeaderTotalLen (total_len base.now) 0 Ipv4Packet
         (length base.now))) None
         else if not (ipv4_fragment_offset base.now == 0) then LaterFragment
-        else option_map_or (auth_end stated) (option_map (auth_in_packet Slice (length base.now))
+        else option_map_or (auth_end stated after.now) (option_map (auth_in_packet Slice (length base.now))
         (ipv4_chain_fault (protocol base.now) after.now)) Payload) }
 {
     let total_len = usize::from(ipv4_total_len(base));
@@ -194,5 +195,5 @@ fn ipv4_end(base: &[u8], after: &[u8], stated: Option<usize>) -> End
     if ipv4_offset(base) != 0 {
         return End::LaterFragment;
     }
-    auth_end(ipv4_fault(base[9], after, base.len()), stated)
+    auth_end(ipv4_fault(base[9], after, base.len()), after, stated)
 }

@@ -8,20 +8,21 @@ ghost use Rattle.ip_defragmenter.specs.Added.{added_nothing};
 ghost use Rattle.ip_defragmenter.specs.Counts.{counted};
 ghost use Rattle.ip_defragmenter.specs.Ecn.{is_congested};
 ghost use Rattle.ip_defragmenter.specs.FragmentOf.{FragmentParts};
-ghost use Rattle.ip_defragmenter.specs.Memory.{WasStored, HoldsStored, AreJoinable, pieces_of, points_of, stored_none, stored_all, stored_outcome};
+ghost use Rattle.ip_defragmenter.specs.Memory.{WasStored, HoldsStored, AreJoinable, payload_buffer, pieces_of, points_of, stored_none, stored_all, stored_outcome};
 ghost use Rattle.ip_defragmenter.specs.Sent.{IsSentIpv6, ipv6_first};
+ghost use Rattle.ip_defragmenter.specs.Slots.{IsUnchanged};
 ghost use Rattle.ip_defragmenter.specs.declared.err.FragmentError.{FragmentError};
 
 use ip_defrag::Progress;
 use ip_defragmenter::{
-    Defragmenter, DropReason, IpFragment, Outcome, PacketMemory, Settings, Slot, WholeError,
+    Defragmenter, DropReason, IpFragment, Outcome, PacketMemory, Settings, SlotTable, WholeError,
     defragment, whole_packet_is_the_one_sent,
 };
 
 /// Adds a packet that arrived at this time in this context. If it makes its packet whole, writes that to `out` and returns its length in
 /// bytes. Returns `None` if it doesn't, or if the whole packet doesn't fit.
 pub fn whole_packet(
-    slots: &mut [Slot],
+    slots: &mut SlotTable<'_>,
     memories: &mut [PacketMemory],
     settings: &Settings,
     context: u32,
@@ -29,10 +30,10 @@ pub fn whole_packet(
     packet: &[u8],
     out: &mut [u8],
 ) -> Option<usize>
-    requires { length slots.old ≡ length memories.old }
-    ensures other { packet_fragment (dissected packet.now) ≡ Ok None → IsNone result × (slots.new ≡ slots.old) }
+    requires { length slots.old.slots.now ≡ length memories.old }
+    ensures other { packet_fragment (dissected packet.now) ≡ Ok None → IsNone result × IsUnchanged slots.old slots.new }
     ensures unusable { (e : FragmentError) → packet_fragment (dissected packet.now) ≡ Err e
-        → IsNone result × (slots.new ≡ slots.old) }
+        → IsNone result × IsUnchanged slots.old slots.new }
 {
     match defragment(slots, memories, settings, context, time, packet).outcome {
         Outcome::Whole(index) => match memories.get(index) {
@@ -55,7 +56,7 @@ pub fn counted_packet(
     packet: &[u8],
     out: &mut [u8],
 ) -> Option<usize>
-    requires { length defragmenter.old.slots.now ≡ length defragmenter.old.memories.now }
+    requires { length defragmenter.old.slots.slots.now ≡ length defragmenter.old.memories.now }
     ensures other { packet_fragment (dissected packet.now) ≡ Ok None → IsNone result
         × (defragmenter.new.counts.now ≡ counted defragmenter.old.counts.now (added_nothing Outcome.NotFragment)) }
     ensures unusable { (e : FragmentError) → packet_fragment (dissected packet.now) ≡ Err e → IsNone result
@@ -110,4 +111,12 @@ pub fn written_when_whole(
         },
         _ => None,
     }
+}
+
+/// Makes a memory ready for another packet: no fragments are left, and no byte of the payload is written.
+pub fn memory_for_another_packet(memory: &mut PacketMemory)
+    ensures stored { HoldsStored memory.new (stored_none 65535) }
+    ensures bytes { payload_buffer memory.new ≡ payload_buffer memory.old }
+{
+    memory.reset();
 }

@@ -23,6 +23,7 @@ pub mod readers;
 pub mod reassembly;
 pub mod rewriting;
 pub mod runs;
+pub mod span_outcomes;
 pub mod spans;
 pub mod statistics;
 pub mod tool;

@@ -1,7 +1,7 @@
 //! Numbers, fragment offsets and the length error.
 use crate::checks::assert_same;
 use ip_base::err::{Layer, LenError, ValueTooBigError};
-use ip_base::{IpFragOffset, IpNumber, LenSource, ip_number};
+use ip_base::{IpFragOffset, IpNumber, LenSource, internet_checksum, ip_number};
 use std::test::Fail;
 
 #[test]
@@ -60,6 +60,13 @@ fn fragment_offsets(rt: HostRuntime) -> Result<(), Fail> {
         assert_same(&rt, value, &IpFragOffset::try_from(value), &refused);
     }
     Ok(())
+}
+
+#[test]
+fn checksum_of_a_worked_example(rt: HostRuntime) {
+    // RFC 1071, section 3: the words of these bytes have the one's complement sum 0xddf2
+    let bytes = [0x00u8, 0x01, 0xf2, 0x03, 0xf4, 0xf5, 0xf6, 0xf7];
+    assert_same(&rt, "RFC 1071", internet_checksum(&bytes), 0x220d);
 }
 
 #[test]

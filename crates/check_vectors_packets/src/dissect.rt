@@ -165,6 +165,9 @@ fn ipv6_truncated_headers(rt: HostRuntime) -> Result<(), Fail> {
     let options = len_error_at(16, 8, slice, Layer::Ipv6ExtHeader, 40);
     let fragment = len_error_at(8, 3, slice, Layer::Ipv6FragHeader, 40);
     let base = len_error_at(40, 39, slice, Layer::Ipv6Header, 0);
+    let routing = len_error_at(24, 2, slice, Layer::Ipv6ExtHeader, 40);
+    let first = len_error_at(8, 1, slice, Layer::Ipv6ExtHeader, 40);
+    let auth = len_error_at(16, 2, slice, Layer::IpAuthHeader, 40);
     let rows = [
         (
             "16 bytes of options, of which 8 are here",
@@ -177,6 +180,24 @@ fn ipv6_truncated_headers(rt: HostRuntime) -> Result<(), Fail> {
             ipv6_bytes(alloc, 0, 44, &[17, 0, 1])?,
             (40, None, 0, 44, 3, 0, 0),
             truncated(fragment, Some(Layer::Ipv6FragHeader)),
+        ),
+        (
+            "the length of a routing header of 24 bytes",
+            ipv6_bytes(alloc, 24, 43, &[17, 2])?,
+            (40, Some(64), 0, 43, 2, 22, 0),
+            truncated(routing, Some(Layer::Ipv6RouteHeader)),
+        ),
+        (
+            "a routing header without its length",
+            ipv6_bytes(alloc, 8, 43, &[17])?,
+            (40, Some(48), 0, 43, 1, 7, 0),
+            truncated(first, Some(Layer::Ipv6RouteHeader)),
+        ),
+        (
+            "the length of an authentication header of 16 bytes",
+            ipv6_bytes(alloc, 16, 51, &[17, 2])?,
+            (40, Some(56), 0, 51, 2, 14, 0),
+            truncated(auth, Some(Layer::IpAuthHeader)),
         ),
         (
             "39 bytes of a base header",
@@ -197,9 +218,26 @@ fn ipv6_faults(rt: HostRuntime) -> Result<(), Fail> {
     let stated = LenSource::Ipv6HeaderPayloadLen;
     let options = len_error_at(16, 8, stated, Layer::Ipv6ExtHeader, 40);
     let routing = len_error_at(24, 16, stated, Layer::Ipv6ExtHeader, 40);
+    let long = len_error_at(2048, 24, stated, Layer::Ipv6ExtHeader, 40);
     let later_options = [0, 0, 1, 4, 0, 0, 0, 0, 17, 0, 1, 4, 5, 6, 7, 8];
     let not_at_start = ipv6_exts::HeaderError::HopByHopNotAtStart;
+    let zero = ipv6_exts::HeaderError::IpAuth(ip_auth::HeaderError::ZeroPayloadLen);
     let rows = [
+        (
+            "a routing header of 2,048 bytes in a payload of 24, of which 4 are here",
+            ipv6_bytes(alloc, 24, 43, &[6, 255, 0, 0])?,
+            (40, Some(64), 0, 43, 4, 20, 0),
+            too_long(long, Some(Layer::Ipv6RouteHeader)),
+        ),
+        (
+            "the length of an authentication header, which is 0",
+            ipv6_bytes(alloc, 12, 51, &[17, 0])?,
+            (40, Some(52), 0, 51, 2, 10, 0),
+            End::Fault {
+                error: SliceError::IpHeaders(HeadersError::Ipv6Ext(zero)),
+                header: Some(Layer::IpAuthHeader),
+            },
+        ),
         (
             "16 bytes of options in a payload of 8",
             ipv6_bytes(alloc, 8, 60, &[17, 1, 2, 3, 4, 5, 6, 7])?,
@@ -276,7 +314,9 @@ fn ipv4_headers_that_are_not_whole(rt: HostRuntime) -> Result<(), Fail> {
     let total = len_error_at(20, 19, stated, Layer::Ipv4Packet, 0);
     let auth_here = len_error_at(12, 4, LenSource::Slice, Layer::IpAuthHeader, 20);
     let auth_stated = len_error_at(12, 4, stated, Layer::IpAuthHeader, 20);
+    let long = len_error_at(1028, 12, stated, Layer::IpAuthHeader, 20);
     let zero_length = [17, 0, 1, 2, 3, 4, 5, 6, 7, 8, 9, 10];
+    let zero_here = ip_auth::HeaderError::ZeroPayloadLen;
     let zero = ip_auth::HeaderError::ZeroPayloadLen;
     let rows = [
         (
@@ -296,6 +336,21 @@ fn ipv4_headers_that_are_not_whole(rt: HostRuntime) -> Result<(), Fail> {
             ipv4_bytes(alloc, 0x45, 24, [0, 0], 51, &auth)?,
             (20, Some(24), 0, 51, 4, 0, 8),
             too_long(auth_stated, None),
+        ),
+        (
+            "an authentication header of 1,028 bytes in a packet of 32, of which 22 are here",
+            ipv4_bytes(alloc, 0x45, 32, [0, 0], 51, &[17, 255])?,
+            (20, Some(32), 0, 51, 2, 10, 0),
+            too_long(long, None),
+        ),
+        (
+            "the length of an authentication header, which is 0",
+            ipv4_bytes(alloc, 0x45, 32, [0, 0], 51, &[17, 0])?,
+            (20, Some(32), 0, 51, 2, 10, 0),
+            End::Fault {
+                error: SliceError::IpHeaders(HeadersError::Ipv4Ext(zero_here)),
+                header: None,
+            },
         ),
         (
             "an authentication header of length 0",

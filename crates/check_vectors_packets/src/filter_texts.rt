@@ -124,6 +124,8 @@ fn terms(rt: HostRuntime) -> Result<(), Fail> {
         ("fault too-short routing", ports(26, 10, 0x1000)),
         ("fault not-at-start hop-by-hop", ports(26, 8, 0x2000)),
         ("fault header-length IPv4-header", ports(26, 2, 0x10000)),
+        ("fault too-short IPv4-packet", ports(26, 3, 0x1000)),
+        ("fault zero-length IPv6-extension", ports(26, 7, 0x4000)),
         ("headers<=3", count(3, 4, 3)),
         (
             "chain-bytes != 18446744073709551615",
@@ -175,6 +177,7 @@ fn terms_of_fields_and_ports(rt: HostRuntime) -> Result<(), Fail> {
         ("dst port 1024-65535", ports(17, 1024, 65535)),
         ("port 0-0x10", ports(18, 0, 16)),
         ("no-transport", number(19, 0, PASSED, REFUSED)),
+        ("no-length", number(30, 0, PASSED, REFUSED)),
         ("icmp-type 128", number(20, 128, PASSED, REFUSED)),
         ("icmp-code 0", number(21, 0, PASSED, REFUSED)),
         ("icmp6-type 128", number(28, 128, PASSED, REFUSED)),

@@ -34,6 +34,12 @@ mod samples;
 #[cfg(test)]
 mod spans;
 #[cfg(test)]
+mod stated_lengths;
+#[cfg(test)]
 mod statistics;
 #[cfg(test)]
 mod tcp_flags;
+#[cfg(test)]
+mod transport_headers;
+#[cfg(test)]
+mod truncated_and_faulty;

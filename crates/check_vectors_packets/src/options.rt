@@ -118,3 +118,27 @@ fn each_header_is_asked(rt: HostRuntime) -> Result<(), Fail> {
     );
     Ok(())
 }
+
+#[test]
+fn several_options_of_two_headers(rt: HostRuntime) -> Result<(), Fail> {
+    let headers = [
+        60, 0, 5, 2, 0, 0, 1, 0, 59, 1, 130, 1, 9, 255, 2, 7, 7, 0, 64, 0, 127, 2, 0, 0,
+    ];
+    let bytes = ipv6_bytes(rt.alloc(), 24, 0, &headers)?;
+    let rows = [
+        ("option 5 and option 1 and option 130 and option 255", true),
+        ("option 0 and option 64 and option 127", true),
+        ("option 2 or option 7 or option 9 or option 59", false),
+        ("option 63 or option 65 or option 128 or option 192", false),
+        ("option 60 or option 126 or option 129 or option 254", false),
+        ("not option 69 and option 130 and payload = 0", true),
+        ("option 3 or headers = 2 and option 255", true),
+    ];
+    check(
+        &rt,
+        "hop-by-hop and destination options",
+        bytes.as_slice(),
+        &rows,
+    );
+    Ok(())
+}

@@ -511,7 +511,7 @@ const IPV4_OTHERS: [Ipv4Row; 10] = [
                 "not fault",
                 "truncated",
                 "fault header-length",
-                "fault too-short IPv4-header",
+                "fault too-short authentication",
             ],
         },
     ),

@@ -29,17 +29,12 @@ fn protocols_with_ports(rt: HostRuntime) -> Result<(), Fail> {
     for protocol in [6, 17, 33, 132, 136] {
         let bytes = ipv6_bytes(rt.alloc(), 8, protocol, ports(8))?;
         let holding = ["src port 443", "dst port 50000", "port 443", "port 400-500"];
-        let others = [
-            "src port 50000",
-            "dst port 443",
-            "port 444-49999",
-            "no-transport",
-        ];
+        let others = ["src port 50000", "dst port 443", "port 444-49999"];
         check(&rt, "ports", bytes.as_slice(), &holding, &others);
     }
     for protocol in [1, 47, 50, 58, 59, 135] {
         let bytes = ipv6_bytes(rt.alloc(), 8, protocol, ports(8))?;
-        let others = ["port 0-65535", "src port 443", "no-transport"];
+        let others = ["port 0-65535", "src port 443"];
         check(&rt, "no ports", bytes.as_slice(), &[], &others);
     }
     Ok(())
@@ -78,11 +73,11 @@ fn ports_of_fragments(rt: HostRuntime) -> Result<(), Fail> {
         "first",
         bytes.as_slice(),
         &["src port 443 and first-fragment"],
-        &["no-transport"],
+        &["dst port 443"],
     );
     let later = [17, 0, 0, 8, 0, 0, 0, 9, 0x01, 0xbb, 0xc3, 0x50, 0, 8, 0, 0];
     let bytes = ipv6_bytes(alloc, 16, 44, &later)?;
-    let others = ["port 0-65535", "no-transport"];
+    let others = ["port 0-65535"];
     check(
         &rt,
         "last",
@@ -100,17 +95,11 @@ fn ports_that_are_missing(rt: HostRuntime) -> Result<(), Fail> {
     let alloc = rt.alloc();
     for len in 0..2 {
         let bytes = ipv6_bytes(alloc, 8, 6, ports(len))?;
-        check(
-            &rt,
-            "none",
-            bytes.as_slice(),
-            &["no-transport"],
-            &["port 0-65535"],
-        );
+        check(&rt, "none", bytes.as_slice(), &["tcp"], &["port 0-65535"]);
     }
     for len in 2..4 {
         let bytes = ipv6_bytes(alloc, 8, 6, ports(len))?;
-        let holding = ["no-transport and src port 443 and port 443"];
+        let holding = ["src port 443 and port 443"];
         check(
             &rt,
             "source alone",
@@ -125,18 +114,18 @@ fn ports_that_are_missing(rt: HostRuntime) -> Result<(), Fail> {
         "both",
         bytes.as_slice(),
         &["dst port 50000"],
-        &["no-transport"],
+        &["dst port 443"],
     );
     let bytes = ipv6_bytes(alloc, 3, 17, ports(8))?;
     check(
         &rt,
         "padding",
         bytes.as_slice(),
-        &["no-transport"],
+        &["src port 443"],
         &["dst port 50000"],
     );
     let truncated = ipv6_bytes(alloc, 24, 43, &[17, 2, 0, 0])?;
-    let others = ["no-transport", "port 0-65535", "udp"];
+    let others = ["port 0-65535", "udp"];
     check(&rt, "truncated", truncated.as_slice(), &[], &others);
     Ok(())
 }
@@ -322,14 +311,6 @@ fn fields_of_base_headers(rt: HostRuntime) -> Result<(), Fail> {
     let holding = ["dscp = 46 and ecn = 2", "ttl = 1", "length = 28 and ip"];
     let others = ["flow >= 0", "hop-limit > 1"];
     check(&rt, "IPv4", &ipv4, &holding, &others);
-    let jumbo = ipv6_bytes(alloc, 0, 59, ports(8))?;
-    check(
-        &rt,
-        "no length",
-        jumbo.as_slice(),
-        &["payload = 8"],
-        &["length >= 0"],
-    );
     check(
         &rt,
         "no header",

@@ -28,13 +28,13 @@ pub record StartsWithRoutingHeader (s : List ℕ) (x : RoutingFields) : Type 0 w
 
 -- Bytes s start with a routing header whose address with index i, expanded by the destination address d, is a.
 pub record IsRoutingAddress (s : List ℕ) (i : ℕ) (d a : List ℕ) : Type 0 where
-  pub bytes : List ℕ
-  pub header : IsRawHeader bytes
-  pub prefix : IsPrefix bytes s
+  pub header : List ℕ
+  pub is_header : IsRawHeader header
+  pub prefix : IsPrefix header s
   pub layout : AddressLayout
-  pub lies : IsLayout bytes layout
+  pub lies : IsLayout header layout
   pub within : i < layout.count
-  pub is : a ≡ expanded d (address layout bytes i)
+  pub is : a ≡ expanded d (address layout header i)
 
 -- Bytes s don't start with a routing header that has an address with index i.
 abbrev pub HasNoAddress : List ℕ → ℕ → Type 0

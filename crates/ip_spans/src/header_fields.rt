@@ -12,8 +12,8 @@ use ip_ext_headers::{IpAuthHeaderSlice, Ipv6FragmentHeaderSlice};
 pub struct FragmentFields {
     /// The identification, equal in all fragments of a packet.
     pub identification: u32,
-    /// The fragment offset, in units of 8 bytes.
-    pub fragment_offset: u16,
+    /// Where the fragment lies in the payload, in bytes.
+    pub fragment_offset: u32,
     /// 1 if more fragments follow, otherwise 0.
     pub more_fragments: u8,
     /// The next header field.
@@ -30,7 +30,7 @@ pub fn fragment_fields(bytes: &[u8]) -> Option<FragmentFields>
     let header = Ipv6FragmentHeaderSlice::from_slice(bytes).ok()?;
     Some(FragmentFields {
         identification: header.identification(),
-        fragment_offset: header.fragment_offset().value(),
+        fragment_offset: 8 * u32::from(header.fragment_offset().value()),
         more_fragments: u8::from(header.more_fragments()),
         next_header: header.next_header().0,
     })

@@ -32,5 +32,5 @@ pub use option_cursor::{OptionCursor, OptionSpan};
 pub use packet_parts::{PacketParts, parse_packet, parse_packet_lax};
 pub use payload_span::{PayloadSpan, find_payload, find_payload_lax};
 pub use routing_header::{RoutingFields, routing_address, routing_fields};
-pub use texts::{expected_text, fault_text};
+pub use texts::{display_text, expected_text, fault_text};
 pub use writes::write_headers;

@@ -7,7 +7,7 @@ use arrayvec::ArrayString;
 use ip_base::LenSource;
 use ip_base::err::Layer;
 use ip_codes::kind;
-use std::fmt::Write;
+use std::fmt::{Display, Write};
 
 /// The maximum length of a text, in bytes.
 const TEXT_LEN: usize = 255;
@@ -39,9 +39,22 @@ pub fn expected_text(expected: u8, text: &mut [u8]) -> usize
     ensures refused { length text.old ≤ result → text.new ≡ text.old }
     ensures len { length text.new ≡ length text.old }
 {
+    display_text(&expected_of(expected), text)
+}
+
+/// Formats a value, if there is one, as text at the front of `text`, followed by a 0 byte. Returns the text's length in bytes,
+/// at most 255. If the text and the 0 don't fit, `text` is unchanged. The text is empty without a value, and if it would be
+/// longer than 255 bytes.
+pub fn display_text<T: Display>(value: &Option<T>, text: &mut [u8]) -> usize
+    ensures most { result ≤ 255 }
+    ensures end { result < length text.old → slice_index text.new result ≡ 0 }
+    ensures after { drop (result + 1) text.new ≡ drop (result + 1) text.old }
+    ensures refused { length text.old ≤ result → text.new ≡ text.old }
+    ensures len { length text.new ≡ length text.old }
+{
     let mut words = ArrayString::<TEXT_LEN>::new();
-    if let Some(expected) = expected_of(expected) {
-        if write!(words, "{expected}").is_err() {
+    if let Some(value) = value {
+        if write!(words, "{value}").is_err() {
             words.clear();
         }
     }

@@ -23,16 +23,16 @@ abbrev pub refusal_code : RewriteError → ℕ
 refusal_code err.Headers = 1
 refusal_code err.Missing = 2
 refusal_code err.LaterFragment = 3
-refusal_code err.NoHeader = 4
-refusal_code err.FragmentHeader = 5
-refusal_code err.Fragmented = 6
-refusal_code err.Authenticated = 7
-refusal_code err.HeaderFollows = 8
-refusal_code err.TooLong = 9
-refusal_code err.NoRoom = 10
-refusal_code err.NotAHeader = 11
-refusal_code err.Misplaced = 12
-refusal_code err.NoLength = 13
+refusal_code err.NotAHeader = 4
+refusal_code err.NoHeader = 5
+refusal_code err.FragmentHeader = 6
+refusal_code err.Misplaced = 7
+refusal_code err.Fragmented = 8
+refusal_code err.Authenticated = 9
+refusal_code err.HeaderFollows = 10
+refusal_code err.NoLength = 11
+refusal_code err.TooLong = 12
+refusal_code err.NoRoom = 13
 
 -- what is stored if this length was written, and whether transport checksums hold as before
 abbrev pub rewritten_fields : ℕ → Bool → RewrittenFields

@@ -14,5 +14,6 @@ mod packets;
 mod results;
 mod rewrites;
 mod statistics;
+mod texts;
 mod version;
 mod writes;

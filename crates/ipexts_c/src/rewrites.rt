@@ -1,5 +1,5 @@
 //! Packets with other extension headers.
-ghost use Rattle.std.specs.Prelude.{◌≡◌, ◌++◌, length, drop, take, not, true, false, IsTrue, IsOkAnd, Some, None};
+ghost use Rattle.std.specs.Prelude.{◌≡◌, ◌++◌, length, drop, take, not, true, false, IsTrue, IsOkAnd, IfSome, IfNone, Some, None};
 ghost use Rattle.std.specs.Result.{result_err};
 ghost use Rattle.ip_spec.specs.Chain.{ExtHeader};
 ghost use Rattle.ip_spec.specs.Encoding.{cleared_chain};
@@ -41,16 +41,39 @@ fn refusal_code(error: RewriteError) -> u8
         RewriteError::Headers => 1,
         RewriteError::Missing => 2,
         RewriteError::LaterFragment => 3,
-        RewriteError::NoHeader => 4,
-        RewriteError::FragmentHeader => 5,
-        RewriteError::Fragmented => 6,
-        RewriteError::Authenticated => 7,
-        RewriteError::HeaderFollows => 8,
-        RewriteError::TooLong => 9,
-        RewriteError::NoRoom => 10,
-        RewriteError::NotAHeader => 11,
-        RewriteError::Misplaced => 12,
-        RewriteError::NoLength => 13,
+        RewriteError::NotAHeader => 4,
+        RewriteError::NoHeader => 5,
+        RewriteError::FragmentHeader => 6,
+        RewriteError::Misplaced => 7,
+        RewriteError::Fragmented => 8,
+        RewriteError::Authenticated => 9,
+        RewriteError::HeaderFollows => 10,
+        RewriteError::NoLength => 11,
+        RewriteError::TooLong => 12,
+        RewriteError::NoRoom => 13,
+    }
+}
+
+/// Returns why a packet isn't rewritten by the code of that, or `None` if no reason has the code.
+pub(crate) fn refusal_with_code(code: u8) -> Option<RewriteError>
+    ensures some { IfSome result (λ error. refusal_code error ≡ code) }
+    ensures none { IfNone result ((error : Refusal) → refusal_code error ≡ code → ⊥) }
+{
+    match code {
+        1 => Some(RewriteError::Headers),
+        2 => Some(RewriteError::Missing),
+        3 => Some(RewriteError::LaterFragment),
+        4 => Some(RewriteError::NotAHeader),
+        5 => Some(RewriteError::NoHeader),
+        6 => Some(RewriteError::FragmentHeader),
+        7 => Some(RewriteError::Misplaced),
+        8 => Some(RewriteError::Fragmented),
+        9 => Some(RewriteError::Authenticated),
+        10 => Some(RewriteError::HeaderFollows),
+        11 => Some(RewriteError::NoLength),
+        12 => Some(RewriteError::TooLong),
+        13 => Some(RewriteError::NoRoom),
+        _ => None,
     }
 }
 

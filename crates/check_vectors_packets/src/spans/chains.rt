@@ -183,7 +183,7 @@ fn fields_of_single_headers(rt: HostRuntime) {
     let fragment = [17, 0, 0, 0xe1, 1, 2, 3, 4, 9];
     let wanted = FragmentFields {
         identification: 0x0102_0304,
-        fragment_offset: 28,
+        fragment_offset: 224,
         more_fragments: 1,
         next_header: 17,
     };

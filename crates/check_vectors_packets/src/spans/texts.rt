@@ -1,7 +1,9 @@
 //! Errors as text.
 use crate::checks::{assert_bytes, assert_same, assert_that};
 use crate::spans::samples::NO_FAULT;
-use ip_spans::{FaultFields, expected_text, fault_text};
+use ip_filter::Filter;
+use ip_spans::{FaultFields, display_text, expected_text, fault_text};
+use std::fmt::{Display, Formatter, Write};
 use std::process::Abort;
 
 const SHORT: FaultFields = FaultFields {
@@ -33,7 +35,7 @@ fn of_kind(kind: u8, value: u32) -> FaultFields {
 }
 
 /// Returns each kind with its text.
-fn rows() -> [(FaultFields, &'static str); 16] {
+fn rows() -> [(FaultFields, &'static str); 19] {
     [
         (NO_FAULT, ""),
         (
@@ -99,8 +101,20 @@ fn rows() -> [(FaultFields, &'static str); 16] {
             "the length field of the authentication header at offset 0 is 0",
         ),
         (
+            of_kind(4, 0),
+            "the IP version is 0, where 4 or 6 is required",
+        ),
+        (
+            of_kind(4, 15),
+            "the IP version is 15, where 4 or 6 is required",
+        ),
+        (
             of_kind(4, 16),
             "the IP version is 16, where 4 or 6 is required",
+        ),
+        (
+            of_kind(5, 4),
+            "the internet header length of the IPv4 header is 4, where at least 5 is required",
         ),
         (
             of_kind(5, 20),
@@ -150,42 +164,182 @@ fn room_for_words(rt: HostRuntime) {
     }
 }
 
+/// Returns the code of each layer, with the text if it needs bytes and its length is that of the slice.
+fn layer_rows() -> [(u8, &'static str); 12] {
+    [
+        (
+            1,
+            "not enough bytes for the IP header at offset 40: 8 needed, 7 there",
+        ),
+        (
+            2,
+            "not enough bytes for the IPv4 header at offset 40: 8 needed, 7 there",
+        ),
+        (
+            3,
+            "not enough bytes for the IPv4 packet at offset 40: 8 needed, 7 there",
+        ),
+        (
+            4,
+            "not enough bytes for the authentication header at offset 40: 8 needed, 7 there",
+        ),
+        (
+            5,
+            "not enough bytes for the IPv6 header at offset 40: 8 needed, 7 there",
+        ),
+        (
+            6,
+            "not enough bytes for the IPv6 packet at offset 40: 8 needed, 7 there",
+        ),
+        (
+            7,
+            "not enough bytes for the extension header at offset 40: 8 needed, 7 there",
+        ),
+        (
+            8,
+            "not enough bytes for the hop-by-hop options header at offset 40: 8 needed, 7 there",
+        ),
+        (
+            9,
+            "not enough bytes for the destination options header at offset 40: 8 needed, 7 there",
+        ),
+        (
+            10,
+            "not enough bytes for the routing header at offset 40: 8 needed, 7 there",
+        ),
+        (
+            11,
+            "not enough bytes for the fragment header at offset 40: 8 needed, 7 there",
+        ),
+        (
+            12,
+            "not enough bytes for the ICMP message at offset 40: 8 needed, 7 there",
+        ),
+    ]
+}
+
 #[test]
-fn codes_that_are_none(rt: HostRuntime) {
-    let none = [
-        FaultFields { layer: 0, ..SHORT },
-        FaultFields { layer: 13, ..SHORT },
-        FaultFields {
-            header: 13,
+fn words_of_each_layer(rt: HostRuntime) {
+    let short = FaultFields {
+        len: 7,
+        offset: 40,
+        ..SHORT
+    };
+    for (code, words) in layer_rows() {
+        let mut text = [1; 256];
+        let fault = FaultFields {
+            layer: code,
+            ..short
+        };
+        assert_same(&rt, words, fault_text(&fault, &mut text), words.len());
+        check_text(&rt, words, &text);
+        let mut text = [1; 256];
+        let fault = FaultFields {
+            header: code,
+            ..short
+        };
+        assert_same(&rt, words, fault_text(&fault, &mut text), words.len());
+        check_text(&rt, words, &text);
+    }
+}
+
+#[test]
+fn words_of_each_length_source(rt: HostRuntime) {
+    let rows = [
+        (
+            1,
+            "not enough bytes for the extension header at offset 8: 8 needed, 0 there",
+        ),
+        (
+            2,
+            "not enough bytes for the extension header at offset 8: 8 needed, 0 there by the total length",
+        ),
+        (
+            3,
+            "not enough bytes for the extension header at offset 8: 8 needed, 0 there by the payload length",
+        ),
+    ];
+    for (len_source, words) in rows {
+        let mut text = [1; 256];
+        let fault = FaultFields {
+            len_source,
             ..SHORT
+        };
+        assert_same(&rt, words, fault_text(&fault, &mut text), words.len());
+        check_text(&rt, words, &text);
+    }
+}
+
+/// Checks that the error has an empty text.
+fn check_empty(rt: &impl Abort, fault: &FaultFields) {
+    let mut text = [1; 2];
+    assert_same(rt, *fault, fault_text(fault, &mut text), 0);
+    assert_same(rt, *fault, text, [0, 1]);
+}
+
+#[test]
+fn kinds_that_are_none(rt: HostRuntime) {
+    for kind in 6..=255u8 {
+        check_empty(&rt, &FaultFields { kind, ..SHORT });
+    }
+}
+
+/// Checks that an error in a layer with this code has an empty text, also if it is in a routing header.
+fn check_layer_is_none(rt: &impl Abort, code: u8) {
+    let of_layer = FaultFields {
+        layer: code,
+        ..SHORT
+    };
+    check_empty(rt, &of_layer);
+    check_empty(
+        rt,
+        &FaultFields {
+            header: 10,
+            ..of_layer
         },
-        FaultFields { layer: 23, ..SHORT },
-        FaultFields {
-            header: 26,
-            ..SHORT
-        },
-        FaultFields {
-            len_source: 17,
-            ..SHORT
-        },
-        FaultFields { kind: 17, ..SHORT },
-        FaultFields { kind: 20, ..SHORT },
-        FaultFields {
+    );
+}
+
+#[test]
+fn layers_that_are_none(rt: HostRuntime) {
+    check_layer_is_none(&rt, 0);
+    for code in 13..=255u8 {
+        check_layer_is_none(&rt, code);
+        check_empty(
+            &rt,
+            &FaultFields {
+                header: code,
+                ..SHORT
+            },
+        );
+    }
+}
+
+#[test]
+fn length_sources_that_are_none(rt: HostRuntime) {
+    check_empty(
+        &rt,
+        &FaultFields {
             len_source: 0,
             ..SHORT
         },
-        FaultFields {
-            len_source: 4,
-            ..SHORT
-        },
-        FaultFields { kind: 255, ..SHORT },
-        of_kind(4, 256),
-        of_kind(5, u32::MAX),
-    ];
-    for fault in none {
-        let mut text = [1; 2];
-        assert_same(&rt, fault, fault_text(&fault, &mut text), 0);
-        assert_same(&rt, fault, text, [0, 1]);
+    );
+    for len_source in 4..=255u8 {
+        check_empty(
+            &rt,
+            &FaultFields {
+                len_source,
+                ..SHORT
+            },
+        );
+    }
+}
+
+#[test]
+fn values_that_are_none(rt: HostRuntime) {
+    for value in [256, 260, 261, 65536, u32::MAX] {
+        check_empty(&rt, &of_kind(4, value));
+        check_empty(&rt, &of_kind(5, value));
     }
 }
 
@@ -237,9 +391,69 @@ fn words_of_what_is_expected(rt: HostRuntime) {
 
 #[test]
 fn codes_of_nothing_expected(rt: HostRuntime) {
-    for code in [0, 20, 33, 255] {
+    let mut text = [1; 2];
+    assert_same(&rt, 0, expected_text(0, &mut text), 0);
+    assert_same(&rt, 0, text, [0, 1]);
+    for code in 20..=255u8 {
         let mut text = [1; 2];
         assert_same(&rt, code, expected_text(code, &mut text), 0);
         assert_same(&rt, code, text, [0, 1]);
     }
+}
+
+#[test]
+fn words_of_filter_errors(rt: HostRuntime) {
+    let rows = [
+        ("", "expected a term, `not` or `(` at byte 0"),
+        (
+            "fragment fault",
+            "expected `and`, `or` or the end at byte 9",
+        ),
+        ("version 5", "expected 4 or 6 at byte 8"),
+        (
+            "payload > 18446744073709551616",
+            "expected a number from 0 to 18446744073709551615 at byte 10",
+        ),
+        (
+            "(((((((((((((((((fragment)))))))))))))))))",
+            "expected no more than 16 levels of parentheses at byte 16",
+        ),
+    ];
+    for (filter, words) in rows {
+        let mut text = [1; 256];
+        let error = Filter::parse(filter.as_bytes()).err();
+        assert_same(&rt, words, display_text(&error, &mut text), words.len());
+        check_text(&rt, words, &text);
+    }
+}
+
+/// A text of so many letters x, which are written one by one.
+struct Letters(usize);
+
+impl Display for Letters {
+    fn fmt<W: Write>(&self, f: &mut Formatter<W>) -> std::fmt::Result {
+        for _ in 0..self.0 {
+            f.write_str("x")?;
+        }
+        Ok(())
+    }
+}
+
+/// Checks that the text is 255 letters x and a zero.
+fn check_letters(rt: &impl Abort, text: &[u8; 256]) {
+    let letters = &text[..255];
+    assert_that(rt, "255 bytes", letters.iter().all(|byte| *byte == b'x'));
+    assert_same(rt, "255 bytes", text[255], 0);
+}
+
+#[test]
+fn words_of_255_and_256_bytes(rt: HostRuntime) {
+    let mut text = [1; 256];
+    let len = display_text(&Some(Letters(255)), &mut text);
+    assert_same(&rt, "255 bytes", len, 255);
+    check_letters(&rt, &text);
+    let mut text = [1; 256];
+    let len = display_text(&Some(Letters(256)), &mut text);
+    assert_same(&rt, "256 bytes", len, 0);
+    check_text(&rt, "", &text);
 }

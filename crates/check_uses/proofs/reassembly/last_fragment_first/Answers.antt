@@ -10,17 +10,17 @@ copy_from_slice-requires c =
     let bytes : c.in-Some.bytes.now ≡ c.args.first.now ++ c.args.last.now = same_Some c.in-Some.bytes.now (c.args.first.now ++ c.args.last.now) (whole_from_both c.unwrap-start.result c.args.offset (min (length c.args.buffer.now) 65535) c.args.first.now c.args.last.now (Some c.in-Some.bytes.now)
     (made_offset c.try_new.result c.unwrap-start.result 0 c.unwrap-start.ensures c.try_new.ensures.value) c.requires.some c.requires.units (omega (arith, c.requires.room, c.requires.short))
     (c.in-Some.ensures.pieces (c.args.first.now ++ c.args.last.now) (two_fragments c.unwrap-start.result c.args.offset c.args.first.now c.args.last.now) (two_fragments c.unwrap-start.result c.args.offset c.args.first.now c.args.last.now) (min (length c.args.buffer.now) 65535) false
-    (c.add-2.ensures.given (min (length c.args.buffer.now) 65535) false (fragment_at c.args.offset false c.args.last.now ∷ []) (c.add.ensures.given (min (length c.args.buffer.now) 65535) false [] c.new-reassembly.ensures)))) in
+    (c.add-2.ensures.given (min (length c.args.buffer.now) 65535) false (fragment_at c.args.offset false c.args.last.now ∷ []) (c.add.ensures.given (min (length c.args.buffer.now) 65535) false [] c.new-reassembly.ensures.given)))) in
     c.requires.size ∙ (sym (length-append c.args.first.now c.args.last.now) ∙ sym (ap length bytes))
 
 pub unreachable-requires : goal.unreachable-requires
 unreachable-requires c = none-some (c.args.first.now ++ c.args.last.now) (whole_from_both c.unwrap-start.result c.args.offset (min (length c.args.buffer.now) 65535) c.args.first.now c.args.last.now None
     (made_offset c.try_new.result c.unwrap-start.result 0 c.unwrap-start.ensures c.try_new.ensures.value) c.requires.some c.requires.units (omega (arith, c.requires.room, c.requires.short))
     (c.in-None.ensures.pieces (c.args.first.now ++ c.args.last.now) (two_fragments c.unwrap-start.result c.args.offset c.args.first.now c.args.last.now) (two_fragments c.unwrap-start.result c.args.offset c.args.first.now c.args.last.now) (min (length c.args.buffer.now) 65535) false
-    (c.add-2.ensures.given (min (length c.args.buffer.now) 65535) false (fragment_at c.args.offset false c.args.last.now ∷ []) (c.add.ensures.given (min (length c.args.buffer.now) 65535) false [] c.new-reassembly.ensures))))
+    (c.add-2.ensures.given (min (length c.args.buffer.now) 65535) false (fragment_at c.args.offset false c.args.last.now ∷ []) (c.add.ensures.given (min (length c.args.buffer.now) 65535) false [] c.new-reassembly.ensures.given))))
 
 pub returns : goal.returns
 returns c = c.copy_from_slice.ensures.after ∙ same_Some c.in-Some.bytes.now (c.args.first.now ++ c.args.last.now) (whole_from_both c.unwrap-start.result c.args.offset (min (length c.args.buffer.now) 65535) c.args.first.now c.args.last.now (Some c.in-Some.bytes.now)
     (made_offset c.try_new.result c.unwrap-start.result 0 c.unwrap-start.ensures c.try_new.ensures.value) c.requires.some c.requires.units (omega (arith, c.requires.room, c.requires.short))
     (c.in-Some.ensures.pieces (c.args.first.now ++ c.args.last.now) (two_fragments c.unwrap-start.result c.args.offset c.args.first.now c.args.last.now) (two_fragments c.unwrap-start.result c.args.offset c.args.first.now c.args.last.now) (min (length c.args.buffer.now) 65535) false
-    (c.add-2.ensures.given (min (length c.args.buffer.now) 65535) false (fragment_at c.args.offset false c.args.last.now ∷ []) (c.add.ensures.given (min (length c.args.buffer.now) 65535) false [] c.new-reassembly.ensures))))
+    (c.add-2.ensures.given (min (length c.args.buffer.now) 65535) false (fragment_at c.args.offset false c.args.last.now ∷ []) (c.add.ensures.given (min (length c.args.buffer.now) 65535) false [] c.new-reassembly.ensures.given))))

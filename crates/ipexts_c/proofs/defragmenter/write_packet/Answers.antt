@@ -2,7 +2,7 @@ use Rattle.std.proofs.Common.{◌≡◌, ℕ, ◌+◌, ◌++◌, length, drop, s
 use Rattle.std.specs.Prelude.{Ok}
 use Rattle.ip_defragmenter.specs.Ecn.{is_congested, marked}
 use Rattle.ip_defragmenter.specs.Whole.{whole_packet}
-use Rattle.ipexts_c.proofs.defragmenter.wolfaren_write_whole_packet.Goals as goal
+use Rattle.ipexts_c.proofs.defragmenter.write_packet.Goals as goal
 
 pub returns-in-Ok-Some-clause-written : goal.returns-in-Ok-Some-clause-written
 returns-in-Ok-Some-clause-written c = λ s f payload h whole first is.

@@ -1,4 +1,5 @@
-"""Puts the shared libraries into the wheel if WOLFAREN_LIB_DIR names their directory. The rest is in pyproject.toml."""
+"""Puts the shared libraries into the wheel if WOLFAREN_LIB_DIR names their directory, for the machine that they are built for.
+The rest is in pyproject.toml."""
 
 import os
 import re
@@ -14,6 +15,8 @@ HEADERS = {"libwolfaren": "wolfaren.h", "libwolfaren-pcap": "wolfaren-pcap.h"}
 # The libraries that a manylinux wheel may need (PEP 600, and the policies of auditwheel), and the oldest glibc that is named.
 EVERYWHERE = re.compile(r"(?:libc|libm|libgcc_s|ld-linux-[\w-]+)\.so\.\d|lib(?:dl|rt|z)\.so\.[12]|libpthread\.so\.0")
 LEAST_GLIBC = (2, 17)
+# The machines by the numbers in ELF headers, at byte 18.
+MACHINES = {62: "x86_64", 183: "aarch64"}
 
 
 def libraries():
@@ -35,18 +38,29 @@ class BuildWithLibraries(build_py):
             shutil.copy(os.path.join(FOLDER, name), os.path.join(self.build_lib, "wolfaren", name))
 
 
-def platform_of(linux):
-    """Returns the tag for the machine of `linux`: with the glibc that the libraries need if they need nothing else."""
+def machine():
+    """Returns the machine of the libraries."""
+    found = set()
+    for name in libraries():
+        with open(os.path.join(FOLDER, name), "rb") as it:
+            found.add(MACHINES[int.from_bytes(it.read(20)[18:], "little")])
+    (one,) = found
+    return one
+
+
+def platform():
+    """Returns the tag for the machine of the libraries: with the glibc that they need if they need nothing else."""
+    linux = f"linux_{machine()}"
     try:
-        said = "".join(subprocess.run(["objdump", "-p", os.path.join(FOLDER, it)], capture_output=True, text=True, check=True).stdout
-                       for it in libraries())
+        said = "".join(subprocess.run(["readelf", "--dynamic", "--version-info", os.path.join(FOLDER, it)], capture_output=True,
+                                      text=True, check=True, env={**os.environ, "LC_ALL": "C"}).stdout for it in libraries())
     except (OSError, subprocess.CalledProcessError):
         return linux
-    needed, versions = re.findall(r"NEEDED +(\S+)", said), re.findall(r"\bGLIBC_(\w[\w.]*)", said)
+    needed, versions = re.findall(r"\(NEEDED\).*\[(\S+)\]", said), re.findall(r"\bName: GLIBC_(\w[\w.]*)", said)
     if not all(map(EVERYWHERE.fullmatch, needed)) or not all(re.fullmatch(r"\d+(?:\.\d+)+", it) for it in versions):
         return linux
     most = max([LEAST_GLIBC, *(tuple(map(int, it.split(".")[:2])) for it in versions)])
-    return linux.replace("linux", "manylinux_%d_%d" % most, 1)
+    return "many" + linux.replace("_", "_%d_%d_" % most, 1)
 
 
 class WheelForMachine(bdist_wheel):
@@ -57,7 +71,7 @@ class WheelForMachine(bdist_wheel):
         self.root_is_pure = not FOLDER
 
     def get_tag(self):
-        return ("py3", "none", platform_of(super().get_tag()[2])) if FOLDER else super().get_tag()
+        return ("py3", "none", platform()) if FOLDER else super().get_tag()
 
 
 setup(cmdclass={"build_py": BuildWithLibraries, "bdist_wheel": WheelForMachine})

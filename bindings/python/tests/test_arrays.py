@@ -1,4 +1,4 @@
-"""Tests of the calls for many packets, which need numpy, against those for one packet."""
+"""Tests of the calls for many packets, which need numpy, against those for one packet. Columns of pandas are passed too."""
 
 import inspect
 import json
@@ -12,6 +12,7 @@ import time
 import unittest
 
 import numpy
+import pandas
 
 from support import LATER_FRAGMENT, PACKETS, TCP, UDP, authentication, capture, ethernet, fragment, ipv4, ipv6, ipv6_chain, write
 
@@ -101,6 +102,9 @@ class AsSingleCalls(unittest.TestCase):
             one, two, three = columns[name].tolist()
             self.assertEqual(numpy.diff(columns[name]).tolist(), [two - one, three - two], name)
         self.assertEqual(numpy.diff(columns["payload_offset"]).tolist(), [16, -8])
+        array = dissect_many(*joined([ipv6(44, fragment(17, 0, 1, it) + UDP) for it in [7, 5]]))
+        self.assertEqual(numpy.diff(array["identification"].astype("i8")).tolist(), [-2])
+        self.assertIn('`array["identification"].astype("i8")`', inspect.getdoc(dissect_many))
 
     def test_random_packets(self):
         for seed, gap in [(1, b""), (2, b"\x60\x00\x00")]:
@@ -158,9 +162,11 @@ class Arguments(unittest.TestCase):
             many = dissect_many(buffer, numpy.array(offsets, dtype), tuple(lengths))
             self.assertEqual(many.tobytes(), wanted.tobytes())
         unmasked = numpy.ma.array(offsets, mask=[False] * len(offsets))
-        objects = numpy.array(offsets, object)  # as pandas' Int64 becomes
-        for kind in [unmasked, objects]:
+        columns = pandas.DataFrame({"offset": offsets, "length": lengths}, dtype="Int64")  # may have missing values, but has none
+        for kind in [unmasked, columns["offset"], columns["offset"].array]:
             self.assertEqual(dissect_many(buffer, kind, lengths).tobytes(), wanted.tobytes())
+        self.assertEqual(dissect_many(buffer, columns["offset"], columns["length"]).tobytes(), wanted.tobytes())
+        self.assertEqual(dissect_many(buffer, columns["offset"][:0], columns["length"][:0]).tobytes(), b"")
         every = numpy.array(list(zip(offsets, lengths)))
         self.assertEqual(dissect_many(buffer, every[:, 0], every[:, 1]).tobytes(), wanted.tobytes())
 
@@ -186,9 +192,11 @@ class Arguments(unittest.TestCase):
                 self.assertEqual(raised.exception.offset, int(offsets[0]))
 
     def test_wrong(self):
-        masked = numpy.ma.array([0, 1], mask=[False, True])
+        masked, missing = numpy.ma.array([0, 1], mask=[False, True]), pandas.Series([0, pandas.NA], dtype="Int64")
         for call, state in self.calls():
-            for offsets, lengths in [(masked, [1, 1]), ([0, 1], masked), ([0, None], [1, 1]), ([0.0], [1]), ([0], ["1"]), ([[0]], [[1]]), (0, 1), ([2**70], [1]), ([True], [True])]:
+            for offsets, lengths in [(masked, [1, 1]), ([0, 1], masked), (missing, [1, 1]), ([0, 1], missing), (missing.array, [1, 1]),
+                                     ([0, pandas.NA], [1, 1]), ([0, None], [1, 1]), ([0.0], [1]), ([0], ["1"]), ([[0]], [[1]]), (0, 1),
+                                     ([2**70], [1]), ([True], [True])]:
                 with self.assertRaises(TypeError):
                     call(b"12", offsets, lengths)
             with self.assertRaises(ValueError):

@@ -1,10 +1,11 @@
 """Tests of what the package is made of: the declared calls, the libraries that it refuses, and its wheel."""
 
-import enum
+import copy
 import glob
 import importlib.util
 import inspect
 import os
+import pickle
 import re
 import shutil
 import subprocess
@@ -19,6 +20,7 @@ import wolfaren
 from wolfaren import Statistics
 from wolfaren._library import ffi, file_of, lib
 from wolfaren._statistics import _Field
+from wolfaren.distributed import Counted
 
 DISSECT = "import wolfaren; print(wolfaren.dissect(bytes.fromhex('%s')).payload_number)" % ("60" + "00" * 5 + "11" + "00" * 33)
 LIBRARY, PCAP_LIBRARY = file_of("libwolfaren", "wolfaren.h"), file_of("libwolfaren-pcap", "wolfaren-pcap.h")
@@ -95,13 +97,43 @@ class Types(unittest.TestCase):
 
 class Documentation(unittest.TestCase):
     def test_sharing(self):
-        """The documentation of each class says what threads, a fork and pickling do to its objects."""
-        named = [getattr(wolfaren, it) for it in wolfaren.__all__]
-        classes = [it for it in named if inspect.isclass(it) and not issubclass(it, (enum.Enum, Exception))]
-        self.assertGreater(len(classes), 9)
-        for it in classes:
-            for word in ["hreads", "fork", "pickled", "copied"]:
-                self.assertIn(word, inspect.getdoc(it), it)
+        """The documentation of each class says what threads, a fork and pickling do to its objects, and the README says so too."""
+        named = {it: getattr(wolfaren, it) for it in wolfaren.__all__} | {"distributed.Counted": Counted}
+        classes = {name: it for name, it in named.items() if inspect.isclass(it)}
+        self.assertGreater(len(classes), 23)
+        with open(f"{ROOT}/bindings/python/README.md", encoding="utf-8") as it:
+            (table,) = re.findall(r"^\| Objects \| Shared by threads \| After a fork \| Pickled, copied \|\n((?:\|.*\n)+)", it.read(), re.M)
+        self.assertEqual(sorted(re.findall(r"`(\w*\.?[A-Z]\w*)`", table)), sorted(classes))
+        for name, it in classes.items():
+            self.assertRegex(it.__doc__, r"(?s)\b[Tt]hreads\b.*\bfork\b.*\bpickled\b.*\bcopied\b", name)
+
+    def test_no_length(self):
+        """The documentation of each call that dissects names the field that says whether the packet states its length."""
+        with open(f"{ROOT}/include/wolfaren.h", encoding="utf-8") as it:
+            comments = re.findall(r"/\*\n((?: \*.*\n)+?) \*/\n(?:WOLFAREN_USE_RESULT\n)?\w+ (\w+)\(", it.read())
+        with open(f"{ROOT}/bindings/rust/src/dissection.rs", encoding="utf-8") as it:
+            rust = re.search(r"((?:^///.*\n)+)(?:^#.*\n)*^pub struct Dissection\b", it.read(), re.M)[1]
+        said = {name: comment for comment, name in comments}
+        fields = [(said["wolfaren_dissect"], "`stated_len`"), (said["wolfaren_parse_packet"], "`packet->len_source`"),
+                  (said["wolfaren_find_payload"], "`payload->len_source`"), (rust, "[`stated_len`](Self::stated_len)")]
+        fields += [(inspect.getdoc(it), "`stated_len`") for it in [wolfaren.dissect, wolfaren.dissect_many, wolfaren.table]]
+        for text, field in fields:
+            text = re.sub(r"\s+(?:\*|///)?\s*", " ", text)
+            self.assertRegex(text, "states? no length|no length is stated")
+            self.assertRegex(text, r"\btests? (?:its )?" + re.escape(field))
+
+
+class Errors(unittest.TestCase):
+    def test_errors(self):
+        """`repr` of an error shows what it was made of, and so does that of a copy."""
+        errors = [(wolfaren.FilterError("headers", 7, "a number"), "FilterError('headers', 7, 'a number')"),
+                  (wolfaren.RewriteError(wolfaren.Refusal.MISSING), "RewriteError(<Refusal.MISSING: 2>)"),
+                  (wolfaren.SpanError(3, 40, 8, 44), "SpanError(3, 40, 8, 44)"),
+                  (wolfaren.CaptureError("one.pcap", "cut"), "CaptureError('one.pcap', 'cut')"),
+                  (wolfaren.CaptureWarning("cut"), "CaptureWarning('cut')")]
+        for error, shown in errors:
+            for it in [error, copy.copy(error), copy.deepcopy(error), pickle.loads(pickle.dumps(error))]:
+                self.assertEqual((repr(it), str(it), vars(it)), (shown, str(error), vars(error)))
 
 
 class Libraries(unittest.TestCase):

@@ -1,6 +1,6 @@
 use crate::err::AllocError;
 use crate::library;
-use alloc::boxed::Box;
+use core::fmt;
 
 /// What became of a packet that a [`Defragmenter`] got.
 #[derive(Clone, Copy, Debug, PartialEq, Eq, Hash)]
@@ -13,7 +13,7 @@ pub struct Added {
     pub loss: Option<Loss>,
 }
 
-/// What became of a packet.
+/// What became of a packet. `Display` says it in words.
 #[derive(Clone, Copy, Debug, PartialEq, Eq, Hash)]
 pub enum Outcome {
     /// It is no fragment, or an atomic one, which is a packet by itself (RFC 6946).
@@ -26,7 +26,7 @@ pub enum Outcome {
     Dropped(DropReason),
 }
 
-/// Why a fragment was dropped.
+/// Why a fragment was dropped. `Display` says it in words.
 #[derive(Clone, Copy, Debug, PartialEq, Eq, Hash)]
 pub enum DropReason {
     /// Its extension headers are truncated or faulty (RFC 7112).
@@ -53,12 +53,12 @@ pub enum DropReason {
     MixedEcn,
 }
 
-/// Why a packet was given up.
+/// Why a packet was given up. `Display` says it in words.
 #[derive(Clone, Copy, Debug, PartialEq, Eq, Hash)]
 pub enum Loss {
     /// It wasn't whole at the timeout after its first fragment (RFC 8200, section 4.5).
-    TimedOut,
-    /// Another packet needed its slot, and it was the oldest.
+    TimedOut = 1,
+    /// All slots were in use, and it had its slot longest.
     Displaced,
 }
 
@@ -89,6 +89,12 @@ impl Outcome {
             .unwrap_or(Outcome::NotFragment)
     }
 
+    /// Returns the code of the outcome.
+    fn code(self) -> u8 {
+        let place = Outcome::ALL.iter().position(|other| *other == self);
+        place.unwrap_or_default() as u8
+    }
+
     /// Whether each packet with this outcome has a slot.
     fn has_slot(self) -> bool {
         matches!(
@@ -105,13 +111,33 @@ impl Outcome {
     }
 }
 
+impl fmt::Display for Outcome {
+    fn fmt(&self, f: &mut fmt::Formatter<'_>) -> fmt::Result {
+        let mut room = [0; library::TEXT_ROOM];
+        f.write_str(library::outcome_text(self.code(), &mut room))
+    }
+}
+
+impl fmt::Display for DropReason {
+    fn fmt(&self, f: &mut fmt::Formatter<'_>) -> fmt::Result {
+        Outcome::Dropped(*self).fmt(f)
+    }
+}
+
+impl fmt::Display for Loss {
+    fn fmt(&self, f: &mut fmt::Formatter<'_>) -> fmt::Result {
+        let mut room = [0; library::TEXT_ROOM];
+        f.write_str(library::loss_text(*self as u8, &mut room))
+    }
+}
+
 /// Makes packets whole from their fragments, which may arrive in any order, and repeated. Needs the feature `alloc`.
 ///
 /// A packet that isn't whole 60 seconds after its first fragment, or at another [timeout](Defragmenter::with_timeout), is given
-/// up when its next fragment arrives, or another packet needs its slot. Of more than 8 slots, 8 are for packets with the same
-/// hash; if all of these are in use, the oldest packet is given up. After an overlap or two ends, all further fragments of the
-/// packet are dropped (RFC 5722), and likewise if only some are ECN-capable. If one is marked with congestion, so is the whole
-/// packet (RFC 3168, section 5.3).
+/// up when its next fragment arrives, or another packet needs its slot. Another packet is given up only if all slots are in use:
+/// the one that has had its slot longest. After an overlap or two ends, all further fragments of the packet are dropped (RFC
+/// 5722), and likewise if only some are ECN-capable. If one is marked with congestion, so is the whole packet (RFC 3168, section
+/// 5.3).
 ///
 /// ```
 /// use std::hash::{BuildHasher, RandomState};
@@ -133,17 +159,14 @@ impl Outcome {
 /// assert_eq!(defragmenter.count(Outcome::Whole), 1);
 /// ```
 pub struct Defragmenter {
-    slots: Box<[library::Slot]>,
-    memories: Box<[library::PacketMemory]>,
-    counts: library::DefragmenterCounts,
-    settings: library::DefragmenterSettings,
+    memory: library::DefragmenterMemory,
 }
 
-impl core::fmt::Debug for Defragmenter {
-    fn fmt(&self, formatter: &mut core::fmt::Formatter<'_>) -> core::fmt::Result {
+impl fmt::Debug for Defragmenter {
+    fn fmt(&self, formatter: &mut fmt::Formatter<'_>) -> fmt::Result {
         formatter
             .debug_struct("Defragmenter")
-            .field("slots", &self.slots.len())
+            .field("slots", &self.memory.slots())
             .finish_non_exhaustive()
     }
 }
@@ -159,7 +182,7 @@ impl Defragmenter {
     /// Returns a defragmenter for at most this many incomplete packets at once. `seed` should be two random numbers that
     /// senders don't know.
     ///
-    /// It allocates 72 KB for each slot as zeros, of which a system with virtual memory uses only the pages that packets need.
+    /// It allocates 73 KB for each slot as zeros, of which a system with virtual memory uses only the pages that packets need.
     ///
     /// # Panics
     ///
@@ -175,23 +198,16 @@ impl Defragmenter {
     ///
     /// If memory isn't there for so many slots, or they would take more bytes than an address can count.
     pub fn try_new(slots: usize, seed: [u64; 2]) -> Result<Defragmenter, AllocError> {
-        let error = AllocError { slots };
-        let memories = library::try_zeroed(slots).ok_or(error.clone())?;
-        Ok(Defragmenter {
-            slots: library::try_zeroed(slots).ok_or(error)?,
-            memories,
-            counts: library::DefragmenterCounts::default(),
-            settings: library::DefragmenterSettings {
-                seed,
-                timeout: Defragmenter::DEFAULT_TIMEOUT,
-            },
-        })
+        let memory = library::DefragmenterMemory::try_new(slots, seed);
+        memory
+            .map(|memory| Defragmenter { memory })
+            .ok_or(AllocError { slots })
     }
 
     /// Returns the defragmenter with another timeout: packets that aren't whole after so many nanoseconds are given up.
     #[must_use]
     pub fn with_timeout(mut self, nanoseconds: u64) -> Defragmenter {
-        self.settings.timeout = nanoseconds;
+        self.memory.set_timeout(nanoseconds);
         self
     }
 
@@ -204,15 +220,7 @@ impl Defragmenter {
     /// Adds a packet as [`add`](Defragmenter::add) does, which arrived in this context: any number for an interface, a VLAN or
     /// both. Fragments of different contexts are never joined; `add` has the context 0.
     pub fn add_in(&mut self, context: u32, nanoseconds: u64, bytes: &[u8]) -> Added {
-        let added = library::defragment(
-            &mut self.slots,
-            &mut self.memories,
-            &mut self.counts,
-            &self.settings,
-            context,
-            nanoseconds,
-            bytes,
-        );
+        let added = self.memory.add(context, nanoseconds, bytes);
         let outcome = Outcome::with_code(added.outcome);
         Added {
             outcome,
@@ -227,23 +235,21 @@ impl Defragmenter {
 
     /// Gives up the packets that aren't whole after the timeout, as of this time, in nanoseconds. Returns how many there were.
     pub fn give_up(&mut self, nanoseconds: u64) -> usize {
-        let (counts, timeout) = (&mut self.counts, self.settings.timeout);
-        let slots = self.slots.iter_mut();
-        slots
-            .filter_map(|slot| library::give_up(slot, counts, timeout, nanoseconds).then_some(()))
+        (0..self.memory.slots())
+            .filter(|slot| self.memory.give_up(*slot, nanoseconds))
             .count()
     }
 
     /// Writes the whole packet of a slot to the start of `out`, and returns its length in bytes. Returns `None`, and writes
     /// nothing, if there is no such slot, its packet isn't whole, or `out` is too short.
     pub fn write(&self, slot: usize, out: &mut [u8]) -> Option<usize> {
-        library::write_whole_packet(self.memories.get(slot)?, out)
+        self.memory.write(slot, out)
     }
 
     /// Returns how many packets had this outcome. Stops at `u64::MAX`.
     #[must_use]
     pub fn count(&self, outcome: Outcome) -> u64 {
-        let counts = Outcome::ALL.iter().zip(&self.counts.outcomes);
+        let counts = Outcome::ALL.iter().zip(&self.memory.counts().outcomes);
         counts
             .filter(|(other, _)| **other == outcome)
             .map(|(_, count)| *count)
@@ -254,8 +260,8 @@ impl Defragmenter {
     #[must_use]
     pub fn lost(&self, loss: Loss) -> u64 {
         match loss {
-            Loss::TimedOut => self.counts.losses[1],
-            Loss::Displaced => self.counts.losses[2],
+            Loss::TimedOut => self.memory.counts().losses[1],
+            Loss::Displaced => self.memory.counts().losses[2],
         }
     }
 }

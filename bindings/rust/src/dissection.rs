@@ -13,6 +13,9 @@ use crate::{
 /// contrast to `IpSlice`, no header follows a fragment header with a non-zero offset, nor an IPv4 header with one: the
 /// bytes there are from the middle of a payload, and their sender could write anything.
 ///
+/// A packet whose length field is 0 states no length, and all bytes after its headers are its payload: before you trust a
+/// dissection, test [`stated_len`](Self::stated_len), which is then `None`.
+///
 /// ```
 /// use wolfaren::{Dissection, End, FragmentKind};
 ///
@@ -34,7 +37,8 @@ pub struct Dissection<'a> {
     /// The base header, if the bytes start with a complete one.
     pub base: Option<BaseHeader<'a>>,
     /// The length of the packet in bytes as the base header states it. It is `None` if the length field is 0, as in a
-    /// jumbogram (RFC 2675) or a packet captured before segmentation offload.
+    /// jumbogram (RFC 2675) or a packet captured before segmentation offload. A host may drop such a packet or find it
+    /// empty.
     pub stated_len: Option<usize>,
     /// The bytes of the extension headers.
     pub extensions: &'a [u8],

@@ -42,13 +42,14 @@ impl Filter {
     /// | `icmp`, `icmp6` | ICMP (1) follows the headers of an IPv4 packet, ICMP for IPv6 (58) those of an IPv6 packet; after `leads-to`, the number alone counts |
     /// | `fragment`, `first-fragment`, `later-fragment` | the packet is such a fragment, and not an atomic one |
     /// | `truncated` | a header is truncated |
-    /// | `truncated LAYER` | a header of this layer is truncated: `IP-header`, `IPv4-header`, `IPv4-packet`, `authentication`, `IPv6-header`, `IPv6-packet`, `IPv6-extension`, `hop-by-hop`, `destination-options`, `routing` or `fragment` |
+    /// | `truncated LAYER` | a header of this layer is truncated: `IP-header`, `IPv4-header`, `IPv6-header`, `authentication`, `hop-by-hop`, `destination-options`, `routing`, `fragment`, or `IPv6-extension`, which is any extension header of IPv6 |
     /// | `incomplete` | bytes of the stated length are missing |
     /// | `fault` | a header is faulty |
     /// | `fault KIND` | it is faulty like this: `too-short`, `not-at-start`, `zero-length`, `unsupported-version` or `header-length` |
-    /// | `fault KIND LAYER` | it is, and of this layer |
+    /// | `fault KIND LAYER` | it is, and of this layer, which can have the fault: `IPv4-packet`, an extension header or `IPv6-extension` after `too-short`, `hop-by-hop` after `not-at-start`, `authentication` after `zero-length`, `IP-header` after `unsupported-version`, `IPv4-header` after `header-length`; `IPv6-extension` after the second and the third too |
     /// | `headers OP N`, `chain-bytes OP N`, `payload OP N` | the number of extension headers, their length in bytes or the number of payload bytes compares so; `OP` is `=`, `!=`, `<`, `<=`, `>` or `>=` |
-    /// | `length OP N` | the length that the IP header states compares so; false if it states none |
+    /// | `length OP N` | the length that the IP header states compares so, or the number of bytes there if it states none |
+    /// | `no-length` | the IP header states length 0, although bytes follow it; a jumbo payload option doesn't count |
     /// | `hop-limit OP N`, `ttl OP N` | the hop limit, or IPv4's time to live, compares so |
     /// | `dscp OP N`, `ecn OP N` | the differentiated services code point, or the explicit congestion notification, compares so |
     /// | `flow OP N` | the flow label compares so; false of IPv4 packets |
@@ -60,7 +61,7 @@ impl Filter {
     /// | `src NET`, `dst NET`, `net NET` | the source, the destination or one of them is in this network: an address, or a prefix such as `2001:db8::/32` |
     /// | `host A` | the source or the destination is this address |
     /// | `src port P`, `dst port P`, `port P` | the source port, the destination port or one of them is in this range: a port, or a range such as `1024-65535` |
-    /// | `no-transport` | the payload should start with ports, but is too short for both |
+    /// | `no-transport` | the payload should start with an upper-layer header, but lacks part of it |
     /// | `icmp-type T`, `icmp-code N` | the payload of an IPv4 packet is an ICMP message of this type or with this code; `T` is a number, or a name of libpcap's such as `icmp-echo` |
     /// | `icmp6-type T`, `icmp6-code N` | the payload of an IPv6 packet is a message of ICMP for IPv6 of this type or with this code; `T` may be a name such as `icmp6-echo` |
     /// | `tcp-flags LIST`, `tcp-flags LIST/LIST` | these flags of TCP are set; of those after the slash, exactly these. `LIST` is a flag or several with commas between: `fin`, `syn`, `rst`, `psh`, `ack`, `urg`, `ece`, `cwr` |

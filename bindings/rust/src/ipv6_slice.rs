@@ -43,7 +43,7 @@ impl<'a> Ipv6Slice<'a> {
         Self::of_answer(library::parse_packet, slice)
     }
 
-    /// Parses an IPv6 packet that may be truncated, as in a capture. If the IPv6 header is valid but there are fewer
+    /// Parses an IPv6 packet whose payload may be truncated. For captured packets use `Dissection`. If the IPv6 header is valid but there are fewer
     /// bytes than the payload length states, the packet extends to the end of the slice, and the payload's `len_source`
     /// is `LenSource::Slice`. Otherwise the result is that of `from_slice`.
     ///

@@ -3,8 +3,8 @@
 //! The parsing is done by a static library that is formally verified: it finds where headers, chains and the parts of a
 //! packet lie, which protocol number and bytes follow, and any error. This package wraps it in the types and names of
 //! etherparse 0.19. It doesn't need `std`, and reads the fields of parsed headers itself. Parsing packets allocates
-//! no memory; with the feature `alloc`, which is on by default, `Ipv6ExtensionsBuilder` builds and writes chains, and a
-//! `Filter` keeps its text.
+//! no memory; with the feature `alloc`, which is on by default, `Ipv6ExtensionsBuilder` builds and writes chains, a
+//! `Filter` keeps its text, and a `Defragmenter` has its slots.
 //!
 //! ```
 //! use wolfaren::{err::ip::SliceError, IpSlice};

@@ -5,12 +5,14 @@
 use crate::err::SpanError;
 use crate::{PacketSpan, Statistics};
 #[cfg(feature = "alloc")]
-use alloc::alloc::{alloc_zeroed, Layout};
-#[cfg(feature = "alloc")]
-use alloc::boxed::Box;
+use alloc::alloc::{alloc_zeroed, dealloc, Layout};
 #[cfg(feature = "alloc")]
 use alloc::vec::Vec;
+#[cfg(feature = "alloc")]
+use core::mem::align_of;
 use core::mem::{size_of, MaybeUninit};
+#[cfg(feature = "alloc")]
+use core::ptr::NonNull;
 use core::{ptr, slice};
 
 /// `struct wolfaren_fault`: an error. Fields that don't apply to its kind are 0.
@@ -63,6 +65,7 @@ pub(crate) struct PacketMemory {
     short_head: [u8; 64],
     payload: [u8; 65536],
     head: [u8; 4096],
+    unused: [u8; 912],
 }
 
 /// `struct wolfaren_reassembly`: what has arrived of a payload. All fields are numbers.
@@ -79,7 +82,7 @@ struct Reassembly {
     run_count: u16,
 }
 
-/// `struct wolfaren_defragmenter_counts`: counts of packets by what became of them.
+/// `struct wolfaren_fragment_counts`: counts of packets by what became of them.
 #[cfg(feature = "alloc")]
 #[repr(C)]
 #[derive(Default)]
@@ -94,6 +97,31 @@ pub(crate) struct DefragmenterCounts {
 pub(crate) struct DefragmenterSettings {
     pub seed: [u64; 2],
     pub timeout: u64,
+}
+
+/// `struct wolfaren_links`: lists through the numbers of slots.
+#[cfg(feature = "alloc")]
+#[repr(C)]
+struct Links {
+    next: *mut u32,
+    next_count: usize,
+    previous: *mut u32,
+    previous_count: usize,
+}
+
+/// `struct wolfaren_defragmenter`: a defragmenter, at the start of its memory.
+#[cfg(feature = "alloc")]
+#[repr(C)]
+pub(crate) struct RawDefragmenter {
+    slots: *mut Slot,
+    slot_count: usize,
+    places: u32,
+    ages: Links,
+    chains: Links,
+    memories: *mut PacketMemory,
+    memory_count: usize,
+    counts: *mut DefragmenterCounts,
+    settings: DefragmenterSettings,
 }
 
 /// `struct wolfaren_added`: what became of a packet.
@@ -264,7 +292,7 @@ const _: () = {
 
 /// `WOLFAREN_ABI`: the checksum of the header that this file was written for (`scripts/abi` of the repository).
 #[cfg(all(test, not(miri)))]
-pub(crate) const ABI: u32 = 0xf800_5f5d;
+pub(crate) const ABI: u32 = 0xd6dd_6c91;
 
 unsafe extern "C" {
     fn wolfaren_parse_chain(
@@ -325,6 +353,12 @@ unsafe extern "C" {
 
     fn wolfaren_expected_text(expected: u8, text: *mut u8, room: usize) -> usize;
 
+    fn wolfaren_outcome_text(outcome: u8, text: *mut u8, room: usize) -> usize;
+
+    fn wolfaren_loss_text(loss: u8, text: *mut u8, room: usize) -> usize;
+
+    fn wolfaren_refusal_text(refusal: u8, text: *mut u8, room: usize) -> usize;
+
     fn wolfaren_filter_matches(filter: *const Filter, bytes: *const u8, len: usize) -> bool;
 
     fn wolfaren_filter_packets(
@@ -341,34 +375,39 @@ unsafe extern "C" {
     fn wolfaren_filter_matches_other(filter: *const Filter) -> bool;
 
     #[cfg(feature = "alloc")]
-    fn wolfaren_defragment(
-        slots: *mut Slot,
-        slot_count: usize,
-        memories: *mut PacketMemory,
-        memory_count: usize,
-        counts: *mut DefragmenterCounts,
-        settings: *const DefragmenterSettings,
+    fn wolfaren_defragmenter_size(slots: usize) -> usize;
+
+    #[cfg(feature = "alloc")]
+    fn wolfaren_defragmenter_init(
+        memory: *mut u8,
+        size: usize,
+        seed: *const u64,
+    ) -> *mut RawDefragmenter;
+
+    #[cfg(feature = "alloc")]
+    fn wolfaren_defragmenter_add(
+        defragmenter: *mut RawDefragmenter,
+        context: u32,
         bytes: *const u8,
         len: usize,
-        context: u32,
         time: u64,
         added: *mut Added,
-    ) -> bool;
+    );
 
     #[cfg(feature = "alloc")]
-    fn wolfaren_give_up(
-        slot: *mut Slot,
-        counts: *mut DefragmenterCounts,
-        timeout: u64,
-        time: u64,
-    ) -> bool;
-
-    #[cfg(feature = "alloc")]
-    fn wolfaren_write_whole_packet(
-        memory: *const PacketMemory,
+    fn wolfaren_defragmenter_packet(
+        defragmenter: *const RawDefragmenter,
+        slot: usize,
         out: *mut u8,
         room: usize,
         written: *mut usize,
+    ) -> bool;
+
+    #[cfg(feature = "alloc")]
+    fn wolfaren_defragmenter_give_up(
+        defragmenter: *mut RawDefragmenter,
+        slot: usize,
+        time: u64,
     ) -> bool;
 
     fn wolfaren_without_number(
@@ -614,11 +653,37 @@ pub(crate) fn parse_filter(text: &[u8]) -> Result<Filter, FilterError> {
     Err(unsafe { error.assume_init() })
 }
 
-/// Formats what the text of a filter needs, and returns the text.
-pub(crate) fn expected_text(expected: u8, room: &mut [u8; TEXT_ROOM]) -> &[u8] {
+/// Makes a call that formats a code as text in the room, and returns the text.
+fn text_of(
+    call: unsafe extern "C" fn(u8, *mut u8, usize) -> usize,
+    code: u8,
+    room: &mut [u8; TEXT_ROOM],
+) -> &str {
     // SAFETY: the room is borrowed exclusively, and the call writes at most its length.
-    let len = unsafe { wolfaren_expected_text(expected, room.as_mut_ptr(), room.len()) };
-    &room[..len.min(TEXT_ROOM)]
+    let len = unsafe { call(code, room.as_mut_ptr(), room.len()) };
+    core::str::from_utf8(&room[..len.min(TEXT_ROOM)]).unwrap_or_default()
+}
+
+/// Formats what the text of a filter needs, and returns the text.
+pub(crate) fn expected_text(expected: u8, room: &mut [u8; TEXT_ROOM]) -> &str {
+    text_of(wolfaren_expected_text, expected, room)
+}
+
+/// Formats what became of a packet, and returns the text.
+#[cfg(feature = "alloc")]
+pub(crate) fn outcome_text(outcome: u8, room: &mut [u8; TEXT_ROOM]) -> &str {
+    text_of(wolfaren_outcome_text, outcome, room)
+}
+
+/// Formats why a packet was given up, and returns the text.
+#[cfg(feature = "alloc")]
+pub(crate) fn loss_text(loss: u8, room: &mut [u8; TEXT_ROOM]) -> &str {
+    text_of(wolfaren_loss_text, loss, room)
+}
+
+/// Formats why a packet isn't rewritten, and returns the text.
+pub(crate) fn refusal_text(refusal: u8, room: &mut [u8; TEXT_ROOM]) -> &str {
+    text_of(wolfaren_refusal_text, refusal, room)
 }
 
 /// Returns whether the filter matches the packet at the start of the bytes.
@@ -1105,6 +1170,9 @@ mod tests {
                     .rsplit_once(' ')
                     .expect("a field has a type");
                 let (field, count) = elements(field);
+                if let Some(field) = field.strip_prefix('*') {
+                    return (8, count, field);
+                }
                 let size = match kind {
                     "size_t" | "uint64_t" => 8,
                     "uint32_t" => 4,
@@ -1113,6 +1181,12 @@ mod tests {
                     "struct wolfaren_fault" => size_of::<Fault>(),
                     #[cfg(feature = "alloc")]
                     "struct wolfaren_reassembly" => size_of::<super::Reassembly>(),
+                    #[cfg(feature = "alloc")]
+                    "struct wolfaren_links" => size_of::<super::Links>(),
+                    #[cfg(feature = "alloc")]
+                    "struct wolfaren_defragmenter_settings" => {
+                        size_of::<super::DefragmenterSettings>()
+                    }
                     _ => panic!("{kind} has no size"),
                 };
                 (size, count, field)
@@ -1228,7 +1302,8 @@ mod tests {
     #[test]
     fn structs_of_defragmenters_are_those_of_the_header() {
         use super::{
-            Added, DefragmenterCounts, DefragmenterSettings, PacketMemory, Reassembly, Slot,
+            Added, DefragmenterCounts, DefragmenterSettings, Links, PacketMemory, RawDefragmenter,
+            Reassembly, Slot,
         };
         check!(
             Slot,
@@ -1264,11 +1339,12 @@ mod tests {
             ecn,
             short_head,
             payload,
-            head
+            head,
+            unused
         );
         check!(
             DefragmenterCounts,
-            "wolfaren_defragmenter_counts",
+            "wolfaren_fragment_counts",
             outcomes,
             losses
         );
@@ -1277,6 +1353,27 @@ mod tests {
             "wolfaren_defragmenter_settings",
             seed,
             timeout
+        );
+        check!(
+            Links,
+            "wolfaren_links",
+            next,
+            next_count,
+            previous,
+            previous_count
+        );
+        check!(
+            RawDefragmenter,
+            "wolfaren_defragmenter",
+            slots,
+            slot_count,
+            places,
+            ages,
+            chains,
+            memories,
+            memory_count,
+            counts,
+            settings
         );
         check!(Added, "wolfaren_added", slot, outcome, loss);
     }
@@ -1334,86 +1431,102 @@ mod tests {
     }
 }
 
-/// A struct of numbers, so that zeros are a value of it.
+/// A defragmenter in memory of its own, which is freed with it.
 #[cfg(feature = "alloc")]
-pub(crate) trait Numbers {}
+pub(crate) struct DefragmenterMemory {
+    defragmenter: NonNull<RawDefragmenter>,
+    layout: Layout,
+}
+
+// SAFETY: the memory belongs to this value alone, and the library has no state.
+#[cfg(feature = "alloc")]
+unsafe impl Send for DefragmenterMemory {}
+
+// SAFETY: calls that take `&self` only read the memory.
+#[cfg(feature = "alloc")]
+unsafe impl Sync for DefragmenterMemory {}
 
 #[cfg(feature = "alloc")]
-impl Numbers for Slot {}
-
-#[cfg(feature = "alloc")]
-impl Numbers for PacketMemory {}
-
-/// Returns an array of zeros on the heap, of which nothing is written here, or `None` if there is no memory for it.
-#[cfg(feature = "alloc")]
-pub(crate) fn try_zeroed<T: Numbers>(count: usize) -> Option<Box<[T]>> {
-    let layout = Layout::array::<T>(count).ok()?;
-    if layout.size() == 0 {
-        return Some(Box::new([]));
+impl Drop for DefragmenterMemory {
+    fn drop(&mut self) {
+        // SAFETY: the memory was allocated with this layout, and nothing else refers to it.
+        unsafe { dealloc(self.defragmenter.as_ptr().cast(), self.layout) }
     }
-    // SAFETY: the layout isn't empty. The memory is for `count` values of `T`, of which zeros are one, and is freed with the
-    // same layout when the box is dropped.
-    unsafe {
-        let first: *mut T = alloc_zeroed(layout).cast();
-        if first.is_null() {
-            return None;
+}
+
+#[cfg(feature = "alloc")]
+impl DefragmenterMemory {
+    /// Returns a defragmenter in memory of zeros, of which only some 80 bytes for each slot are written here, or `None` if there
+    /// is no memory for it.
+    pub(crate) fn try_new(slots: usize, seed: [u64; 2]) -> Option<DefragmenterMemory> {
+        // SAFETY: the call has no pointers.
+        let size = unsafe { wolfaren_defragmenter_size(slots) };
+        let layout = Layout::from_size_align(size, align_of::<RawDefragmenter>()).ok()?;
+        // SAFETY: the size isn't 0.
+        let memory = NonNull::new(unsafe { alloc_zeroed(layout) })?;
+        // SAFETY: the memory has this size and is owned. The call only reads the seed, of two numbers.
+        let made = unsafe { wolfaren_defragmenter_init(memory.as_ptr(), size, seed.as_ptr()) };
+        debug_assert_eq!(made.cast(), memory.as_ptr());
+        Some(DefragmenterMemory {
+            defragmenter: memory.cast(),
+            layout,
+        })
+    }
+
+    /// Returns how many packets can be incomplete at once.
+    pub(crate) fn slots(&self) -> usize {
+        // SAFETY: the memory begins with the struct, which the library made.
+        unsafe { self.defragmenter.as_ref() }.slot_count
+    }
+
+    /// Sets after how many nanoseconds packets are given up.
+    pub(crate) fn set_timeout(&mut self, nanoseconds: u64) {
+        // SAFETY: the memory begins with the struct, which the library made, and is borrowed exclusively.
+        unsafe { self.defragmenter.as_mut() }.settings.timeout = nanoseconds;
+    }
+
+    /// Adds the packet at the start of the bytes.
+    pub(crate) fn add(&mut self, context: u32, time: u64, bytes: &[u8]) -> Added {
+        let mut added = Added::default();
+        // SAFETY: the defragmenter is borrowed exclusively. The call only reads the bytes, which are a slice.
+        unsafe {
+            wolfaren_defragmenter_add(
+                self.defragmenter.as_ptr(),
+                context,
+                bytes.as_ptr(),
+                bytes.len(),
+                time,
+                &raw mut added,
+            );
         }
-        Some(Box::from_raw(ptr::slice_from_raw_parts_mut(first, count)))
+        added
     }
-}
 
-/// Adds the packet at the start of the bytes. There are as many memories as slots.
-#[cfg(feature = "alloc")]
-pub(crate) fn defragment(
-    slots: &mut [Slot],
-    memories: &mut [PacketMemory],
-    counts: &mut DefragmenterCounts,
-    settings: &DefragmenterSettings,
-    context: u32,
-    time: u64,
-    bytes: &[u8],
-) -> Added {
-    let mut added = Added::default();
-    // SAFETY: slots, memories and counts are borrowed exclusively. The call only reads the settings, which are borrowed, and
-    // the bytes, which are a slice.
-    let are_as_many = unsafe {
-        wolfaren_defragment(
-            slots.as_mut_ptr(),
-            slots.len(),
-            memories.as_mut_ptr(),
-            memories.len(),
-            counts,
-            settings,
-            bytes.as_ptr(),
-            bytes.len(),
-            context,
-            time,
-            &raw mut added,
-        )
-    };
-    debug_assert!(are_as_many);
-    added
-}
+    /// Gives up the packet of a slot if it isn't whole after the timeout. Returns whether it did.
+    pub(crate) fn give_up(&mut self, slot: usize, time: u64) -> bool {
+        // SAFETY: the defragmenter is borrowed exclusively.
+        unsafe { wolfaren_defragmenter_give_up(self.defragmenter.as_ptr(), slot, time) }
+    }
 
-/// Gives up the packet of a slot if it isn't whole after the timeout. Returns whether it did.
-#[cfg(feature = "alloc")]
-pub(crate) fn give_up(
-    slot: &mut Slot,
-    counts: &mut DefragmenterCounts,
-    timeout: u64,
-    time: u64,
-) -> bool {
-    // SAFETY: slot and counts are borrowed exclusively.
-    unsafe { wolfaren_give_up(slot, counts, timeout, time) }
-}
+    /// Writes the whole packet of a slot to the start of `out`, if there is one and it fits, and returns its length.
+    pub(crate) fn write(&self, slot: usize, out: &mut [u8]) -> Option<usize> {
+        let mut written = 0;
+        // SAFETY: the defragmenter is borrowed, and the call only reads it. `out` is borrowed exclusively.
+        let is_written = unsafe {
+            wolfaren_defragmenter_packet(
+                self.defragmenter.as_ptr(),
+                slot,
+                out.as_mut_ptr(),
+                out.len(),
+                &raw mut written,
+            )
+        };
+        is_written.then_some(written)
+    }
 
-/// Writes the whole packet of a memory to the start of `out`, if there is one and it fits, and returns its length.
-#[cfg(feature = "alloc")]
-pub(crate) fn write_whole_packet(memory: &PacketMemory, out: &mut [u8]) -> Option<usize> {
-    let mut written = 0;
-    // SAFETY: the memory is borrowed, and the call only reads it. `out` is borrowed exclusively.
-    let is_written = unsafe {
-        wolfaren_write_whole_packet(memory, out.as_mut_ptr(), out.len(), &raw mut written)
-    };
-    is_written.then_some(written)
+    /// Returns the counts.
+    pub(crate) fn counts(&self) -> &DefragmenterCounts {
+        // SAFETY: the memory begins with the struct, which the library made. The counts lie in the memory, which is borrowed.
+        unsafe { &*self.defragmenter.as_ref().counts }
+    }
 }

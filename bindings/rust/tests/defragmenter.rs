@@ -114,6 +114,25 @@ fn losses_and_drops() {
 }
 
 #[test]
+fn texts() {
+    let dropped = Outcome::Dropped(DropReason::MixedEcn).to_string();
+    assert_eq!(
+        dropped,
+        "some fragments of the packet are ECN-capable, and others are not"
+    );
+    assert_eq!(DropReason::MixedEcn.to_string(), dropped);
+    assert_eq!(Outcome::Whole.to_string(), "the packet is whole");
+    assert_eq!(
+        Loss::TimedOut.to_string(),
+        "the packet was not whole in time"
+    );
+    assert_eq!(
+        Loss::Displaced.to_string(),
+        "all slots were in use, and the packet was the oldest"
+    );
+}
+
+#[test]
 fn give_up() {
     let mut defragmenter = Defragmenter::new(64, [3, 4]);
     for (time, identification) in (10..).zip(1..=3) {

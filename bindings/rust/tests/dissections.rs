@@ -171,7 +171,7 @@ fn ipv6_truncated_headers() {
     (after[0], after[8], after[9]) = (43, 17, 2);
     let whole = ipv6(32, 0, &after);
     for len in 48..72 {
-        let required = if len < 56 { 8 } else { 24 };
+        let required = if len < 50 { 8 } else { 24 };
         let error = short(Layer::Ipv6ExtHeader, 48, required, len - 48, slice);
         let end = truncated(error, Some(Layer::Ipv6RouteHeader));
         let numbers = (Some(72), 8, 1, 43, len - 48, 72 - len, 0);

@@ -98,11 +98,14 @@ fn ports_after_extension_headers() {
         "port 443",
         "port 50000-50001",
     ];
-    let others = ["src port 50000", "port 444-0xc34f", "no-transport"];
+    let others = ["src port 50000", "port 444-0xc34f"];
     let options = [&[17, 0, 1, 4, 0, 0, 0, 0][..], &PORTS].concat();
     check(&ipv6(16, 60, &options), &matching, &others);
+    check(&ipv6(16, 60, &options), &[], &["no-transport", "no-length"]);
     let first = [&[6, 0, 0, 1, 0, 0, 0, 7][..], &PORTS].concat();
     check(&ipv6(16, 44, &first), &matching, &others);
+    check(&ipv6(16, 44, &first), &["no-transport"], &[]);
+    check(&ipv6(0, 44, &first), &["no-length and length = 56"], &[]);
     let auth = [&[132, 1, 0, 80, 0, 0, 1, 2, 0, 0, 0, 3][..], &PORTS].concat();
     check(&ipv4(51, &auth), &matching, &others);
     let later = [&[17, 0, 0, 8, 0, 0, 0, 7][..], &PORTS].concat();
@@ -345,7 +348,16 @@ fn different_filters() {
             .map(str::to_owned)
             .collect();
     terms.extend(kinds.split(' ').map(|kind| format!("fault {kind}")));
-    terms.extend(["no-transport", "icmp", "icmp6", "leads-to icmp"].map(str::to_owned));
+    terms.extend(
+        [
+            "no-transport",
+            "no-length",
+            "icmp",
+            "icmp6",
+            "leads-to icmp",
+        ]
+        .map(str::to_owned),
+    );
     for name in [
         "src port",
         "dst port",
@@ -491,6 +503,10 @@ fn refused_texts() {
             "{text}"
         );
         assert_eq!(expected.to_string(), words);
+    }
+    for text in ["fault\0", "fault\0 and fragment"] {
+        let error = Filter::parse(text).expect_err("no term has a null byte");
+        assert_eq!(error.offset, 0);
     }
     let error = Filter::parse(&"fault and ".repeat(65)).expect_err("there are 65 terms");
     assert_eq!(

@@ -23,18 +23,17 @@ _LONGEST_TIMEOUT = 2**34
 class Defragmenter:
     """Makes IP packets whole from their fragments, which may arrive in any order, and repeated.
 
-    At most `slots` packets are incomplete at once. A slot needs memory when a packet first has it, at most 72 KB. A packet that
+    At most `slots` packets are incomplete at once. A slot needs memory when a packet first has it, at most 73 KB. A packet that
     isn't whole `timeout` seconds after its first fragment is given up when its next fragment arrives, or another packet needs
-    its slot. Of more than 8 slots, 8 are for packets with the same hash; if all of these are in use, the oldest packet is given
-    up. After an overlap or two ends, all further fragments of the packet are dropped (RFC 5722), and likewise if only some are
-    ECN-capable. If one is marked with congestion, so is the whole packet (RFC 3168, section 5.3).
+    its slot. Another packet is given up only if all slots are in use: the one that has had its slot longest. After an overlap
+    or two ends, all further fragments of the packet are dropped (RFC 5722), and likewise if only some are ECN-capable. If one
+    is marked with congestion, so is the whole packet (RFC 3168, section 5.3).
 
     Threads may share a defragmenter: each call on it is atomic. After a fork, parent and child each have their own. It can't be
     pickled or copied.
     """
 
-    __slots__ = ("_added", "_count", "_counts", "_lock", "_memories", "_out", "_settings", "_slots", "_time_ns",
-                 "_written")
+    __slots__ = ("_added", "_count", "_defragmenter", "_lock", "_memory", "_out", "_time_ns", "_written")
 
     def __init__(self, slots: int = 4096, timeout: float = 60.0) -> None:
         if slots < 1:
@@ -42,17 +41,15 @@ class Defragmenter:
         if not 0 <= timeout <= _LONGEST_TIMEOUT:
             raise ValueError(f"a timeout is a number of seconds from 0 to {_LONGEST_TIMEOUT}")
         self._count = slots
-        self._slots = ffi.new("struct wolfaren_slot[]", slots)
-        size = slots * ffi.sizeof("struct wolfaren_packet_memory")
+        size = lib.wolfaren_defragmenter_size(slots)
         memory = mmap.mmap(-1, size, flags=mmap.MAP_PRIVATE | mmap.MAP_ANONYMOUS)
-        self._memories = ffi.from_buffer("struct wolfaren_packet_memory[]", memory, require_writable=True)
-        self._counts = ffi.new("struct wolfaren_defragmenter_counts *")
+        self._memory = ffi.from_buffer("uint8_t[]", memory, require_writable=True)
+        seed = ffi.new("uint64_t[2]", [secrets.randbits(64), secrets.randbits(64)])
+        self._defragmenter = lib.wolfaren_defragmenter_init(self._memory, size, seed)
+        self._defragmenter.settings.timeout = round(timeout * 10**9)
         self._added = ffi.new("struct wolfaren_added *")
         self._out = ffi.new("uint8_t[]", lib.WOLFAREN_WHOLE_PACKET_ROOM)
         self._written = ffi.new("size_t *")
-        self._settings = ffi.new("struct wolfaren_defragmenter_settings *")
-        self._settings.seed = [secrets.randbits(64), secrets.randbits(64)]
-        self._settings.timeout = round(timeout * 10**9)
         self._lock = new_lock()
         self._time_ns = 0
 
@@ -71,14 +68,12 @@ class Defragmenter:
 
     def _add(self, packet: Buffer, time_ns: int, context: int) -> bytes | None:
         data = ffi.from_buffer(packet)
-        lib.wolfaren_defragment(self._slots, self._count, self._memories, self._count, self._counts, self._settings, data,
-                                len(data), context, time_ns, self._added)
+        lib.wolfaren_defragmenter_add(self._defragmenter, context, data, len(data), time_ns, self._added)
         if self._added.outcome == lib.WOLFAREN_NOT_FRAGMENT:
             return bytes(packet)
         if self._added.outcome != lib.WOLFAREN_WHOLE:
             return None
-        memory = ffi.addressof(self._memories, self._added.slot)
-        if not lib.wolfaren_write_whole_packet(memory, self._out, len(self._out), self._written):
+        if not lib.wolfaren_defragmenter_packet(self._defragmenter, self._added.slot, self._out, len(self._out), self._written):
             return None
         return bytes(ffi.buffer(self._out, self._written[0]))
 
@@ -86,17 +81,16 @@ class Defragmenter:
         """Gives up the packets that aren't whole after the timeout, as of this time. Returns how many there were; `counts` has
         them as `timed_out`."""
         with self._lock:
-            timeout = self._settings.timeout
-            slots = (ffi.addressof(self._slots, index) for index in range(self._count))
-            return sum(lib.wolfaren_give_up(it, self._counts, timeout, time_ns) for it in slots)
+            return sum(lib.wolfaren_defragmenter_give_up(self._defragmenter, slot, time_ns) for slot in range(self._count))
 
     @property
     def counts(self) -> dict[str, int]:
         """How many packets were added, by what became of them, and how many packets were given up, as `timed_out` and
         `displaced`. A count stops at 2**64 - 1."""
         with self._lock:
-            return ({name: self._counts.outcomes[code] for name, code in _OUTCOMES.items()}
-                    | {name: self._counts.losses[code] for name, code in _LOSSES.items()})
+            counts = self._defragmenter.counts
+            return ({name: counts.outcomes[code] for name, code in _OUTCOMES.items()}
+                    | {name: counts.losses[code] for name, code in _LOSSES.items()})
 
     def __reduce__(self) -> NoReturn:
         raise TypeError("a Defragmenter can't be pickled or copied")

@@ -8,7 +8,7 @@ import ipaddress
 from collections.abc import Callable
 from typing import Any, NamedTuple
 
-from ._library import Buffer, ffi, lib, name_of
+from ._library import Buffer, ffi, lib, name_of, text_of
 
 Address = ipaddress.IPv4Address | ipaddress.IPv6Address
 
@@ -27,7 +27,8 @@ _OPTION_HEADERS = [lib.WOLFAREN_HOP_BY_HOP, lib.WOLFAREN_DESTINATION_OPTIONS]
 
 
 class End(enum.IntEnum):
-    """Why the headers of a packet end."""
+    """Why the headers of a packet end. Threads may share the members, which are the same after a fork, and can be
+    pickled and copied."""
 
     PAYLOAD = lib.WOLFAREN_AT_PAYLOAD
     """The payload follows them."""
@@ -40,7 +41,8 @@ class End(enum.IntEnum):
 
 
 class FragmentKind(enum.IntEnum):
-    """Which fragment a packet is."""
+    """Which fragment a packet is. Threads may share the members, which are the same after a fork, and can be
+    pickled and copied."""
 
     NOT_FRAGMENTED = lib.WOLFAREN_NOT_FRAGMENTED
     ATOMIC = lib.WOLFAREN_ATOMIC_FRAGMENT
@@ -51,7 +53,8 @@ class FragmentKind(enum.IntEnum):
 
 
 class FaultKind(enum.IntEnum):
-    """Kinds of error."""
+    """Kinds of error. Threads may share the members, which are the same after a fork, and can be
+    pickled and copied."""
 
     TOO_SHORT = lib.WOLFAREN_TOO_SHORT
     """The layer needs `required_len` bytes from `offset` on, but there are only `len`, as given by `len_source`."""
@@ -66,7 +69,8 @@ class FaultKind(enum.IntEnum):
 
 
 class Layer(enum.IntEnum):
-    """Headers and packets that an error is about."""
+    """Headers and packets that an error is about. Threads may share the members, which are the same after a fork, and can be
+    pickled and copied."""
 
     NONE = lib.WOLFAREN_NO_LAYER
     IP_HEADER = lib.WOLFAREN_IP_HEADER
@@ -85,7 +89,8 @@ class Layer(enum.IntEnum):
 
 
 class LenSource(enum.IntEnum):
-    """Where a length comes from."""
+    """Where a length comes from. Threads may share the members, which are the same after a fork, and can be
+    pickled and copied."""
 
     NONE = lib.WOLFAREN_NO_LEN_SOURCE
     SLICE = lib.WOLFAREN_SLICE
@@ -146,7 +151,8 @@ def _of_values(kind: Callable[..., _Parts], *values: Any) -> _Parts:
 
 
 class UnknownOption(enum.IntEnum):
-    """What a node does with a packet if it doesn't know an option in it (RFC 8200, section 4.2)."""
+    """What a node does with a packet if it doesn't know an option in it (RFC 8200, section 4.2). Threads may share the members,
+    which are the same after a fork, and can be pickled and copied."""
 
     SKIP = lib.WOLFAREN_SKIP_OPTION
     """Skips the option."""
@@ -212,8 +218,7 @@ class ExtensionHeader(_Parts):
     @property
     def fragment_offset(self) -> int | None:
         """Where a fragment header says that the fragment lies in the payload, in bytes."""
-        units = self._field(lib.WOLFAREN_FRAGMENT, "fragment", "fragment_offset")
-        return None if units is None else 8 * units
+        return self._field(lib.WOLFAREN_FRAGMENT, "fragment", "fragment_offset")
 
     @property
     def more_fragments(self) -> bool | None:
@@ -343,17 +348,17 @@ def _fault_of(parts: Any) -> Fault | None:
     fault = parts.fault
     if fault.kind == lib.WOLFAREN_NO_FAULT:
         return None
-    text = ffi.new("char[]", lib.WOLFAREN_TEXT_ROOM)
-    lib.wolfaren_fault_text(ffi.addressof(parts, "fault"), text, len(text))
+    text = text_of(lib.wolfaren_fault_text, ffi.addressof(parts, "fault"))
     return Fault(FaultKind(fault.kind), Layer(fault.header), Layer(fault.layer), fault.offset, fault.required_len, fault.len,
-                 LenSource(fault.len_source), fault.value, ffi.string(text).decode())
+                 LenSource(fault.len_source), fault.value, text)
 
 
 def dissect(packet: Buffer) -> Dissection:
     """Dissects the IP packet at the start of the bytes, which may be any bytes.
 
-    The packet ends where its length field says, or, if that is 0, with the bytes. Its headers are the longest chain
-    within the packet in which nothing follows a fragment header with a non-zero offset. Bytes that don't start with an
+    The packet ends where its length field says. A packet whose length field is 0 states no length, and all bytes after its
+    headers are its payload: before you trust a dissection, test `stated_len`, which is then 0. The headers are the longest
+    chain within the packet in which nothing follows a fragment header with a non-zero offset. Bytes that don't start with an
     IP header are all padding. Nothing is copied, and no bytes are an error: `fault` reports what is wrong with them.
     """
     view = memoryview(packet).toreadonly().cast("B")

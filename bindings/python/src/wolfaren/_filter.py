@@ -6,14 +6,15 @@ from collections.abc import Callable
 from typing import Any
 
 from ._captures import Path, Written, write_matching
-from ._library import Buffer, ffi, lib
+from ._library import Buffer, ffi, lib, text_of
 from ._many import Packets
 
 _TEST_FIELDS = [name for name, _ in ffi.typeof("struct wolfaren_filter_test").fields]
 
 
 class FilterError(ValueError):
-    """A text that isn't a filter."""
+    """A text that isn't a filter. No call changes it: threads may share it, it is the same after a fork, and it can be
+    pickled and copied."""
 
     def __init__(self, text: str, offset: int, expected: str) -> None:
         super().__init__(text, offset, expected)
@@ -43,13 +44,16 @@ class Filter:
                                              packet; after `leads-to`, the number alone
         fragment, first-fragment, later-fragment
         truncated, incomplete
-        truncated LAYER                      LAYER is IP-header, IPv4-header, IPv4-packet, authentication, IPv6-header,
-                                             IPv6-packet, IPv6-extension, hop-by-hop, destination-options, routing or
-                                             fragment
-        fault, fault KIND, fault KIND LAYER  KIND is too-short, not-at-start, zero-length, unsupported-version or
-                                             header-length
+        truncated LAYER                      LAYER is IP-header, IPv4-header, IPv6-header or HEADER; HEADER is hop-by-hop,
+                                             routing, fragment, authentication, destination-options, or IPv6-extension,
+                                             which is any of these in an IPv6 packet
+        fault, fault KIND, fault KIND LAYER  KIND LAYER is too-short HEADER, too-short IPv4-packet, not-at-start hop-by-hop,
+                                             zero-length authentication, unsupported-version IP-header or header-length
+                                             IPv4-header; IPv6-extension after not-at-start and zero-length too
         headers OP N, chain-bytes OP N, payload OP N       OP is =, !=, <, <=, > or >=
-        length OP N                          the length that the IP header states; false if it states none
+        length OP N                          the length that the IP header states, or the bytes that are there if it states none
+        no-length                            the IP header states length 0, although bytes follow it; a jumbo payload option
+                                             doesn't count
         hop-limit OP N, ttl OP N             the hop limit, or IPv4's time to live
         dscp OP N, ecn OP N                  the differentiated services code point; explicit congestion notification
         flow OP N                            the flow label; false of IPv4 packets
@@ -63,7 +67,7 @@ class Filter:
         src NET, dst NET, net NET            NET is an IPv4 or IPv6 address, alone or with a slash and a number of bits
         host A                               A is an IPv4 or IPv6 address
         src port P, dst port P, port P       P is a port or a range such as 1024-65535
-        no-transport                         the payload should start with ports, but is too short for both
+        no-transport                         the payload should start with an upper-layer header, but lacks part of it
         icmp-type T, icmp-code N             the type and the code of an ICMP message of an IPv4 packet; T is a number or a name
         icmp6-type T, icmp6-code N           those of an ICMPv6 message of an IPv6 packet
         tcp-flags LIST, tcp-flags LIST/LIST  these flags of TCP are set; of those after the slash, exactly these. LIST is a
@@ -71,11 +75,11 @@ class Filter:
 
     TCP, UDP, UDP-Lite, SCTP and DCCP have ports. Ports, types, codes and flags of TCP are read from the payload, so
     extension headers may precede them. A later fragment has none, nor has a packet with an error or a truncated header. The
-    terms about fragments hold of an IPv6 packet if they do of one of its fragment headers. The names of types are libpcap's,
-    such as icmp-echo or icmp6-echo.
+    terms about fragments hold of an IPv6 packet if they do of one of its fragment headers.
 
     The names of types are those of libpcap's expressions, such as icmp-echo and icmp6-neighborsolicit; `wolfaren.h` lists
-    them. Numbers are decimal, or hexadecimal after 0x. Raises `FilterError`, a `ValueError`, for any other text.
+    them. Numbers are decimal, or hexadecimal after 0x. Raises `FilterError`, a `ValueError`, for any other text, and
+    `TypeError` for what isn't a text, such as `None`.
 
     Filters are equal if their texts compile to the same program, as `not (fault or truncated)` and
     `not fault and not truncated` do.
@@ -94,7 +98,7 @@ class Filter:
         error = ffi.new("struct wolfaren_filter_error *")
         if not lib.wolfaren_parse_filter(encoded, len(encoded), self._filter, error):
             offset = len(encoded[:error.offset].decode("utf-8", "replace"))
-            raise FilterError(self.text, offset, _expected_text(error.expected))
+            raise FilterError(self.text, offset, text_of(lib.wolfaren_expected_text, error.expected))
 
     @property
     def text(self) -> str:
@@ -157,9 +161,3 @@ class Filter:
 
     def __reduce__(self) -> tuple[Callable[[str], Filter], tuple[str]]:
         return Filter, (self.text,)
-
-
-def _expected_text(code: int) -> str:
-    text = ffi.new("char[]", lib.WOLFAREN_TEXT_ROOM)
-    size = lib.wolfaren_expected_text(code, text, lib.WOLFAREN_TEXT_ROOM)
-    return bytes(ffi.buffer(text, size)).decode("ascii")

@@ -133,3 +133,10 @@ def name_of(find: Any, code: int) -> str:
     name = ffi.new("struct wolfaren_name *")
     find(code, name)
     return bytes(ffi.buffer(name.text, name.size - 1)).decode("ascii")
+
+
+def text_of(call: Any, subject: Any) -> str:
+    """Returns what a call of the library formats as text, such as a fault, or the code of a refusal."""
+    text = ffi.new("char[]", lib.WOLFAREN_TEXT_ROOM)
+    size = call(subject, text, lib.WOLFAREN_TEXT_ROOM)
+    return bytes(ffi.buffer(text, size)).decode("ascii")

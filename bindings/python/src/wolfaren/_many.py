@@ -10,7 +10,7 @@ from ._optional import import_for
 _FORMATS = {"size_t": "u8", "uint64_t": "u8", "int64_t": "i8", "uint32_t": "u4", "int32_t": "i4", "uint16_t": "u2",
             "uint8_t": "u1", "_Bool": "?"}
 
-# The only number of a dissection that may be above those of the signed type of its length.
+# The only number of a dissection that may be above those of the signed type of its length, and so stays unsigned.
 _UNSIGNED = "identification"
 
 # How many packets are passed to the library at a time. In between, Python runs the handlers of signals.
@@ -18,7 +18,8 @@ _TOGETHER = 1 << 11
 
 
 class SpanError(ValueError):
-    """A packet that doesn't lie within the buffer."""
+    """A packet that doesn't lie within the buffer. No call changes it: threads may share it, it is the same after a fork, and it
+    can be pickled and copied."""
 
     def __init__(self, index: int, offset: int, length: int, buffer_length: int) -> None:
         super().__init__(index, offset, length, buffer_length)
@@ -89,7 +90,8 @@ def dissect_many(buffer: Buffer, offsets: Any, lengths: Any) -> Any:
 
     Packet i has the `lengths[i]` bytes of the buffer from `offsets[i]` on. Both are one-dimensional arrays or sequences of
     integers. Packets may overlap. Returns a numpy array with an element for each packet, in order, whose fields are the
-    columns. Their types are signed, so that differences are right, except that of `identification`:
+    columns. Their types are signed, so that differences are right, except that of `identification`: the array is one of the
+    library's structs, in which it has 32 bits without a sign. `array["identification"].astype("i8")` is signed.
 
         base_len                i8   the length of the IP header in bytes, or 0 if there is none
         stated_len              i8   the packet's length in bytes as the IP header states it, or 0 if it states none
@@ -113,7 +115,9 @@ def dissect_many(buffer: Buffer, offsets: Any, lengths: Any) -> Any:
         fragment                i2   which fragment the packet is, a `FragmentKind`
         end                     i2   why the headers end, an `End`
 
-    The column of a name with a dot is `array["fault"]["kind"]`. Numbers that don't apply are 0.
+    The column of a name with a dot is `array["fault"]["kind"]`. Numbers that don't apply are 0. A packet whose length field is
+    0 states no length, and all bytes after its headers are its payload: before you trust a row, test its `stated_len`, which
+    is then 0.
 
     Raises `SpanError`, a `ValueError`, with the index of the first packet that doesn't lie within the buffer, `ValueError` if
     there are more offsets or more lengths, `TypeError` if they aren't integers, or some are masked or missing, and

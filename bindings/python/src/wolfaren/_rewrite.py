@@ -5,11 +5,12 @@ from __future__ import annotations
 import enum
 from typing import Any, NamedTuple
 
-from ._library import Buffer, ffi, lib
+from ._library import Buffer, ffi, lib, text_of
 
 
 class Refusal(enum.IntEnum):
-    """Why a packet isn't rewritten. The first reason that applies is stored in a `RewriteError`."""
+    """Why a packet isn't rewritten. The first reason that applies is stored in a `RewriteError`. Threads may share the members,
+    which are the same after a fork, and can be pickled and copied."""
 
     HEADERS = lib.WOLFAREN_REFUSED_HEADERS
     """There is no IP header, or the headers are truncated or faulty: `dissect` says why."""
@@ -37,30 +38,16 @@ class Refusal(enum.IntEnum):
     """The length field can't state the length."""
 
 
-_TEXTS = {
-    Refusal.HEADERS: "the headers of the packet are truncated or faulty",
-    Refusal.MISSING: "bytes of the packet are missing",
-    Refusal.LATER_FRAGMENT: "the packet is a later fragment",
-    Refusal.NOT_A_HEADER: "the bytes are no extension header for the packet",
-    Refusal.NO_HEADER: "the packet has no such header",
-    Refusal.FRAGMENT_HEADER: "the header is that of a fragment",
-    Refusal.MISPLACED: "the header can't be at this place",
-    Refusal.FRAGMENTED: "the change is in the part that is fragmented",
-    Refusal.AUTHENTICATED: "an authentication header covers the change",
-    Refusal.HEADER_FOLLOWS: "the payload would be read as an extension header",
-    Refusal.NO_LENGTH: "the packet states no length",
-    Refusal.TOO_LONG: "the packet is too long for its length field"}
-
-
 class RewriteError(ValueError):
-    """A packet that can't be rewritten."""
+    """A packet that can't be rewritten. No call changes it: threads may share it, it is the same after a fork, and it can be
+    pickled and copied."""
 
     def __init__(self, refusal: Refusal) -> None:
         super().__init__(refusal)
         self.refusal = refusal
 
     def __str__(self) -> str:
-        return _TEXTS[self.refusal]
+        return text_of(lib.wolfaren_refusal_text, self.refusal)
 
 
 class Rewritten(NamedTuple):

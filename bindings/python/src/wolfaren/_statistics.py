@@ -491,7 +491,8 @@ def _table(value: Any, name: str, most: int) -> dict[str, int]:
 
 class CaptureError(Exception):
     """A capture that can't be read to its end. What a call has made of the packets up to there is in the attribute for its
-    result; the other attributes are `None`, and all of them if the capture can't be opened.
+    result; the other attributes are `None`, and all of them if the capture can't be opened. Threads may share it as they may
+    what is in it, after a fork parent and child each have their own, and it can be pickled and copied.
     """
 
     def __init__(self, path: str, reason: str) -> None:
@@ -514,7 +515,8 @@ class CaptureError(Exception):
 
 class CaptureOSError(CaptureError, OSError):
     """A capture that the system refused to open or to read to its end: `errno` says why. It is also the `OSError` of that
-    number, such as `FileNotFoundError`."""
+    number, such as `FileNotFoundError`. Threads may share it as they may what is in it, after a fork parent and child each have
+    their own, and it can be pickled and copied."""
 
     def __init__(self, path: str, reason: str, errno: int) -> None:
         super().__init__(path, reason)
@@ -525,7 +527,8 @@ class CaptureOSError(CaptureError, OSError):
 
 
 class CaptureWarning(UserWarning):
-    """A capture that can't be read to its end, of which a call returns what is there."""
+    """A capture that can't be read to its end, of which a call returns what is there. No call changes it: threads may share it,
+    it is the same after a fork, and it can be pickled and copied."""
 
 
 @functools.cache

@@ -203,7 +203,7 @@ def table(path: Path, columns: Iterable[str] | None = None, on_error: OnError = 
         payload_number   int16                the protocol number of what follows the headers
         payload_offset   int64                where the payload begins in the packet
         payload_len      int64                how many bytes of the payload, or from a faulty header on, are present
-        stated_len       int64                the length of the packet as the IP header states it
+        stated_len       int64                the length of the packet as the IP header states it, or 0 if it states none
         missing          int64                how many bytes of the stated length aren't present
         padding          int64                how many bytes follow the packet in the frame
         end              int16                why the headers end: an `End`
@@ -211,6 +211,9 @@ def table(path: Path, columns: Iterable[str] | None = None, on_error: OnError = 
         fault_header     int16                the faulty extension header: a `Layer`
         fault_layer      int16                the layer that needs more bytes: a `Layer`
         fault_offset     int64                where the faulty header or packet begins in the packet
+
+    A packet whose length field is 0 states no length, and all bytes after its headers are its payload: before you trust a row,
+    test its `stated_len`, which is then 0.
 
     Raises `CaptureError` if the capture can't be read to its end: a `CaptureOSError` if the system refused to open or to
     read it. Raises `CaptureError` too if interfaces of a pcapng file have a link layer that isn't supported. Its attribute

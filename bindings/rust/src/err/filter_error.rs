@@ -1,5 +1,5 @@
 use crate::library;
-use core::{fmt, str};
+use core::fmt;
 
 /// The text of a filter is wrong.
 #[derive(Clone, Debug, PartialEq, Eq, Hash)]
@@ -84,8 +84,7 @@ impl Expected {
 impl fmt::Display for Expected {
     fn fmt(&self, f: &mut fmt::Formatter<'_>) -> fmt::Result {
         let mut room = [0; library::TEXT_ROOM];
-        let text = library::expected_text(*self as u8, &mut room);
-        f.write_str(str::from_utf8(text).unwrap_or_default())
+        f.write_str(library::expected_text(*self as u8, &mut room))
     }
 }
 

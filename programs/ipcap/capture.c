@@ -58,11 +58,11 @@ static bool is_nanosecond_magic(const uint8_t magic[MAGIC_LEN])
     return false;
 }
 
-static bool open_file(struct capture *capture, const char *path, const struct memory_source *memory)
+/* Takes the stream of the source, or null if that couldn't be opened. */
+static bool take_stream(struct capture *capture, FILE *stream)
 {
-    capture->name = is_standard_stream(path) ? "standard input" : path;
-    capture->file = open_source(&capture->source, path, memory);
-    if (!capture->file) return fail_as_source(capture);
+    capture->file = stream;
+    if (!stream) return fail_as_source(capture);
     setvbuf(capture->file, capture->buffer, _IOFBF, sizeof capture->buffer);
     capture->is_live = is_live(&capture->source);
     return true;
@@ -187,14 +187,28 @@ static bool open_opened(struct capture *capture)
     return is_pcapng_magic(magic) ? open_blocks(capture) : open_handle(capture, magic);
 }
 
-bool open_capture(struct capture *capture, const char *path, const struct memory_source *memory)
+/* Opens the capture that is in a stream, if there is one. */
+static bool open_stream(struct capture *capture, FILE *stream)
 {
-    *capture = (struct capture){0};
-    if (!wolfaren_cpu_is_supported()) return fail(capture, UNSUPPORTED_CPU);
-    if (!open_file(capture, path, memory)) return false;
+    if (!take_stream(capture, stream)) return false;
     if (open_opened(capture)) return true;
     close_file(capture);
     return false;
+}
+
+bool open_capture(struct capture *capture, const char *path, const struct memory_source *memory)
+{
+    *capture = (struct capture){0};
+    capture->name = is_standard_stream(path) ? "standard input" : path;
+    if (!wolfaren_cpu_is_supported()) return fail(capture, UNSUPPORTED_CPU);
+    return open_stream(capture, open_source(&capture->source, path, memory));
+}
+
+bool open_capture_of(struct capture *capture, int descriptor, const char *name, const struct memory_source *memory)
+{
+    *capture = (struct capture){0};
+    capture->name = name;
+    return open_stream(capture, open_descriptor(&capture->source, descriptor, memory));
 }
 
 /* Sets the error that a packet can't be read, for a reason that the source may know better, and returns false. */

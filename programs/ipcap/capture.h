@@ -90,6 +90,9 @@ struct packet {
  */
 bool open_capture(struct capture *capture, const char *path, const struct memory_source *memory);
 
+/* Opens a file that is open already, as `open_capture` does. The name is for messages. */
+bool open_capture_of(struct capture *capture, int descriptor, const char *name, const struct memory_source *memory);
+
 /*
  * Reads the next packet and returns true. At the end, on failure, and if reading has to stop, returns false. Both of the latter
  * set `error`.

@@ -13,6 +13,8 @@ enum { VERSION_AT, COUNT_AT, NEXT_AT, END_AT, NUMBERS_AT, KEY_USED = NUMBERS_AT 
 
 _Static_assert((int)KEY_USED <= (int)KEY_BYTES, "the key of a chain must fit");
 
+_Static_assert((int)KEY_HEADERS <= (int)STORED_HEADERS, "the headers of a key must be stored");
+
 /* The bytes of an outer packet in a path: IP version and tunnel in four bits each, header count, and header numbers. */
 enum { KIND_AT, PATH_COUNT_AT, PATH_NUMBERS_AT, VERSION_SHIFT = 4, TUNNEL_MASK = 0x0f };
 

@@ -8,6 +8,7 @@
 
 #include "arguments.h"
 #include "network.h"
+#include "ranges.h"
 #include "report.h"
 #include "text.h"
 #include "words.h"
@@ -282,7 +283,7 @@ static int read_joined(struct condition *condition, const struct text *joined, b
     *taken = take_condition(&condition->filter, &text, is_whole, &error);
     if (*taken == 0) complain_of_condition(joined, error.expected, text.origins[error.offset]);
     free_text(&text);
-    if (*taken == 0 || has_host_bits(&condition->filter)) return STATUS_USAGE;
+    if (*taken == 0 || has_host_bits(&condition->filter) || has_impossible(&condition->filter)) return STATUS_USAGE;
     return find_own_tests(condition, joined, *taken) ? -1 : fail_on_memory();
 }
 

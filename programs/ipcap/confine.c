@@ -37,6 +37,9 @@
 #include <sys/syscall.h>
 #include <unistd.h>
 
+/* The calls of Landlock, which have the same numbers on all machines. */
+enum { LANDLOCK_CREATE = 444, LANDLOCK_RESTRICT = 446 };
+
 /* A program that decides about each call of the system. */
 struct program {
     struct sock_filter steps[256];
@@ -115,6 +118,16 @@ static const short calls[] = {
 #endif
 };
 
+/* The calls that give up more. The system lets them take nothing back. */
+static void allow_confining(struct program *program)
+{
+    allow_with(program, SYS_prctl, 0, PR_SET_NO_NEW_PRIVS, PR_SET_NO_NEW_PRIVS);
+    allow(program, SYS_capset);
+    allow(program, SYS_seccomp);
+    allow(program, LANDLOCK_CREATE);
+    allow(program, LANDLOCK_RESTRICT);
+}
+
 /* Allows files to be opened for reading. */
 static void allow_reading(struct program *program)
 {
@@ -154,8 +167,11 @@ static void make_program(struct program *program, enum files_needed needed)
     allow_with(program, SYS_ioctl, 1, terminal_calls[0], terminal_calls[1]);
     allow_with(program, SYS_tgkill, 0, (uint32_t)getpid(), (uint32_t)getpid());
     allow_with(program, SYS_prlimit64, 0, 0, (uint32_t)getpid());
-    if (needed == FILES_READ) allow_reading(program);
-    if (needed == FILES_READ) allow_threads(program);
+    if (needed == FILES_READ) {
+        allow_reading(program);
+        allow_threads(program);
+        allow_confining(program);
+    }
     add(program, RETURN, refuse, 0, 0);
 }
 
@@ -169,7 +185,7 @@ static void limit_calls(enum files_needed needed)
     if (syscall(SYS_seccomp, SET_FILTER, WITHOUT_SLOWER_READS, &given) != 0) syscall(SYS_seccomp, SET_FILTER, 0, &given);
 }
 
-/* What Landlock has to be told. Its calls have the same numbers on all machines. */
+/* What Landlock has to be told. */
 struct ruleset {
     uint64_t files;
     uint64_t network;
@@ -181,26 +197,33 @@ struct ruleset {
  */
 static void limit_files(enum files_needed needed)
 {
-    enum { CREATE = 444, RESTRICT = 446, ASK_VERSION = 1 };
+    enum { ASK_VERSION = 1 };
     enum { READ_FILE = 1 << 2, READ_FOLDER = 1 << 3, FIRST_RIGHTS = (1 << 13) - 1, REFER = 1 << 13, TRUNCATE = 1 << 14 };
     enum { BIND = 1, CONNECT = 2, WITH_TRUNCATE = 3, WITH_NETWORK = 4 };
-    long version = syscall(CREATE, NULL, 0, ASK_VERSION);
+    long version = syscall(LANDLOCK_CREATE, NULL, 0, ASK_VERSION);
     if (version < 1) return;
     struct ruleset rules = {.files = FIRST_RIGHTS | (version > 1 ? REFER : 0) | (version >= WITH_TRUNCATE ? TRUNCATE : 0)};
     if (needed == FILES_READ) rules.files &= ~(uint64_t)(READ_FILE | READ_FOLDER);
     if (version >= WITH_NETWORK) rules.network = BIND | CONNECT;
-    int set = (int)syscall(CREATE, &rules, version >= WITH_NETWORK ? sizeof rules : sizeof rules.files, 0);
+    int set = (int)syscall(LANDLOCK_CREATE, &rules, version >= WITH_NETWORK ? sizeof rules : sizeof rules.files, 0);
     if (set < 0) return;
-    syscall(RESTRICT, set, 0);
+    syscall(LANDLOCK_RESTRICT, set, 0);
     close(set);
 }
 
-/* Gives up the capabilities that root has. What is open stays usable. */
-static void drop_capabilities(void)
+/*
+ * Gives up the capabilities that root has, but for those with which further files can be read whatever their mode is. What is
+ * open stays usable.
+ */
+static void drop_capabilities(enum files_needed needed)
 {
+    enum { READS_ALL = 1 << CAP_DAC_OVERRIDE | 1 << CAP_DAC_READ_SEARCH };
     struct __user_cap_header_struct header = {.version = _LINUX_CAPABILITY_VERSION_3};
-    struct __user_cap_data_struct none[_LINUX_CAPABILITY_U32S_3] = {{0}};
-    syscall(SYS_capset, &header, none);
+    struct __user_cap_data_struct had[_LINUX_CAPABILITY_U32S_3] = {{0}}, kept[_LINUX_CAPABILITY_U32S_3] = {{0}};
+    if (needed == FILES_READ && syscall(SYS_capget, &header, had) != 0) return;
+    kept[0].effective = had[0].effective & READS_ALL;
+    kept[0].permitted = had[0].permitted & READS_ALL;
+    syscall(SYS_capset, &header, kept);
 }
 
 void confine(enum files_needed needed)
@@ -208,7 +231,7 @@ void confine(enum files_needed needed)
     const char *preloaded = getenv("LD_PRELOAD");
     int error = errno;
     if (preloaded && *preloaded) return;
-    if (needed == FILES_NONE) drop_capabilities();
+    drop_capabilities(needed);
     if (prctl(PR_SET_NO_NEW_PRIVS, 1, 0, 0, 0) == 0) {
         limit_files(needed);
         limit_calls(needed);

@@ -28,6 +28,16 @@ bool is_same_output(const char *path, const char *other)
     return one.st_dev == two.st_dev && one.st_ino == two.st_ino;
 }
 
+static const char same_words[] = "input and output are the same file";
+
+bool is_any_overwritten(const char *const *paths, size_t count)
+{
+    bool is_any = false;
+    for (size_t i = 0; i < count && !is_any; i++) is_any = is_input(NULL, paths[i]);
+    if (is_any) complain("standard output: %s", same_words);
+    return is_any;
+}
+
 static const char *name_of(const char *path)
 {
     return is_standard_stream(path) ? "standard output" : path;
@@ -39,7 +49,7 @@ bool open_copy(struct output *output, const char *path, struct capture *capture,
     bool is_same = is_input(path, input);
     FILE *file = is_same ? NULL : is_standard ? stdout : fopen(path, "wb");
     if (file && begin(output, capture, file)) return true;
-    complain("%s: %s", name_of(path), is_same ? "input and output are the same file" : file ? output->error : strerror(errno));
+    complain("%s: %s", name_of(path), is_same ? same_words : file ? output->error : strerror(errno));
     return false;
 }
 

@@ -1,4 +1,4 @@
-/* The output of commands that read one capture and write one. Errors are reported. */
+/* The output of commands, in particular of those that read one capture and write one. Errors are reported. */
 #ifndef IPCAP_COPY_H
 #define IPCAP_COPY_H
 
@@ -9,6 +9,9 @@
  * for writing would truncate it, and appending to it would go on for ever.
  */
 bool is_input(const char *output, const char *path);
+
+/* Whether standard output is one of the files at these paths or on standard input. If so, reports that. */
+bool is_any_overwritten(const char *const *paths, size_t count);
 
 /* Whether two outputs, each standard output if it is null or `-`, are the same file. */
 bool is_same_output(const char *path, const char *other);

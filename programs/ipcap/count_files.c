@@ -5,6 +5,7 @@
 #include <string.h>
 #include <time.h>
 
+#include "confine.h"
 #include "defragment.h"
 #include "input.h"
 #include "stop.h"
@@ -30,14 +31,22 @@ struct pool {
     size_t room;
 };
 
-/* Counts the packets of a file. Only one that is alone shows its progress. */
+/* How a file is counted. */
+enum turn {
+    SIDE_BY_SIDE,
+    IN_TURN,     /* no other file is counted meanwhile: progress is shown */
+    LAST_IN_TURN /* and no file is opened after it */
+};
+
+/* Counts the packets of a file. */
 static void count_packets(struct counted_file *file, const struct files *files, struct input *input, struct account *account,
-                          bool is_alone)
+                          enum turn turn)
 {
     file->is_open = begin_input(input, file->path, account);
-    if (!is_alone) input->capture.follow = NULL;
+    if (turn == SIDE_BY_SIDE) input->capture.follow = NULL;
+    if (turn == LAST_IN_TURN) confine(FILES_NONE);
     if (file->is_open) {
-        if (files->has_whole) file->defragmenter = begin_defragmenter(account, files->slots, false);
+        if (files->has_whole) file->defragmenter = begin_defragmenter(account, files->slots, files->has_tunnels, false);
         if (file->defragmenter) pass_whole(file->defragmenter, &input->capture);
         file->is_memory_short = (files->has_whole && !file->defragmenter) || !count_capture(&file->counts, &input->capture);
         if (file->defragmenter) stop_defragmenter(file->defragmenter);
@@ -48,7 +57,7 @@ static void count_packets(struct counted_file *file, const struct files *files, 
 }
 
 /* Counts a file by its number, unless reading was stopped before. The input is too large for the stacks of some threads. */
-static void count_file(struct counted_file *file, const struct files *files, size_t number, bool is_alone)
+static void count_file(struct counted_file *file, const struct files *files, size_t number, enum turn turn)
 {
     memset(file, 0, sizeof *file);
     file->name = file->path = files->paths[number];
@@ -57,7 +66,7 @@ static void count_file(struct counted_file *file, const struct files *files, siz
     struct account account = {0};
     struct input *input = calloc(1, sizeof *input);
     file->is_memory_short = !input;
-    if (input) count_packets(file, files, input, &account, is_alone);
+    if (input) count_packets(file, files, input, &account, turn);
     free(input);
     close_account(&account);
 }
@@ -75,7 +84,7 @@ static void count_in_turn(const struct files *files, take_counted_file *take, vo
     bool is_wanted = true;
     for (size_t i = 0; i < files->count && is_wanted; i++) {
         struct counted_file file;
-        count_file(&file, files, i, true);
+        count_file(&file, files, i, i + 1 < files->count ? IN_TURN : LAST_IN_TURN);
         is_wanted = take(&file, taker);
         free_file(&file);
     }
@@ -97,7 +106,7 @@ static void *work(void *place)
     for (size_t i; (i = begin_next(pool)) < pool->files->count;) {
         struct slot *slot = &pool->slots[i % pool->room];
         pthread_mutex_unlock(&pool->lock);
-        count_file(&slot->file, pool->files, i, false);
+        count_file(&slot->file, pool->files, i, SIDE_BY_SIDE);
         pthread_mutex_lock(&pool->lock);
         slot->is_done = true;
         pthread_cond_broadcast(&pool->changed);

@@ -98,7 +98,7 @@ static bool count_packet(struct counts *counts, struct parts *parts, const struc
         if (packet->is_short) wolfaren_count_truncated_frame(&current->statistics);
         if (!inner.is_ip) return count_other(current, &inner.protocol);
         if (is_mismatched(&inner.protocol, inner.bytes, inner.len)) count_mismatched(current);
-        if (!parse_packet(parts, inner.bytes, inner.len, &current->statistics)) return false;
+        parse_packet(parts, inner.bytes, inner.len, &current->statistics);
         if (!count_chain(&current->chains, &path, parts)) return false;
         if (!counts->has_inner || path.tunnels == PATH_TUNNELS || !find_inner(parts, &inner)) return true;
         extend_path(&path, parts, inner.tunnel);
@@ -112,7 +112,6 @@ bool count_capture(struct counts *counts, struct capture *capture)
     struct packet packet;
     bool is_counted = true;
     while (is_counted && read_packet(capture, &packet)) is_counted = count_packet(counts, &parts, &packet);
-    free_parts(&parts);
     return is_counted;
 }
 

@@ -3,6 +3,7 @@
 #include <stddef.h>
 #include <unistd.h>
 
+#include "again.h"
 #include "arguments.h"
 #include "commands.h"
 #include "confine.h"
@@ -14,13 +15,14 @@
 #include "report.h"
 
 static const char usage[] =
-    "usage: ipcap defrag [--keep] [--memory SIZE] [--slots N] [--report REPORT] [-w OUTPUT] [FILE]\n"
+    "usage: ipcap defrag [--keep] [--tunnels] [--memory SIZE] [--slots N] [--report REPORT] [-w OUTPUT] [FILE]\n"
     "Writes the packets of FILE, or standard input, with whole packets in place of their fragments.\n"
     "  -w OUTPUT        write to this file instead of standard output\n"
-    "  --keep           also write the fragments that made no packet whole, at the end\n"
+    "  --keep           also write the fragments that make no packet whole, where they were\n"
     "  --memory SIZE    use at most so much memory, such as 2G (default: 512M)\n"
     "  --report REPORT  write a line for each packet that wasn't made whole to this file\n"
     "  --slots N        keep the fragments of at most N packets at once (default: 4096)\n"
+    "  --tunnels        also make the packets in tunnels whole\n"
     "  --help           print this help\n"
     "  --version        print the version\n";
 
@@ -31,6 +33,7 @@ struct request {
     uint64_t slots; /* 0 if not given */
     uint64_t memory;
     bool keeps;
+    bool has_tunnels;
 };
 
 static const struct option_row options[] = {
@@ -39,30 +42,50 @@ static const struct option_row options[] = {
     {"slots", read_count_argument, offsetof(struct request, slots), "a number above 0"},
     {"memory", read_memory_argument, offsetof(struct request, memory), MEMORY_WORDS},
     {"keep", set_flag, offsetof(struct request, keeps), NULL},
+    {"tunnels", set_flag, offsetof(struct request, has_tunnels), NULL},
 };
 
-/* Writes the fragments that were kept. Those of a section that isn't the last one follow that section's header once more. */
-static void write_kept(struct output *output, struct defragmenter *defragmenter, const struct capture *capture)
+/* Writes the packets that are read, up to the one with the number `last`. */
+static void write_packets(struct output *output, struct capture *capture, uint64_t last)
 {
     struct packet packet;
-    const struct section *section;
-    while (!has_output_failed(output) && next_kept(defragmenter, &packet, &section)) {
-        if (section) write_blocks(output, capture, section->blocks, section->len);
+    while (!has_output_failed(output) && read_packet(capture, &packet) && capture->number <= last)
         write_packet(output, capture, &packet);
-    }
 }
 
-/* Writes all packets. */
-static bool write_packets(struct output *output, const struct request *request, struct defragmenter *defragmenter,
-                          struct capture *capture)
+/* Reads all packets, and reports which fragments made none whole. Writes the others unless `output` is null. */
+static void defragment_packets(struct output *output, struct defragmenter *defragmenter, struct capture *capture)
 {
     struct packet packet;
     pass_whole(defragmenter, capture);
-    while (!has_output_failed(output) && read_packet(capture, &packet)) write_packet(output, capture, &packet);
+    if (output)
+        write_packets(output, capture, UINT64_MAX);
+    else
+        while (read_packet(capture, &packet)) {}
     stop_defragmenter(defragmenter);
-    if (request->keeps) write_kept(output, defragmenter, capture);
     report_fragments(defragmenter, capture->name);
-    return finish_copy(output, request->output) && has_kept_all(defragmenter);
+}
+
+/* Reads an input twice: to find the fragments that are kept, and to write them in their places. Closes it. */
+static bool write_in_place(struct output *output, const struct request *request, struct defragmenter *defragmenter,
+                           struct input *input, struct again *again)
+{
+    struct capture *capture = &input->capture;
+    bool (*copy)(struct capture *, const uint8_t *, size_t) = capture->copy;
+    bool is_read;
+    capture->copy = NULL;
+    defragment_packets(NULL, defragmenter, capture);
+    if (!open_again(again, input, &is_read)) return false;
+    if (!is_standard_stream(request->output)) allow_progress(input);
+    capture->copy = copy;
+    capture->copier = output;
+    pass_whole(defragmenter, capture);
+    bool is_begun = begin_second_pass(defragmenter, request->slots, again->last);
+    if (is_begun)
+        write_packets(output, capture, again->last);
+    else
+        complain_of_memory();
+    return close_again(again, input, is_begun && !has_output_failed(output)) && is_begun && is_read;
 }
 
 /* Opens the report, if one is asked for, and then the output. Returns false on failure, which is reported. */
@@ -77,24 +100,54 @@ static bool open_outputs(const struct request *request, struct defragmenter *def
     return open_copy(output, request->output, capture, path, begin_long_output);
 }
 
-static bool defragment_file(const struct request *request, const char *path)
+/* Writes all packets of an open input, and closes it. */
+static bool write_all(struct output *output, const struct request *request, struct defragmenter *defragmenter, struct input *input,
+                      struct again *again)
 {
-    struct input input;
+    bool is_done;
+    if (request->keeps) {
+        is_done = write_in_place(output, request, defragmenter, input, again);
+        return finish_copy(output, request->output) && is_done && has_had_memory(defragmenter);
+    }
+    defragment_packets(output, defragmenter, &input->capture);
+    is_done = finish_copy(output, request->output);
+    return close_input(input) && is_done && has_had_memory(defragmenter);
+}
+
+/* Makes packets of an open input whole, and closes it. */
+static bool defragment_input(const struct request *request, const char *path, struct input *input, struct again *again)
+{
     struct output output = {0};
     struct loss_report report = {0};
-    set_budget(request->memory, memory_of_slots(request->slots, request->report));
-    if (!open_input(&input, path)) return false;
-    if (!is_standard_stream(request->output)) allow_progress(&input);
-    struct defragmenter *defragmenter = begin_defragmenter(&input.own, request->slots, request->keeps);
+    if (!is_standard_stream(request->output)) allow_progress(input);
+    struct defragmenter *defragmenter = begin_defragmenter(&input->own, request->slots, request->has_tunnels,
+                                                          request->keeps);
     if (!defragmenter) complain_of_memory();
-    bool is_open = defragmenter && open_outputs(request, defragmenter, &report, &output, &input.capture, path);
+    bool is_open = defragmenter && open_outputs(request, defragmenter, &report, &output, &input->capture, path);
     if (is_open) confine(FILES_NONE);
-    bool is_done = is_open && write_packets(&output, request, defragmenter, &input.capture);
+    bool is_done = is_open && write_all(&output, request, defragmenter, input, again);
     bool is_reported = finish_report(&report);
     end_output(&output);
     end_defragmenter(defragmenter);
     end_report(&report);
-    return close_input(&input) && is_done && is_reported;
+    if (!is_open) close_input(input);
+    return is_done && is_reported;
+}
+
+static bool defragment_file(const struct request *request, const char *path)
+{
+    struct input input;
+    struct again again = {.descriptor = -1};
+    set_budget(request->memory, memory_of_slots(request->slots, request->report));
+    bool is_prepared = !request->keeps || prepare_again(&again, path);
+    bool is_done = false;
+    if (is_prepared && open_input(&input, path)) {
+        bool is_kept = !request->keeps || keep_file(&again, &input);
+        is_done = is_kept && defragment_input(request, path, &input, &again);
+        if (!is_kept) close_input(&input);
+    }
+    end_again(&again);
+    return is_done;
 }
 
 /* Chooses the number of slots unless it is given. Returns -1, or the exit status if the budget is too small for it. */

@@ -9,6 +9,10 @@
 #include <sys/random.h>
 
 #include "blocks.h"
+#include "contexts.h"
+#include "levels.h"
+#include "matching.h"
+#include "refusals.h"
 #include "report.h"
 #include "wolfaren.h"
 
@@ -24,7 +28,8 @@ enum { MOST_LINK_LEN = 256 };
 /* What the frames of an incomplete packet had besides the packet. */
 struct pending {
     uint64_t fragments; /* number of fragments that arrived; 0 if the slot is free */
-    uint64_t lost;      /* number of those that weren't kept, since memory ran out */
+    uint64_t lost;      /* number of those that can't be kept, since memory ran out */
+    uint64_t first_lost; /* the number of the first one in the capture */
     bool has_memory;    /* the slot has taken memory */
     struct kept *kept;
     struct loss loss;   /* the fragments for the report, also those that were refused */
@@ -36,50 +41,52 @@ struct pending {
 };
 
 /* Why fragments made no packet whole, besides the outcomes that aren't 0 to 2. */
-enum { LEFT_TIMED_OUT = WOLFAREN_MIXED_ECN + 1, LEFT_DISPLACED, LEFT_INCOMPLETE, LEFT_LONG_LINK, LEFT_REASONS };
+enum { LEFT_TIMED_OUT = WOLFAREN_MIXED_ECN + 1, LEFT_DISPLACED, LEFT_INCOMPLETE, LEFT_LONG_LINK, LEFT_LONG_OUTER,
+       LEFT_REASONS };
 
 struct defragmenter {
     size_t slot_count;
-    struct wolfaren_slot *slots;
-    struct wolfaren_packet_memory *memories;
+    uint64_t seed[2]; /* random, the same in both passes; 0 if the system has no random numbers, which senders can guess */
+    struct wolfaren_defragmenter *packets; /* null once it was stopped */
     struct pending *pendings;
-    struct wolfaren_defragmenter_counts counts;
-    struct wolfaren_defragmenter_settings settings;
     uint64_t time; /* of the last packet that had one, in nanoseconds */
     bool keeps;
+    bool has_tunnels;
+    struct contexts contexts; /* of packets, if those in tunnels are made whole */
+    struct parts parts;       /* of a packet that may carry another one */
+    uint64_t refused[REFUSALS]; /* number of fragments in tunnels that aren't looked at, by reason */
+    bool is_out_of_memory;      /* for places of fragments */
     struct account *account;
-    struct keeper keeper;
     struct kept *kept; /* those that made no packet whole; sorted after it was stopped */
-    struct kept *last; /* the one that `next_kept` returned last */
-    const struct section *section; /* the one that was written last */
-    bool (*copy)(struct capture *capture, const uint8_t *block, size_t len); /* how blocks are copied */
     uint64_t left[LEFT_REASONS]; /* number of fragments by reason */
-    uint64_t lost; /* number of those that weren't kept, since memory ran out */
+    uint64_t lost;       /* number of those that can't be kept, since memory ran out */
+    uint64_t first_lost; /* the number of the first one in the capture */
+    bool is_second;      /* packets are read for the second time */
+    uint64_t last;       /* then the number of the last one that was read for the first time */
     struct loss_report *report; /* null if nothing is reported */
     uint8_t block[BLOCK_HEAD + MOST_LINK_LEN + WOLFAREN_WHOLE_PACKET_ROOM + BLOCK_END];
+    uint8_t inner[WOLFAREN_WHOLE_PACKET_ROOM]; /* a whole packet of a tunnel, before it is in its frame */
 };
 
 /* Allocates memory of which a page is used when it is first written. All bytes are 0. Returns null without memory. */
-static void *reserve(size_t count, size_t size)
+static void *reserve(size_t size)
 {
-    if (count > SIZE_MAX / 2 / size) return NULL;
-    void *memory = mmap(NULL, count * size, PROT_READ | PROT_WRITE, MAP_PRIVATE | MAP_ANONYMOUS | MAP_NORESERVE, -1, 0);
+    if (size > SIZE_MAX / 2) return NULL;
+    void *memory = mmap(NULL, size, PROT_READ | PROT_WRITE, MAP_PRIVATE | MAP_ANONYMOUS | MAP_NORESERVE, -1, 0);
     return memory == MAP_FAILED ? NULL : memory;
 }
 
-static void release(void *memory, size_t count, size_t size)
+static void release(void *memory, size_t size)
 {
-    if (memory) munmap(memory, count * size);
+    if (memory) munmap(memory, size);
 }
 
 /* Releases the slots, so that there are none any more. */
 static void release_all(struct defragmenter *defragmenter)
 {
-    release(defragmenter->slots, defragmenter->slot_count, sizeof *defragmenter->slots);
-    release(defragmenter->memories, defragmenter->slot_count, sizeof *defragmenter->memories);
-    release(defragmenter->pendings, defragmenter->slot_count, sizeof *defragmenter->pendings);
-    defragmenter->slots = NULL;
-    defragmenter->memories = NULL;
+    release(defragmenter->packets, wolfaren_defragmenter_size(defragmenter->slot_count));
+    release(defragmenter->pendings, defragmenter->slot_count * sizeof *defragmenter->pendings);
+    defragmenter->packets = NULL;
     defragmenter->pendings = NULL;
     defragmenter->slot_count = 0;
 }
@@ -89,23 +96,23 @@ void end_defragmenter(struct defragmenter *defragmenter)
     if (!defragmenter) return;
     bool has_lists = defragmenter->keeps || defragmenter->report;
     for (size_t i = 0; defragmenter->pendings && has_lists && i < defragmenter->slot_count; i++) {
-        free_kept(&defragmenter->keeper, defragmenter->pendings[i].kept);
+        free_kept(defragmenter->account, defragmenter->pendings[i].kept);
         forget_loss(&defragmenter->pendings[i].loss);
     }
-    free_kept(&defragmenter->keeper, defragmenter->kept);
-    free_kept(&defragmenter->keeper, defragmenter->last);
-    end_keeper(&defragmenter->keeper);
+    free_kept(defragmenter->account, defragmenter->kept);
+    end_contexts(&defragmenter->contexts);
     release_all(defragmenter);
     free(defragmenter);
 }
 
-/* Returns settings with a random seed. If the system has no random numbers, the seed is 0, which senders can guess. */
-static struct wolfaren_defragmenter_settings random_settings(void)
+/* Makes a defragmenter of packets. Returns null without memory. */
+static struct wolfaren_defragmenter *reserve_packets(size_t slots, const uint64_t seed[2])
 {
-    struct wolfaren_defragmenter_settings settings = {.timeout = WOLFAREN_DEFAULT_TIMEOUT};
-    if (getrandom(settings.seed, sizeof settings.seed, 0) != sizeof settings.seed)
-        memset(settings.seed, 0, sizeof settings.seed);
-    return settings;
+    size_t size = wolfaren_defragmenter_size(slots);
+    void *memory = reserve(size);
+    struct wolfaren_defragmenter *packets = memory ? wolfaren_defragmenter_init(memory, size, seed) : NULL;
+    if (!packets) release(memory, size);
+    return packets;
 }
 
 /*
@@ -115,7 +122,8 @@ static struct wolfaren_defragmenter_settings random_settings(void)
 enum {
     PAGES_BESIDE = 2 * 4096,
     LIST_MEMORY = MOST_NUMBERS * sizeof(uint64_t),
-    SLOT_MEMORY = sizeof(struct wolfaren_slot) + sizeof(struct wolfaren_packet_memory) + sizeof(struct pending)
+    SLOT_LINKS = 6 * sizeof(uint32_t),
+    SLOT_MEMORY = sizeof(struct wolfaren_slot) + sizeof(struct wolfaren_packet_memory) + SLOT_LINKS + sizeof(struct pending)
 };
 
 uint64_t memory_of_slots(uint64_t slots, bool has_report)
@@ -131,21 +139,39 @@ uint64_t slots_within(uint64_t memory)
     return slots < DEFAULT_SLOTS ? slots : DEFAULT_SLOTS;
 }
 
-struct defragmenter *begin_defragmenter(struct account *account, uint64_t slots, bool keeps)
+/* Reserves slots. Returns false without memory. */
+static bool reserve_all(struct defragmenter *defragmenter, uint64_t slots)
+{
+    defragmenter->slot_count = slots;
+    defragmenter->packets = reserve_packets(slots, defragmenter->seed);
+    if (defragmenter->packets) defragmenter->pendings = reserve(slots * sizeof *defragmenter->pendings);
+    return defragmenter->pendings;
+}
+
+struct defragmenter *begin_defragmenter(struct account *account, uint64_t slots, bool has_tunnels, bool keeps)
 {
     struct defragmenter *defragmenter = calloc(1, sizeof *defragmenter);
-    if (defragmenter) {
-        defragmenter->slot_count = slots;
-        defragmenter->keeps = keeps;
-        defragmenter->account = defragmenter->keeper.account = account;
-        defragmenter->slots = reserve(slots, sizeof *defragmenter->slots);
-        defragmenter->memories = reserve(slots, sizeof *defragmenter->memories);
-        defragmenter->pendings = reserve(slots, sizeof *defragmenter->pendings);
-        defragmenter->settings = random_settings();
-        if (defragmenter->slots && defragmenter->memories && defragmenter->pendings) return defragmenter;
-    }
+    if (!defragmenter) return NULL;
+    defragmenter->has_tunnels = has_tunnels;
+    defragmenter->keeps = keeps;
+    defragmenter->account = account;
+    if (getrandom(defragmenter->seed, sizeof defragmenter->seed, 0) != sizeof defragmenter->seed)
+        memset(defragmenter->seed, 0, sizeof defragmenter->seed);
+    if (reserve_all(defragmenter, slots)) return defragmenter;
     end_defragmenter(defragmenter);
     return NULL;
+}
+
+bool begin_second_pass(struct defragmenter *defragmenter, uint64_t slots, uint64_t last)
+{
+    take_kept(defragmenter->account, defragmenter->kept);
+    take_contexts(&defragmenter->contexts, defragmenter->account);
+    defragmenter->is_second = true;
+    defragmenter->last = last;
+    defragmenter->keeps = false;
+    defragmenter->report = NULL;
+    defragmenter->time = 0;
+    return reserve_all(defragmenter, slots);
 }
 
 void report_losses(struct defragmenter *defragmenter, struct loss_report *report)
@@ -170,6 +196,7 @@ static const char *const loss_words[LEFT_REASONS] = {
     [LEFT_DISPLACED] = "displaced: given up for another packet, since all slots were in use",
     [LEFT_INCOMPLETE] = "not whole at the end",
     [LEFT_LONG_LINK] = "refused: more than 256 bytes of link-layer headers",
+    [LEFT_LONG_OUTER] = "refused: too long for the length field of a packet that carries it",
 };
 
 /* Adds a fragment to those of a packet for the report. */
@@ -202,12 +229,19 @@ static void report_refused(struct defragmenter *defragmenter, struct pending *pe
 /* Frees the fragments of a packet that is whole. */
 static void forget(struct defragmenter *defragmenter, struct pending *pending)
 {
-    free_kept(&defragmenter->keeper, pending->kept);
+    free_kept(defragmenter->account, pending->kept);
     pending->kept = NULL;
     pending->fragments = pending->lost = 0;
     pending->has_link = false;
     pending->refusal = 0;
     forget_loss(&pending->loss);
+}
+
+/* Counts fragments that can't be kept. */
+static void lose(struct defragmenter *defragmenter, uint64_t count, uint64_t first)
+{
+    if (count > 0 && (defragmenter->lost == 0 || first < defragmenter->first_lost)) defragmenter->first_lost = first;
+    defragmenter->lost += count;
 }
 
 /* Counts the fragments of a packet that was given up, and moves them to those that made no packet whole. */
@@ -220,22 +254,24 @@ static void give_up(struct defragmenter *defragmenter, struct pending *pending, 
     if (defragmenter->report)
         write_loss(defragmenter->report, &pending->loss, loss_words[pending->refusal ? pending->refusal : reason]);
     defragmenter->left[reason] += pending->fragments;
-    defragmenter->lost += pending->lost;
+    lose(defragmenter, pending->lost, pending->first_lost);
     pending->kept = NULL;
     forget(defragmenter, pending);
 }
 
-/* Notes a fragment that was accepted. If it is the first one, copies its link headers. */
+/* Notes a fragment that was accepted. If it is the first one, and in no tunnel, copies its link headers. */
 static void note(struct defragmenter *defragmenter, struct pending *pending, size_t slot,
-                 const struct capture *capture, const struct packet *packet)
+                 const struct capture *capture, const struct packet *packet, bool is_inner)
 {
     pending->fragments++;
     if (!pending->has_memory)
         take_promised(defragmenter->account, SLOT_MEMORY + PAGES_BESIDE + (defragmenter->report ? LIST_MEMORY : 0));
     pending->has_memory = true;
     note_loss(defragmenter, &pending->loss, capture, packet);
-    if (defragmenter->keeps && !keep(&defragmenter->keeper, &pending->kept, capture, packet)) pending->lost++;
-    if (pending->has_link || !defragmenter->memories[slot].first_here || packet->ip_offset > MOST_LINK_LEN) return;
+    if (defragmenter->keeps && !keep(defragmenter->account, &pending->kept, capture->number) && pending->lost++ == 0)
+        pending->first_lost = capture->number;
+    if (is_inner || pending->has_link || !defragmenter->packets->memories[slot].first_here || packet->ip_offset > MOST_LINK_LEN)
+        return;
     pending->has_link = true;
     pending->link_type = packet->link_type;
     pending->link_len = (uint16_t)packet->ip_offset;
@@ -278,8 +314,9 @@ static void make_block(struct defragmenter *defragmenter, struct packet *packet)
     put_block_number(block, is_simple ? SIMPLE_PACKET : ENHANCED_PACKET, little);
     put_block_number(block + 4, block_len, little);
     if (!is_simple) {
-        memcpy(block + 8, packet->block + 8, 12);
-        put_block_number(block + 8, interface_of(packet), little);
+        const uint32_t interface = interface_of(packet);
+        memmove(block + 8, packet->block + 8, 12);
+        put_block_number(block + 8, interface, little);
         put_block_number(block + 20, len, little);
     }
     put_block_number(defragmenter->block + BLOCK_HEAD - 4, len, little);
@@ -297,8 +334,7 @@ static bool make_whole(struct defragmenter *defragmenter, struct pending *pendin
     size_t link_len = has_link ? pending->link_len : packet->ip_offset, len;
     if (link_len > MOST_LINK_LEN) return false;
     memcpy(frame, has_link ? pending->link : packet->frame, link_len);
-    if (!wolfaren_write_whole_packet(&defragmenter->memories[slot], frame + link_len, WOLFAREN_WHOLE_PACKET_ROOM, &len))
-        return false;
+    if (!wolfaren_defragmenter_packet(defragmenter->packets, slot, frame + link_len, WOLFAREN_WHOLE_PACKET_ROOM, &len)) return false;
     packet->header.caplen = packet->header.len = (uint32_t)(link_len + len);
     packet->ip_offset = link_len;
     packet->is_short = false;
@@ -315,34 +351,158 @@ static void note_time(struct defragmenter *defragmenter, const struct capture *c
     defragmenter->time = (uint64_t)time.tv_sec * 1000000000 + (uint64_t)time.tv_nsec;
 }
 
-/* Adds a packet. Returns whether it is to be read, changed or not. */
-static bool add(struct defragmenter *defragmenter, struct capture *capture, struct packet *packet)
+/* Whether a fragment that is read for the second time is one that was kept. The numbers that are asked for only grow. */
+static bool is_kept(struct defragmenter *defragmenter, uint64_t number)
+{
+    struct kept *kept;
+    if (!defragmenter->is_second) return false;
+    while ((kept = defragmenter->kept) && kept->number < number) {
+        defragmenter->kept = kept->next;
+        kept->next = NULL;
+        free_kept(defragmenter->account, kept);
+    }
+    return kept && kept->number == number;
+}
+
+/* What became of a packet. */
+enum fate {
+    PASSED,   /* it is no fragment */
+    HELD,     /* it makes no packet whole */
+    COMPLETED /* it makes one whole */
+};
+
+/* Adds a packet, of a frame or of a tunnel. Stores where its fragments are noted. */
+static enum fate add(struct defragmenter *defragmenter, const struct capture *capture, const struct packet *packet,
+                     uint32_t context, bool is_inner, struct pending **place)
 {
     struct wolfaren_added added;
-    note_time(defragmenter, capture, packet);
-    if (!wolfaren_defragment(defragmenter->slots, defragmenter->slot_count, defragmenter->memories,
-                             defragmenter->slot_count, &defragmenter->counts, &defragmenter->settings,
-                             packet->frame + packet->ip_offset, packet->header.caplen - packet->ip_offset,
-                             context_of(capture, packet), defragmenter->time, &added))
-        return true;
-    if (added.outcome == WOLFAREN_NOT_FRAGMENT) return true;
+    wolfaren_defragmenter_add(defragmenter->packets, context, packet->frame + packet->ip_offset,
+                              packet->header.caplen - packet->ip_offset, defragmenter->time, &added);
+    if (added.outcome == WOLFAREN_NOT_FRAGMENT) return PASSED;
     struct pending *pending = &defragmenter->pendings[added.slot]; /* used after a loss, or if the fragment was stored */
+    *place = pending;
     if (added.loss != WOLFAREN_NO_LOSS)
         give_up(defragmenter, pending, added.loss == WOLFAREN_TIMED_OUT ? LEFT_TIMED_OUT : LEFT_DISPLACED);
     if (added.outcome > WOLFAREN_WHOLE) {
         defragmenter->left[added.outcome]++;
         report_refused(defragmenter, pending, added.outcome, capture, packet);
-        if (defragmenter->keeps && !keep(&defragmenter->keeper, &defragmenter->kept, capture, packet)) defragmenter->lost++;
-        return false;
+        if (defragmenter->keeps && !keep(defragmenter->account, &defragmenter->kept, capture->number))
+            lose(defragmenter, 1, capture->number);
+        return HELD;
     }
-    note(defragmenter, pending, added.slot, capture, packet);
-    if (added.outcome == WOLFAREN_MORE_WANTED) return false;
-    bool is_whole = make_whole(defragmenter, pending, added.slot, packet);
-    if (is_whole)
+    note(defragmenter, pending, added.slot, capture, packet, is_inner);
+    return added.outcome == WOLFAREN_WHOLE ? COMPLETED : HELD;
+}
+
+/* Ends with the fragments of a packet: forgets them if it was made whole. Returns whether it was. */
+static bool settle(struct defragmenter *defragmenter, struct pending *pending, int reason)
+{
+    if (reason == 0)
         forget(defragmenter, pending);
     else
-        give_up(defragmenter, pending, LEFT_LONG_LINK);
-    return is_whole;
+        give_up(defragmenter, pending, reason);
+    return reason == 0;
+}
+
+/* Finds the number of the place of the last packet. If memory runs out, notes that and returns false. */
+static bool find_context(struct defragmenter *defragmenter, const struct capture *capture, const struct packet *packet,
+                         const struct levels *levels, uint32_t *number)
+{
+    const uint32_t arrival = context_of(capture, packet);
+    *number = arrival;
+    if (!defragmenter->has_tunnels) return true;
+    if (number_context(&defragmenter->contexts, defragmenter->account, arrival, levels, packet->frame, number)) return true;
+    defragmenter->is_out_of_memory = true;
+    return false;
+}
+
+/* Adds the packet of a frame. Returns whether it is to be read, changed or not. */
+static bool add_outer(struct defragmenter *defragmenter, const struct capture *capture, struct packet *packet)
+{
+    struct levels levels;
+    struct pending *pending;
+    uint32_t context;
+    levels.count = 1;
+    /* only fragments get the number of a place */
+    if (defragmenter->has_tunnels) {
+        parse_captured(&defragmenter->parts, packet);
+        if (!is_fragment(&defragmenter->parts)) return true;
+    }
+    if (!find_context(defragmenter, capture, packet, &levels, &context)) return true;
+    enum fate fate = add(defragmenter, capture, packet, context, false, &pending);
+    if (fate != COMPLETED) return fate == PASSED;
+    const size_t slot = (size_t)(pending - defragmenter->pendings);
+    return settle(defragmenter, pending, make_whole(defragmenter, pending, slot, packet) ? 0 : LEFT_LONG_LINK);
+}
+
+/*
+ * Replaces the last fragment of a packet in tunnels by the whole one, within the outer headers that are there. What follows the
+ * outermost packet isn't kept. Returns 0, or why that can't be.
+ */
+static int make_inner_whole(struct defragmenter *defragmenter, const struct pending *pending, struct levels *levels,
+                            struct packet *packet)
+{
+    uint8_t *frame = defragmenter->block + BLOCK_HEAD;
+    struct level *outermost = &levels->of[0];
+    const size_t index = levels->count - 1, slot = (size_t)(pending - defragmenter->pendings), old_len = levels->of[index].len;
+    size_t len, frame_len = outermost->offset + outermost->stated_len;
+    if (outermost->offset > MOST_LINK_LEN) return LEFT_LONG_LINK;
+    if (!wolfaren_defragmenter_packet(defragmenter->packets, slot, defragmenter->inner, sizeof defragmenter->inner, &len))
+        return LEFT_LONG_OUTER;
+    if (refuse_growth(levels, index, (ptrdiff_t)len - (ptrdiff_t)old_len, false) != WOLFAREN_NOT_REFUSED) return LEFT_LONG_OUTER;
+    if (packet->frame != frame) memcpy(frame, packet->frame, frame_len);
+    replace_packet(levels, index, frame, &frame_len, old_len, defragmenter->inner, len);
+    packet->header.caplen = packet->header.len = (uint32_t)frame_len;
+    packet->is_short = false;
+    if (packet->block) make_block(defragmenter, packet);
+    packet->frame = frame;
+    return 0;
+}
+
+/*
+ * Adds a fragment in a tunnel, the last packet of the levels. If it makes a packet whole, that takes its place in the frame
+ * and is dissected. One for which that couldn't be is only counted.
+ */
+static enum fate add_inner(struct defragmenter *defragmenter, const struct capture *capture, struct packet *packet,
+                           struct levels *levels, struct packet *inner)
+{
+    const struct level *level = &levels->of[levels->count - 1];
+    struct pending *pending;
+    uint32_t context;
+    const uint8_t refusal = refuse_growth(levels, levels->count - 1, 0, false);
+    if (refusal != WOLFAREN_NOT_REFUSED) defragmenter->refused[refusal]++;
+    if (refusal != WOLFAREN_NOT_REFUSED || !find_context(defragmenter, capture, packet, levels, &context)) return PASSED;
+    enum fate fate = add(defragmenter, capture, inner, context, true, &pending);
+    if (fate != COMPLETED) return fate;
+    if (!settle(defragmenter, pending, make_inner_whole(defragmenter, pending, levels, packet))) return HELD;
+    inner->frame = packet->frame;
+    inner->header.caplen = (uint32_t)(level->offset + level->len);
+    parse_captured(&defragmenter->parts, inner);
+    return COMPLETED;
+}
+
+/* Adds the packets in the tunnels of a frame's packet. Returns whether the frame is to be read, changed or not. */
+static bool add_tunnels(struct defragmenter *defragmenter, const struct capture *capture, struct packet *packet)
+{
+    struct packet inner = *packet;
+    struct levels levels;
+    begin_levels(&levels, packet);
+    do {
+        parse_captured(&defragmenter->parts, &inner);
+        const bool is_part = levels.count > 1 && is_fragment(&defragmenter->parts);
+        enum fate fate = is_part ? add_inner(defragmenter, capture, packet, &levels, &inner) : COMPLETED;
+        if (fate != COMPLETED) return fate == PASSED;
+    } while (enter_level(&levels, &defragmenter->parts, &inner));
+    return true;
+}
+
+/* Adds a packet that was read. Returns whether it is to be read, changed or not. */
+static bool add_packet(struct defragmenter *defragmenter, const struct capture *capture, struct packet *packet)
+{
+    note_time(defragmenter, capture, packet);
+    const bool is_passed = add_outer(defragmenter, capture, packet)
+        && (!defragmenter->has_tunnels || add_tunnels(defragmenter, capture, packet));
+    return is_passed || is_kept(defragmenter, capture->number);
 }
 
 /*
@@ -357,37 +517,19 @@ static void state_captured_len(struct capture *capture, struct packet *packet)
     packet->header.len = packet->header.caplen;
 }
 
-/* Passes a packet that was read: all but fragments, and whole packets. */
+/* Passes a packet that was read: all but fragments, and whole packets. For the second time also fragments that were kept. */
 static bool pass(struct capture *capture, struct packet *packet)
 {
+    const struct defragmenter *defragmenter = capture->passer;
     state_captured_len(capture, packet);
-    return !packet->is_ip || packet->is_left_out || add(capture->passer, capture, packet);
-}
-
-/* Notes a block of the head of a pcapng file. */
-static void note_head_block(uint8_t *block, size_t len, bool is_little, void *place)
-{
-    struct defragmenter *defragmenter = place;
-    note_block(&defragmenter->keeper, block, len, is_little);
-}
-
-/* Copies the last block that was read, which is no packet, and notes it. */
-static bool copy_block(struct capture *capture, const uint8_t *block, size_t len)
-{
-    struct defragmenter *defragmenter = capture->passer;
-    if (!defragmenter->copy(capture, block, len)) return false;
-    note_block(&defragmenter->keeper, block, len, !capture->blocks.file.is_big_endian);
-    return true;
+    if (defragmenter->is_second && capture->number > defragmenter->last) return true;
+    return !packet->is_ip || packet->is_left_out || add_packet(capture->passer, capture, packet);
 }
 
 void pass_whole(struct defragmenter *defragmenter, struct capture *capture)
 {
     capture->pass = pass;
     capture->passer = defragmenter;
-    if (!defragmenter->keeps || !capture->copy) return;
-    visit_blocks(capture->blocks.head, capture->blocks.head_len, note_head_block, defragmenter);
-    defragmenter->copy = capture->copy;
-    capture->copy = copy_block;
 }
 
 /* Compares two packets by the number of the first fragment. */
@@ -417,25 +559,11 @@ void stop_defragmenter(struct defragmenter *defragmenter)
         if (defragmenter->pendings[i].fragments > 0) give_up(defragmenter, &defragmenter->pendings[i], LEFT_INCOMPLETE);
     release_all(defragmenter);
     defragmenter->kept = sort_kept(defragmenter->kept);
-    defragmenter->section = defragmenter->keeper.section;
 }
 
-bool next_kept(struct defragmenter *defragmenter, struct packet *packet, const struct section **section)
+bool has_had_memory(const struct defragmenter *defragmenter)
 {
-    free_kept(&defragmenter->keeper, defragmenter->last);
-    struct kept *kept = defragmenter->last = defragmenter->kept;
-    if (!kept) return false;
-    defragmenter->kept = kept->next;
-    kept->next = NULL;
-    *packet = kept->packet;
-    *section = kept->section == defragmenter->section ? NULL : kept->section;
-    defragmenter->section = kept->section;
-    return true;
-}
-
-bool has_kept_all(const struct defragmenter *defragmenter)
-{
-    return defragmenter->lost == 0;
+    return defragmenter->lost == 0 && !defragmenter->is_out_of_memory;
 }
 
 void report_fragments(const struct defragmenter *defragmenter, const char *name)
@@ -456,12 +584,15 @@ void report_fragments(const struct defragmenter *defragmenter, const char *name)
         [LEFT_DISPLACED] = "of packets given up for others, since all slots were in use",
         [LEFT_INCOMPLETE] = "of packets that aren't whole at the end",
         [LEFT_LONG_LINK] = "of packets with more than 256 bytes of link-layer headers",
+        [LEFT_LONG_OUTER] = "of packets in tunnels that are too long for the length fields of outer packets",
     };
     for (int i = 0; i < LEFT_REASONS; i++)
         if (defragmenter->left[i] > 0)
             complain("%s: %llu %s %s", name, (unsigned long long)defragmenter->left[i],
                      defragmenter->left[i] == 1 ? "fragment" : "fragments", reasons[i]);
+    report_refusals(name, defragmenter->refused, "fragment in a tunnel", "fragments in tunnels");
+    if (defragmenter->is_out_of_memory) complain("%s: out of memory", name);
     if (defragmenter->lost > 0)
-        complain("%s: %llu of these %s kept: out of memory", name, (unsigned long long)defragmenter->lost,
-                 defragmenter->lost == 1 ? "wasn't" : "weren't");
+        complain("%s: %llu of these %s kept, first packet %llu: out of memory", name, (unsigned long long)defragmenter->lost,
+                 defragmenter->lost == 1 ? "wasn't" : "weren't", (unsigned long long)defragmenter->first_lost);
 }

@@ -23,18 +23,19 @@ uint64_t slots_within(uint64_t memory);
 
 /*
  * Begins to make packets whole, of which at most `slots` are incomplete at once. Each of these takes memory that the account was
- * promised when its first fragment arrives. If `keeps`, the fragments that make no packet whole are kept for `next_kept`.
- * Returns null if there isn't enough memory. The account has to be open until the defragmenter is stopped, or if it keeps
- * fragments, until it ends.
+ * promised when its first fragment arrives. With `has_tunnels`, packets in tunnels are made whole, too. If `keeps`, the numbers of
+ * fragments that make no packet whole are kept for `begin_second_pass`. Returns null if there isn't enough memory. The account has
+ * to be open until the defragmenter is stopped, or if it keeps fragments, until it ends.
  */
-struct defragmenter *begin_defragmenter(struct account *account, uint64_t slots, bool keeps);
+struct defragmenter *begin_defragmenter(struct account *account, uint64_t slots, bool has_tunnels, bool keeps);
 
 /* Writes a line to the report for each packet that is given up, and for each fragment that is dropped by itself. */
 void report_losses(struct defragmenter *defragmenter, struct loss_report *report);
 
 /*
  * Makes `read_packet` read a whole packet in place of the fragment that completes it, and no other fragment. The whole packet
- * has that fragment's number and time, and the link header of its first fragment.
+ * has that fragment's number and time, and the link header of its first fragment. One in a tunnel has the outer headers of the
+ * fragment that completes it, with lengths and checksums that follow.
  */
 void pass_whole(struct defragmenter *defragmenter, struct capture *capture);
 
@@ -42,14 +43,15 @@ void pass_whole(struct defragmenter *defragmenter, struct capture *capture);
 void stop_defragmenter(struct defragmenter *defragmenter);
 
 /*
- * Stores the next of the fragments that were kept, in the order of the capture, and returns true. At the end, returns false. The
- * defragmenter must have been stopped. If the fragment is of another section than the packet before it, stores the section,
- * otherwise null.
+ * Begins to read the packets of a capture once more, from the first one to the one with the number `last`, in which the first pass
+ * ended: `pass_whole` then also passes the fragments that were kept, each in its place, and every packet after the last one.
+ * Nothing is reported or counted. The defragmenter must have been stopped, and its account opened again. Returns false without
+ * memory.
  */
-bool next_kept(struct defragmenter *defragmenter, struct packet *packet, const struct section **section);
+bool begin_second_pass(struct defragmenter *defragmenter, uint64_t slots, uint64_t last);
 
-/* Whether memory was enough for all fragments that were to be kept. */
-bool has_kept_all(const struct defragmenter *defragmenter);
+/* Whether memory was enough for all fragments that were to be kept, and for all in tunnels. */
+bool has_had_memory(const struct defragmenter *defragmenter);
 
 /* Reports how many fragments of the capture made no packet whole, by reason. It must have been stopped. */
 void report_fragments(const struct defragmenter *defragmenter, const char *name);

@@ -19,15 +19,23 @@ static int payload_byte(const struct parts *parts, size_t at)
     return at < parts->packet.payload_len ? parts->bytes[parts->packet.payload_offset + at] : -1;
 }
 
-void put_port(struct writer *writer, const struct parts *parts, bool is_destination)
+bool find_port(const struct parts *parts, bool is_destination, unsigned *port)
 {
     static const uint8_t numbers[] = {NUMBER_TCP, 17, 33, 132, 136};
     bool has_ports = false;
     for (size_t i = 0; i < sizeof numbers; i++) has_ports |= parts->packet.payload_number == numbers[i];
     int high = payload_byte(parts, is_destination ? 2 : 0), low = payload_byte(parts, is_destination ? 3 : 1);
-    if (!has_ports || !has_upper_layer(parts) || low < 0) return;
+    if (!has_ports || !has_upper_layer(parts) || low < 0) return false;
+    *port = (unsigned)high << 8 | (unsigned)low;
+    return true;
+}
+
+void put_port(struct writer *writer, const struct parts *parts, bool is_destination)
+{
+    unsigned port;
+    if (!find_port(parts, is_destination, &port)) return;
     put_byte(writer, '.');
-    put_number(writer, (uint64_t)high << 8 | (uint64_t)low);
+    put_number(writer, port);
 }
 
 /* The letters of the flags of TCP, from the lowest bit on. */
@@ -111,10 +119,10 @@ static void put_ipv4_fragment(struct writer *writer, const struct parts *parts)
 static void put_ipv6_fragment(struct writer *writer, const struct parts *parts)
 {
     enum { FIELDS_AT = 2, OFFSET = 0xfff8, ID_AT = 4, ID_DIGITS = 8 };
-    const struct wolfaren_header *header = fragment_header(parts);
-    if (!header) return;
-    const uint8_t *bytes = parts->bytes + header->offset;
-    size_t stated = parts->packet.stated_len, end = stated > 0 ? stated : parts->len, begin = header->offset + header->len;
+    struct wolfaren_header header;
+    if (!find_fragment_header(parts, &header)) return;
+    const uint8_t *bytes = parts->bytes + header.offset;
+    size_t stated = parts->packet.stated_len, end = stated > 0 ? stated : parts->len, begin = header.offset + header.len;
     put_text(writer, ", frag (0x");
     put_hexadecimal(writer, (uint64_t)number_at(bytes + ID_AT) << 16 | number_at(bytes + ID_AT + 2), ID_DIGITS);
     put_byte(writer, ':');

@@ -10,9 +10,12 @@
 #include "writer.h"
 
 /*
- * Writes the source or the destination port after a point, if the packet has it: the payload is that of TCP, UDP, DCCP, SCTP or
- * UDP-Lite, not a later fragment, and has both bytes of the port.
+ * Stores the source or the destination port, if the packet has it, and returns whether it does: the payload is that of TCP, UDP,
+ * DCCP, SCTP or UDP-Lite, not a later fragment, and has both bytes of the port.
  */
+bool find_port(const struct parts *parts, bool is_destination, unsigned *port);
+
+/* Writes that port after a point, if the packet has it. */
 void put_port(struct writer *writer, const struct parts *parts, bool is_destination);
 
 /* Writes which fragment the payload is, and the flags of a TCP header or the type of an ICMP message that it begins with. */

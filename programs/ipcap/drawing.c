@@ -24,11 +24,12 @@ struct drawing {
     const struct parts *parts;
     struct writer *writer;
     bool in_color;
-    size_t offset_width; /* digits of the offset at the start of a row */
-    size_t index;       /* of the range at the current position */
-    bool has_range;     /* there is one */
-    struct range range; /* that range */
-    bool is_named;      /* whether its name has been written */
+    size_t offset_width;     /* digits of the offset at the start of a row */
+    size_t index;            /* of the next range */
+    struct header_walk walk; /* up to the last extension header among the ranges so far */
+    bool has_range;          /* there is a range at the current position */
+    struct range range;      /* that range */
+    bool is_named;           /* whether its name has been written */
 };
 
 static const char *header_color(uint8_t number)
@@ -43,19 +44,21 @@ static const char *header_color(uint8_t number)
 }
 
 /*
- * Stores one of the ranges of a packet: the IP header, each extension header, and the payload if the chain is complete.
- * Returns false if there is no range with this index.
+ * Stores the next range of a packet: the IP header, then each extension header, and the payload if the chain is complete.
+ * Returns false after the last one.
  */
-static bool range_at(const struct parts *parts, size_t index, struct range *range)
+static bool next_range(struct drawing *drawing, struct range *range)
 {
+    const struct parts *parts = drawing->parts;
     const struct wolfaren_dissection *packet = &parts->packet;
+    const size_t index = drawing->index++;
     if (packet->version == 0) return false;
     if (index == 0) {
         *range = (struct range){0, packet->base_len, packet->version == 4 ? "IPv4" : "IPv6", "\033[1m"};
         return true;
     }
-    if (index <= packet->headers) {
-        const struct wolfaren_header *header = &parts->headers[index - 1];
+    if (visit_header(parts, &drawing->walk)) {
+        const struct wolfaren_header *header = &drawing->walk.header;
         *range = (struct range){header->offset, header->offset + header->len, number_name(header->number),
                                 header_color(header->number)};
         return true;
@@ -79,11 +82,10 @@ static const char *change_color(const struct drawing *drawing, const char *color
     return next;
 }
 
-/* Moves to a range by its index. */
-static void move_to(struct drawing *drawing, size_t index)
+/* Moves to the next range. */
+static void move_on(struct drawing *drawing)
 {
-    drawing->index = index;
-    drawing->has_range = range_at(drawing->parts, index, &drawing->range);
+    drawing->has_range = next_range(drawing, &drawing->range);
     drawing->is_named = false;
 }
 
@@ -93,7 +95,7 @@ static void move_to(struct drawing *drawing, size_t index)
  */
 static size_t reach(struct drawing *drawing, size_t at, size_t end)
 {
-    while (drawing->has_range && drawing->range.end <= at) move_to(drawing, drawing->index + 1);
+    while (drawing->has_range && drawing->range.end <= at) move_on(drawing);
     return drawing->has_range && drawing->range.end < end ? drawing->range.end : end;
 }
 
@@ -224,7 +226,7 @@ void put_drawing(struct writer *writer, const struct parts *parts, bool in_color
     size_t last = end_of_chain(parts) == CHAIN_WHOLE ? 0 : fault_offset(parts);
     size_t width = offset_width(shown > last ? shown - 1 : last);
     struct drawing drawing = {.parts = parts, .writer = writer, .in_color = in_color, .offset_width = width};
-    move_to(&drawing, 0);
+    move_on(&drawing);
     for (size_t row = 0; row < shown || row <= last; row += ROW_BYTES) {
         size_t left = shown > row ? shown - row : 0;
         size_t end = row + (left < ROW_BYTES ? left : ROW_BYTES);

@@ -99,6 +99,7 @@ struct target {
     bool has_failed;   /* nothing more can be written, and why was reported */
     bool has_left_out; /* packets of the last file don't fit into the output */
     bool has_empty;    /* there was a file without interfaces */
+    bool is_confined;  /* only files for reading can be opened */
 };
 
 static bool refuse_output(struct target *target, const char *words)
@@ -207,15 +208,11 @@ static bool is_timely(const struct request *request, const struct capture *captu
     return !is_before(&time, &request->since) && is_before(&time, &request->until);
 }
 
-/*
- * Decides whether a packet meets the condition, and has one of the numbers and times that are asked for. If memory runs out,
- * reports it and returns false.
- */
-static bool choose(const struct request *request, struct matcher *matcher, const struct capture *capture,
-                   const struct packet *packet, bool *is_chosen)
+/* Whether a packet meets the condition, and has one of the numbers and times that are asked for. */
+static bool is_chosen(const struct request *request, struct matcher *matcher, const struct capture *capture,
+                      const struct packet *packet)
 {
-    *is_chosen = capture->number >= request->packets.first && is_timely(request, capture, packet);
-    return !*is_chosen || decide(matcher, packet, is_chosen);
+    return capture->number >= request->packets.first && is_timely(request, capture, packet) && decide(matcher, packet);
 }
 
 /* Whether packets that aren't read yet may be written. */
@@ -239,22 +236,21 @@ static bool filter_packets(const struct request *request, struct target *target,
 {
     struct output *output = &target->output;
     struct packet packet;
-    bool is_chosen, is_decided = true;
     target->has_left_out = false;
-    while (is_decided && wants_more(request, output, capture) && read_packet(capture, &packet)) {
-        is_decided = choose(request, &target->matcher, capture, &packet, &is_chosen);
-        if (is_decided && is_chosen && does_fit(target, capture, &packet)) write_packet(output, capture, &packet);
-    }
+    while (wants_more(request, output, capture) && read_packet(capture, &packet))
+        if (is_chosen(request, &target->matcher, capture, &packet) && does_fit(target, capture, &packet))
+            write_packet(output, capture, &packet);
     errno = 0;
     flush_output(output);
     bool is_numbered = has_all_numbers(output, capture);
-    return is_written(target) && is_decided && is_numbered && !target->has_left_out;
+    return is_written(target) && is_numbered && !target->has_left_out;
 }
 
 /* Filters a capture with whole packets in place of their fragments. */
 static bool filter_whole_packets(const struct request *request, struct target *target, struct capture *capture)
 {
-    struct defragmenter *defragmenter = begin_defragmenter(account_of(capture), slots_within(request->memory), false);
+    struct defragmenter *defragmenter = begin_defragmenter(account_of(capture), slots_within(request->memory),
+                                                          request->has_tunnels, false);
     if (!defragmenter) {
         complain_of_memory();
         return false;
@@ -263,6 +259,7 @@ static bool filter_whole_packets(const struct request *request, struct target *t
     bool is_done = filter_packets(request, target, capture);
     stop_defragmenter(defragmenter);
     report_fragments(defragmenter, capture->name);
+    is_done &= has_had_memory(defragmenter);
     end_defragmenter(defragmenter);
     return is_done;
 }
@@ -302,6 +299,16 @@ static bool filter_capture(const struct request *request, struct target *target,
     return is_done;
 }
 
+/* Gives up all but reading further files once the output is open, and that, too, once the last file is. */
+static void confine_filter(struct target *target, bool is_last)
+{
+    if (is_last)
+        confine(FILES_NONE);
+    else if (!target->is_confined)
+        confine(FILES_READ);
+    target->is_confined = true;
+}
+
 /* Filters a file. If it is the first that could be opened, opens the output. After the last one, no file is opened. */
 static bool filter_file(const struct request *request, struct target *target, const char *path, bool is_last)
 {
@@ -314,7 +321,7 @@ static bool filter_file(const struct request *request, struct target *target, co
         return close_input(&input);
     }
     bool is_open = target->output.file ? has_link_type(target, capture) : open_output(target, request, capture);
-    if (is_open && is_last) confine(FILES_NONE);
+    if (is_open) confine_filter(target, is_last);
     bool is_done = is_open && filter_capture(request, target, capture);
     return close_input(&input) && is_done;
 }
@@ -334,7 +341,6 @@ static bool filter_files(const struct request *request)
         if (!filter_file(request, &target, request->files[i], i + 1 == request->file_count)) is_done = false;
     if (!write_empty_output(&target, request)) is_done = false;
     end_output(&target.output);
-    end_matcher(&target.matcher);
     return is_done;
 }
 

@@ -110,16 +110,28 @@ static bool ask(void *account, uint64_t bytes)
     return ask_for_memory(account, bytes);
 }
 
-bool begin_input(struct input *input, const char *path, struct account *account)
+/* Sets from which account memory is taken. */
+static void set_account(struct input *input, struct account *account)
 {
     input->account = account;
     input->memory = (struct memory_source){begin_account, ask, account};
-    look_at_file(input, path);
-    if (!open_capture(&input->capture, path, &input->memory)) return false;
+}
+
+/* Begins to read an input that was opened. */
+static void begin_reading(struct input *input)
+{
     input->capture.stop = &stop_signal;
-    input->capture.source.wait = wait_for_bytes;
     begin_stopping();
     if (shows_progress()) allow_progress(input);
+}
+
+bool begin_input(struct input *input, const char *path, struct account *account)
+{
+    set_account(input, account);
+    look_at_file(input, path);
+    if (!open_capture(&input->capture, path, &input->memory)) return false;
+    input->capture.source.wait = wait_for_bytes;
+    begin_reading(input);
     return true;
 }
 
@@ -134,6 +146,18 @@ bool open_input(struct input *input, const char *path)
 {
     *input = (struct input){0};
     if (begin_input(input, path, &input->own)) return true;
+    close_account(&input->own);
+    return report_error(&input->capture);
+}
+
+bool reopen_input(struct input *input, int descriptor, const char *name)
+{
+    *input = (struct input){0};
+    set_account(input, &input->own);
+    if (open_capture_of(&input->capture, descriptor, name, &input->memory)) {
+        begin_reading(input);
+        return true;
+    }
     close_account(&input->own);
     return report_error(&input->capture);
 }

@@ -50,6 +50,9 @@ void end_input(struct input *input);
 /* Opens a file or standard input, with an account of its own. On failure, reports why and returns false. */
 bool open_input(struct input *input, const char *path);
 
+/* Opens a file that is open already, as `open_input` does. It is read to its end: no signal is waited for. */
+bool reopen_input(struct input *input, int descriptor, const char *name);
+
 /* Shows progress even if standard output is a terminal. For commands that write nothing to standard output. */
 void allow_progress(struct input *input);
 

@@ -50,9 +50,10 @@ static void store_key(struct loss *loss, const struct parts *parts)
 {
     enum { PROTOCOL_AT = 9 };
     size_t at = parts->packet.version == 4 ? 12 : 8, len = parts->packet.version == 4 ? 8 : 32;
-    const struct wolfaren_header *header = fragment_header(parts);
+    struct wolfaren_header header;
     loss->version = (uint8_t)parts->packet.version;
-    loss->protocol = header ? header->next_header : parts->packet.version == 4 ? parts->bytes[PROTOCOL_AT] : 0;
+    loss->protocol = parts->packet.version == 4 ? parts->bytes[PROTOCOL_AT] : 0;
+    if (find_fragment_header(parts, &header)) loss->protocol = header.next_header;
     loss->identification = parts->packet.identification;
     if (parts->packet.version != 0) memcpy(loss->addresses, parts->bytes + at, len);
 }
@@ -74,8 +75,10 @@ void add_to_loss(struct loss_report *report, struct loss *loss, const struct cap
 {
     if (!report->file) return;
     size_t len = packet->header.caplen - packet->ip_offset;
-    if (loss->count == 0 && parse_packet(&report->parts, packet->frame + packet->ip_offset, len, NULL))
+    if (loss->count == 0) {
+        parse_packet(&report->parts, packet->frame + packet->ip_offset, len, NULL);
         store_key(loss, &report->parts);
+    }
     loss->count++;
     if (loss->count == loss->kept + 1 && make_room(loss)) loss->numbers[loss->kept++] = capture->number;
 }
@@ -145,6 +148,5 @@ bool finish_report(struct loss_report *report)
 
 void end_report(struct loss_report *report)
 {
-    free_parts(&report->parts);
     if (report->file && report->file != stdout) fclose(report->file);
 }

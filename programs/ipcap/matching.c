@@ -2,14 +2,10 @@
 
 #include "chain_key.h"
 #include "output.h"
-#include "report.h"
 
-bool parse_captured(struct parts *parts, const struct packet *packet)
+void parse_captured(struct parts *parts, const struct packet *packet)
 {
-    size_t len = packet->header.caplen - packet->ip_offset;
-    if (parse_packet(parts, packet->frame + packet->ip_offset, len, NULL)) return true;
-    complain_of_memory();
-    return false;
+    parse_packet(parts, packet->frame + packet->ip_offset, packet->header.caplen - packet->ip_offset, NULL);
 }
 
 void enter_tunnel(struct packet *packet, const struct inner *inner)
@@ -26,25 +22,20 @@ static bool does_meet(struct matcher *matcher, const struct packet *packet)
 }
 
 /* Decides whether a packet in the tunnels of a packet meets the condition. */
-static bool decide_inner(struct matcher *matcher, struct packet packet, bool *is_met)
+static bool decide_inner(struct matcher *matcher, struct packet packet)
 {
     struct inner inner;
-    for (unsigned depth = 0; !*is_met && packet.is_ip && depth < PATH_TUNNELS; depth++) {
-        if (!parse_captured(&matcher->parts, &packet)) return false;
-        if (!find_inner(&matcher->parts, &inner)) return true;
+    for (unsigned depth = 0; packet.is_ip && depth < PATH_TUNNELS; depth++) {
+        parse_captured(&matcher->parts, &packet);
+        if (!find_inner(&matcher->parts, &inner)) return false;
         enter_tunnel(&packet, &inner);
-        *is_met = does_meet(matcher, &packet);
+        if (does_meet(matcher, &packet)) return true;
     }
-    return true;
+    return false;
 }
 
-bool decide(struct matcher *matcher, const struct packet *packet, bool *is_met)
+bool decide(struct matcher *matcher, const struct packet *packet)
 {
-    *is_met = !packet->is_left_out && (!matcher->condition || does_meet(matcher, packet));
-    return packet->is_left_out || !matcher->has_tunnels || decide_inner(matcher, *packet, is_met);
-}
-
-void end_matcher(struct matcher *matcher)
-{
-    free_parts(&matcher->parts);
+    if (packet->is_left_out) return false;
+    return !matcher->condition || does_meet(matcher, packet) || (matcher->has_tunnels && decide_inner(matcher, *packet));
 }

@@ -15,17 +15,11 @@ struct matcher {
     struct parts parts;          /* all zeros before the first call */
 };
 
-/*
- * Decides whether a packet meets the condition. One whose link layer isn't supported meets none. If memory runs out, reports
- * it and returns false.
- */
-bool decide(struct matcher *matcher, const struct packet *packet, bool *is_met);
+/* Decides whether a packet meets the condition. One whose link layer isn't supported meets none. */
+bool decide(struct matcher *matcher, const struct packet *packet);
 
-/* Releases the memory. */
-void end_matcher(struct matcher *matcher);
-
-/* Dissects the IP packet of a captured packet. If memory runs out, reports it and returns false. */
-bool parse_captured(struct parts *parts, const struct packet *packet);
+/* Dissects the IP packet of a captured packet. */
+void parse_captured(struct parts *parts, const struct packet *packet);
 
 /* Makes a packet that which a tunnel in it carries, in the same frame. */
 void enter_tunnel(struct packet *packet, const struct inner *inner);

@@ -48,11 +48,11 @@ size_t write_numbered_head(uint8_t head[NUMBERED_HEAD], int link_type, uint32_t 
 static bool make_room(struct numbered *numbered, size_t len)
 {
     if (len <= numbered->room) return true;
-    uint8_t *block = realloc(numbered->block, 2 * len);
-    if (!block) return false;
-    numbered->block = block;
-    numbered->room = 2 * len;
-    return true;
+    const size_t room = len < MOST_BLOCK / 2 ? 2 * len : len;
+    free(numbered->block);
+    numbered->block = malloc(room);
+    numbered->room = numbered->block ? room : 0;
+    return numbered->block;
 }
 
 /* Writes the comment, and returns its length. */

@@ -1,4 +1,4 @@
-/* Dissects a captured IP packet, and keeps its extension headers in memory that is reused from packet to packet. */
+/* Dissects a captured IP packet, and visits its extension headers. */
 #ifndef IPCAP_PARTS_H
 #define IPCAP_PARTS_H
 
@@ -15,20 +15,28 @@ enum chain_end {
     CHAIN_TRUNCATED /* the next extension header is incomplete here, but not by the packet's stated length */
 };
 
+/* How many extension headers of a packet are stored. A packet may have millions. */
+enum { STORED_HEADERS = 64 };
+
 /* A packet and its dissection. Fill it with zeros before its first use. */
 struct parts {
     const uint8_t *bytes; /* the captured bytes of the packet, and what follows it in the frame */
     size_t len;
     struct wolfaren_dissection packet;
-    struct wolfaren_header *headers; /* the extension headers: `packet.headers` elements; others have any values */
-    size_t room;                     /* number of elements allocated */
+    struct wolfaren_header headers[STORED_HEADERS]; /* the first extension headers; further elements have any values */
 };
 
-/*
- * Dissects the packet at the start of the `len` bytes, and counts it in the statistics unless they are NULL. Returns false
- * if memory runs out.
- */
-bool parse_packet(struct parts *parts, const uint8_t *bytes, size_t len, struct wolfaren_statistics *statistics);
+/* Dissects the packet at the start of the `len` bytes, and counts it in the statistics unless they are NULL. */
+void parse_packet(struct parts *parts, const uint8_t *bytes, size_t len, struct wolfaren_statistics *statistics);
+
+/* A walk through the extension headers of a packet, also those that aren't stored. Fill it with zeros to start. */
+struct header_walk {
+    size_t visited;                /* number of headers visited so far */
+    struct wolfaren_header header; /* the last of these */
+};
+
+/* Visits the next extension header. Returns false after the last one. */
+bool visit_header(const struct parts *parts, struct header_walk *walk);
 
 /* Returns how the chain of a packet ends. */
 enum chain_end end_of_chain(const struct parts *parts);
@@ -40,15 +48,15 @@ bool has_fault(const struct parts *parts);
 bool is_fragment(const struct parts *parts);
 
 /*
- * Returns the fragment header of an IPv6 packet that makes the payload a fragment, or else that of an atomic fragment, or null
- * if there is none.
+ * Finds the fragment header of an IPv6 packet that makes the payload a fragment, or else that of an atomic fragment. Returns
+ * false if there is none.
  */
-const struct wolfaren_header *fragment_header(const struct parts *parts);
+bool find_fragment_header(const struct parts *parts, struct wolfaren_header *found);
 
 /* Returns where the faulty or truncated header begins, or the packet that has the error. */
 size_t fault_offset(const struct parts *parts);
 
-/* Releases the memory. */
-void free_parts(struct parts *parts);
+/* Returns the header or packet that has an error, or a truncated header: a value of `layer` in struct wolfaren_fault. */
+uint8_t faulty_layer(const struct wolfaren_fault *fault);
 
 #endif

@@ -62,7 +62,7 @@ static void write_entries(struct output *output, struct table *table, uint64_t m
     uint64_t other = table->other;
     order_table(table);
     for (size_t i = 0; i < table->count; i++) {
-        const struct entry *entry = &table->entries[i];
+        const struct table_entry *entry = &table->entries[i];
         if (i < most) {
             write_key(&entry->key, text);
             write_count(output, text, entry->count);

@@ -174,6 +174,7 @@ static const struct {
     [WOLFAREN_TEST_VERSION_LEADS_TO] = {print_protocol, ""},
     [WOLFAREN_TEST_ICMP6_TYPE] = {print_number, "icmp6-type"},
     [WOLFAREN_TEST_ICMP6_CODE] = {print_number, "icmp6-code"},
+    [WOLFAREN_TEST_NO_LENGTH] = {print_word, "no-length"},
 };
 
 /* Prints a test, and returns the length. No packet meets a test of an unknown kind. */

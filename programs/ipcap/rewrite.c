@@ -13,12 +13,13 @@
 #include "rewriter.h"
 
 static const char usage[] =
-    "usage: ipcap rewrite [--without HEADER] [--clear] [--in-order] [--break-authentication] [--memory SIZE] [-w OUTPUT] [FILE]\n"
+    "usage: ipcap rewrite [--without HEADER] [--clear] [--in-order] [--break-authentication] [--tunnels] [--memory SIZE] [-w OUTPUT] [FILE]\n"
     "Writes the packets of FILE, or standard input, with changed extension headers. The first three options say how.\n"
     "  --without HEADER        leave out this header, such as `hop-by-hop` or 0; can be given several times\n"
     "  --clear                 set the reserved bits of fragment and authentication headers to zero\n"
     "  --in-order              put headers in the order that RFC 8200, section 4.1, recommends\n"
     "  --break-authentication  also change packets that keep an authentication header: its integrity check then fails\n"
+    "  --tunnels               also change the packets in tunnels\n"
     "  --memory SIZE           use at most so much memory, such as 2G (default: 512M)\n"
     "  -w OUTPUT               write to this file instead of standard output\n"
     "  --help                  print this help\n"
@@ -32,6 +33,7 @@ struct request {
     bool clears;
     bool orders;
     bool breaks_authentication;
+    bool has_tunnels;
 };
 
 static const struct option_row options[] = {
@@ -41,6 +43,7 @@ static const struct option_row options[] = {
     {"in-order", set_flag, offsetof(struct request, orders), NULL},
     {"memory", read_memory_argument, offsetof(struct request, memory), MEMORY_WORDS},
     {"break-authentication", set_flag, offsetof(struct request, breaks_authentication), NULL},
+    {"tunnels", set_flag, offsetof(struct request, has_tunnels), NULL},
 };
 
 /* Writes all packets. */
@@ -66,9 +69,11 @@ static bool rewrite_file(const struct request *request, const char *path)
         .clears = request->clears,
         .orders = request->orders,
         .breaks_authentication = request->breaks_authentication,
+        .has_tunnels = request->has_tunnels,
     };
     set_budget(request->memory, 0);
     if (!open_input(&input, path)) return false;
+    rewriter.account = account_of(&input.capture);
     if (!is_standard_stream(request->output)) allow_progress(&input);
     bool is_open = open_copy(&output, request->output, &input.capture, path, begin_output);
     if (is_open) confine(FILES_NONE);

@@ -4,6 +4,8 @@
 #include <string.h>
 
 #include "blocks.h"
+#include "levels.h"
+#include "matching.h"
 #include "report.h"
 
 /* Where the captured length, the length and the frame of a packet are in its block, and in a simple packet block. */
@@ -28,12 +30,6 @@ struct change {
     bool keeps_check_values;
 };
 
-/* The number of extension headers that so many bytes have at most. */
-static size_t most_headers(size_t len)
-{
-    return len / 8 + 1;
-}
-
 /* Whether a packet has one of some headers: a bit for each number. */
 static bool has_header(uint64_t headers, struct span packet)
 {
@@ -49,21 +45,14 @@ static bool is_reserved_set(const uint8_t *header, uint8_t number)
     return number == WOLFAREN_AUTHENTICATION && (header[2] != 0 || header[3] != 0);
 }
 
-/* Stores where the headers of a packet that are there begin. Returns their number. */
-static size_t find_headers(const struct rewriter *rewriter, struct span packet)
-{
-    struct wolfaren_dissection dissection;
-    wolfaren_dissect(packet.bytes, packet.len, rewriter->headers, most_headers(rewriter->room), &dissection);
-    return dissection.headers;
-}
-
 /* Whether a reserved bit is 1 in the headers of a packet that are there. */
-static bool has_reserved(const struct rewriter *rewriter, struct span packet)
+static bool has_reserved(struct rewriter *rewriter, struct span packet)
 {
+    struct header_walk walk = {0};
     if (!has_header(UINT64_C(1) << WOLFAREN_FRAGMENT | UINT64_C(1) << WOLFAREN_AUTHENTICATION, packet)) return false;
-    const size_t count = find_headers(rewriter, packet);
-    for (size_t i = 0; i < count; i++)
-        if (is_reserved_set(packet.bytes + rewriter->headers[i].offset, rewriter->headers[i].number)) return true;
+    parse_packet(&rewriter->parts, packet.bytes, packet.len, NULL);
+    while (visit_header(&rewriter->parts, &walk))
+        if (is_reserved_set(packet.bytes + walk.header.offset, walk.header.number)) return true;
     return false;
 }
 
@@ -79,16 +68,25 @@ static int place_in_order(uint8_t number, bool is_before_routing)
     }
 }
 
-/* Whether the headers of a packet that are there are in another order than RFC 8200, section 4.1, recommends. */
-static bool is_out_of_order(const struct rewriter *rewriter, struct span packet)
+/* Returns where the last routing header of a packet begins, or 0 if there is none. */
+static size_t last_routing(const struct parts *parts)
 {
+    struct header_walk walk = {0};
+    size_t last = 0;
+    while (visit_header(parts, &walk))
+        if (walk.header.number == WOLFAREN_ROUTING) last = walk.header.offset;
+    return last;
+}
+
+/* Whether the headers of a packet that are there are in another order than RFC 8200, section 4.1, recommends. */
+static bool is_out_of_order(struct rewriter *rewriter, struct span packet)
+{
+    struct header_walk walk = {0};
     int before = 0;
-    size_t last_routing = 0;
-    const size_t count = find_headers(rewriter, packet);
-    for (size_t i = 0; i < count; i++)
-        if (rewriter->headers[i].number == WOLFAREN_ROUTING) last_routing = i;
-    for (size_t i = 0; i < count; i++) {
-        const int place = place_in_order(rewriter->headers[i].number, i < last_routing);
+    parse_packet(&rewriter->parts, packet.bytes, packet.len, NULL);
+    const size_t routing = last_routing(&rewriter->parts);
+    while (visit_header(&rewriter->parts, &walk)) {
+        const int place = place_in_order(walk.header.number, walk.header.offset < routing);
         if (place < before) return true;
         before = place;
     }
@@ -96,7 +94,7 @@ static bool is_out_of_order(const struct rewriter *rewriter, struct span packet)
 }
 
 /* Whether there is something to change in a packet. */
-static bool is_concerned(const struct rewriter *rewriter, struct span packet)
+static bool is_concerned(struct rewriter *rewriter, struct span packet)
 {
     return has_header(rewriter->without, packet) || (rewriter->clears && has_reserved(rewriter, packet))
         || (rewriter->orders && is_out_of_order(rewriter, packet));
@@ -161,14 +159,14 @@ static uint8_t make_change(const struct rewriter *rewriter, struct change *chang
 }
 
 /* Makes the block of a frame that is at its place in the new block already, from the old one: its options and all else stay. */
-static void make_block(struct packet *packet, uint8_t *block, uint32_t old_captured_len)
+static void make_block(struct packet *packet, uint8_t *block, const struct packet *old)
 {
-    const bool is_little = !packet->is_big_endian;
-    const size_t frame_at = (size_t)(packet->frame - packet->block);
-    const uint8_t *options = packet->frame + padded_len(old_captured_len), *end = packet->block + packet->block_len - TRAILER_LEN;
+    const bool is_little = !old->is_big_endian;
+    const size_t frame_at = (size_t)(old->frame - old->block);
+    const uint8_t *options = old->frame + padded_len(old->header.caplen), *end = old->block + old->block_len - TRAILER_LEN;
     const uint32_t len = packet->header.caplen;
     uint8_t *place = block + frame_at + len;
-    memcpy(block, packet->block, frame_at);
+    memcpy(block, old->block, frame_at);
     memset(place, 0, padded_len(len) - len);
     place += padded_len(len) - len;
     memcpy(place, options, (size_t)(end - options));
@@ -181,36 +179,38 @@ static void make_block(struct packet *packet, uint8_t *block, uint32_t old_captu
     packet->block = block;
 }
 
-/* Replaces the IP packet in a frame by one that isn't longer. The bytes before it and after it stay. */
-static void replace(struct packet *packet, uint8_t *block, struct span old, struct span new)
+/* Returns where the frame of a packet is in the buffer once it was changed. */
+static uint8_t *frame_in_buffer(const struct rewriter *rewriter, const struct packet *packet)
 {
-    const uint32_t old_len = packet->header.caplen, removed = (uint32_t)(old.len - new.len);
-    const size_t frame_at = packet->block ? (size_t)(packet->frame - packet->block) : 0;
-    uint8_t *frame = block + frame_at, *end = frame + packet->ip_offset + new.len;
-    memcpy(frame, packet->frame, packet->ip_offset);
-    memcpy(frame + packet->ip_offset, new.bytes, new.len);
-    memcpy(end, old.bytes + old.len, old_len - packet->ip_offset - old.len);
-    packet->header.caplen -= removed;
-    /* a damaged capture may state fewer bytes than it has */
-    packet->header.len = packet->header.len > removed ? packet->header.len - removed : 0;
-    if (packet->block) make_block(packet, block, old_len);
-    packet->frame = frame;
+    return rewriter->buffer + (packet->block ? packet->frame - packet->block : 0);
 }
 
-/* Makes room for three times so many bytes, and for the headers of a packet of that length. */
-static bool reserve(struct rewriter *rewriter, size_t len)
+/* Replaces a packet in a frame by one that isn't longer. The bytes before it and after it stay. */
+static void replace(const struct rewriter *rewriter, struct packet *packet, const struct packet *old, struct levels *levels,
+                    size_t index, size_t old_len, struct span new)
 {
+    uint8_t *frame = frame_in_buffer(rewriter, old);
+    const uint32_t removed = (uint32_t)(old_len - new.len);
+    size_t len = packet->header.caplen;
+    if (packet->frame != frame) memcpy(frame, packet->frame, len);
+    replace_packet(levels, index, frame, &len, old_len, new.bytes, new.len);
+    packet->frame = frame;
+    packet->header.caplen = (uint32_t)len;
+    /* a damaged capture may state fewer bytes than it has */
+    packet->header.len = packet->header.len > removed ? packet->header.len - removed : 0;
+}
+
+/* Makes room for the changes of a packet, unless there is as much. If memory or the budget runs out, reports that and returns false. */
+static bool reserve(struct rewriter *rewriter, const struct packet *packet)
+{
+    const size_t len = packet->block ? packet->block_len : packet->header.caplen;
     if (rewriter->room >= len) return true;
-    uint8_t *buffer = len > SIZE_MAX / 3 ? NULL : realloc(rewriter->buffer, 3 * len);
-    if (buffer) rewriter->buffer = buffer;
-    struct wolfaren_header *headers = buffer ? realloc(rewriter->headers, most_headers(len) * sizeof *headers) : NULL;
-    if (!headers) {
-        complain_of_memory();
-        return false;
-    }
-    rewriter->headers = headers;
-    rewriter->room = len;
-    return true;
+    const bool is_enough = len <= SIZE_MAX / 3 && ask_for_memory(rewriter->account, 3 * (uint64_t)(len - rewriter->room));
+    free(rewriter->buffer);
+    rewriter->buffer = is_enough ? malloc(3 * len) : NULL;
+    rewriter->room = rewriter->buffer ? len : 0;
+    if (!rewriter->buffer) complain_of_memory();
+    return rewriter->buffer;
 }
 
 /* Whether the block of a packet states a captured length of its own. That of a simple packet depends on its interface. */
@@ -220,7 +220,7 @@ static bool has_captured_len(const struct packet *packet)
 }
 
 /* Makes all changes of a packet. Returns WOLFAREN_NOT_REFUSED, or why the packet is refused. */
-static uint8_t make_changes(const struct rewriter *rewriter, const struct packet *packet, struct change *change)
+static uint8_t make_changes(struct rewriter *rewriter, const struct packet *packet, struct change *change)
 {
     if (!has_captured_len(packet)) return WOLFAREN_REFUSED_MISSING;
     uint8_t refusal = leave_out(rewriter, change);
@@ -231,56 +231,73 @@ static uint8_t make_changes(const struct rewriter *rewriter, const struct packet
     return refusal;
 }
 
-bool rewrite_packet(struct rewriter *rewriter, struct packet *packet)
+/*
+ * Changes the packet with this index in a frame, if there is something to change. If memory or the budget runs out, reports that
+ * and returns false.
+ */
+static bool rewrite_level(struct rewriter *rewriter, struct packet *packet, const struct packet *old, struct levels *levels,
+                          size_t index)
 {
-    struct span old = {packet->frame + packet->ip_offset, packet->header.caplen - packet->ip_offset};
-    if (!packet->is_ip || packet->is_left_out) return true;
-    if (!reserve(rewriter, packet->block ? packet->block_len : packet->header.caplen)) return false;
-    if (!is_concerned(rewriter, old)) return true;
-    struct change change = {old, rewriter->buffer + rewriter->room, rewriter->room, true, true};
-    const uint8_t refusal = make_changes(rewriter, packet, &change);
+    const struct span span = {packet->frame + levels->of[index].offset, levels->of[index].len};
+    struct wolfaren_dissection dissection;
+    /* authentication headers of outer packets, after this packet was changed: nothing refuses that before a tunnel */
+    const bool are_left_out = rewriter->without >> WOLFAREN_AUTHENTICATION & 1;
+    if (!is_concerned(rewriter, span)) return true;
+    if (!reserve(rewriter, old)) return false;
+    struct change change = {span, rewriter->buffer + rewriter->room, rewriter->room, true, true};
+    uint8_t refusal = make_changes(rewriter, old, &change);
+    wolfaren_dissect(span.bytes, span.len, NULL, 0, &dissection);
+    const size_t old_len = span.len - dissection.padding;
+    if (refusal == WOLFAREN_NOT_REFUSED)
+        refusal = refuse_growth(levels, index, (ptrdiff_t)change.packet.len - (ptrdiff_t)old_len,
+                                rewriter->breaks_authentication || are_left_out);
     if (refusal != WOLFAREN_NOT_REFUSED) {
         rewriter->refused[refusal < REFUSALS ? refusal : WOLFAREN_REFUSED_HEADERS]++;
         return true;
     }
     rewriter->without_checksums += !change.keeps_checksums;
-    rewriter->without_check_values += !change.keeps_check_values;
-    struct wolfaren_dissection dissection;
-    wolfaren_dissect(old.bytes, old.len, NULL, 0, &dissection);
-    old.len -= dissection.padding;
-    replace(packet, rewriter->buffer, old, change.packet);
+    rewriter->without_check_values += !change.keeps_check_values || (is_covered(levels, index) && !are_left_out);
+    replace(rewriter, packet, old, levels, index, old_len, change.packet);
+    return true;
+}
+
+/* Finds the packets in a frame, those in tunnels only if they are changed. */
+static void find_levels(struct rewriter *rewriter, const struct packet *packet, struct levels *levels)
+{
+    struct packet inner = *packet;
+    begin_levels(levels, packet);
+    if (!rewriter->has_tunnels) return;
+    do
+        parse_captured(&rewriter->parts, &inner);
+    while (enter_level(levels, &rewriter->parts, &inner));
+}
+
+bool rewrite_packet(struct rewriter *rewriter, struct packet *packet)
+{
+    const struct packet old = *packet;
+    struct levels levels;
+    if (!packet->is_ip || packet->is_left_out) return true;
+    find_levels(rewriter, packet, &levels);
+    for (size_t i = levels.count; i-- > 0;)
+        if (!rewrite_level(rewriter, packet, &old, &levels, i)) return false;
+    if (packet->block && packet->frame != old.frame) make_block(packet, rewriter->buffer, &old);
     return true;
 }
 
 /* Reports a number of packets, unless it is 0. */
-static void report_packets(const char *name, uint64_t count, const char *what, const char *reason)
+static void report_packets(const char *name, uint64_t count, const char *what)
 {
-    if (count > 0)
-        complain("%s: %llu %s %s%s", name, (unsigned long long)count, count == 1 ? "packet" : "packets", what, reason);
+    if (count > 0) complain("%s: %llu %s %s", name, (unsigned long long)count, count == 1 ? "packet" : "packets", what);
 }
 
 void report_rewrites(const struct rewriter *rewriter, const char *name)
 {
-    static const char *const reasons[REFUSALS] = {
-        [WOLFAREN_REFUSED_HEADERS] = "headers that are truncated or faulty",
-        [WOLFAREN_REFUSED_MISSING] = "bytes that are missing",
-        [WOLFAREN_REFUSED_LATER_FRAGMENT] = "a later fragment",
-        [WOLFAREN_REFUSED_NO_HEADER] = "no such header",
-        [WOLFAREN_REFUSED_FRAGMENT_HEADER] = "the fragment header of a fragment",
-        [WOLFAREN_REFUSED_FRAGMENTED] = "a header in the part that is fragmented",
-        [WOLFAREN_REFUSED_AUTHENTICATED] = "an authentication header that covers the change",
-        [WOLFAREN_REFUSED_HEADER_FOLLOWS] = "a payload that would be read as a header",
-        [WOLFAREN_REFUSED_NO_LENGTH] = "a length that isn't stated",
-        [WOLFAREN_REFUSED_TOO_LONG] = "a length that the length field can't state",
-        [WOLFAREN_REFUSED_NO_ROOM] = "no room",
-    };
-    for (size_t i = 1; i < REFUSALS; i++) report_packets(name, rewriter->refused[i], "unchanged: ", reasons[i]);
-    report_packets(name, rewriter->without_checksums, "with a transport checksum that no longer holds", "");
-    report_packets(name, rewriter->without_check_values, "with an integrity check value that no longer holds", "");
+    report_refusals(name, rewriter->refused, "packet", "packets");
+    report_packets(name, rewriter->without_checksums, "with a transport checksum that no longer holds");
+    report_packets(name, rewriter->without_check_values, "with an integrity check value that no longer holds");
 }
 
 void end_rewriter(struct rewriter *rewriter)
 {
     free(rewriter->buffer);
-    free(rewriter->headers);
 }

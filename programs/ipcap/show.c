@@ -10,6 +10,7 @@
 #include "arguments.h"
 #include "commands.h"
 #include "confine.h"
+#include "copy.h"
 #include "defragment.h"
 #include "drawing.h"
 #include "input.h"
@@ -99,17 +100,17 @@ static void put_packet(struct showing *showing, const struct capture *capture, c
     if (packet->is_ip && !request->is_one_line) put_drawing(writer, &showing->parts, request->in_color);
 }
 
-/* Writes a packet and those in its tunnels, if these are asked for. If memory runs out, reports it and returns false. */
-static bool put_packets(struct showing *showing, const struct capture *capture, const struct packet *frame)
+/* Writes a packet and those in its tunnels, if these are asked for. */
+static void put_packets(struct showing *showing, const struct capture *capture, const struct packet *frame)
 {
     struct packet packet = *frame;
     struct inner inner;
     begin_path(&showing->path);
     for (;;) {
-        if (packet.is_ip && !parse_captured(&showing->parts, &packet)) return false;
+        if (packet.is_ip) parse_captured(&showing->parts, &packet);
         put_packet(showing, capture, &packet, frame);
-        if (!showing->request->has_tunnels || !packet.is_ip || showing->path.tunnels == PATH_TUNNELS) return true;
-        if (!find_inner(&showing->parts, &inner)) return true;
+        if (!showing->request->has_tunnels || !packet.is_ip || showing->path.tunnels == PATH_TUNNELS) return;
+        if (!find_inner(&showing->parts, &inner)) return;
         extend_path(&showing->path, &showing->parts, inner.tunnel);
         enter_tunnel(&packet, &inner);
     }
@@ -121,11 +122,9 @@ static bool put_packets(struct showing *showing, const struct capture *capture, 
  */
 static bool show_packet(struct showing *showing, const struct capture *capture, const struct packet *packet)
 {
-    bool is_met;
-    if (!decide(&showing->matcher, packet, &is_met)) return false;
-    if (!is_met) return true;
+    if (!decide(&showing->matcher, packet)) return true;
     errno = 0;
-    if (!put_packets(showing, capture, packet)) return false;
+    put_packets(showing, capture, packet);
     showing->shown++;
     if (capture->is_live) end_text(&showing->writer);
     return capture->is_live || ferror(stdout) ? finish_output() : true;
@@ -151,8 +150,6 @@ static bool show_packets(const struct request *request, struct capture *capture)
     if (request->csv) put_names(&showing.writer, request->has_tunnels);
     while (is_shown && showing.shown < request->most && read_packet(capture, &packet))
         is_shown = show_packet(&showing, capture, &packet);
-    free_parts(&showing.parts);
-    end_matcher(&showing.matcher);
     bool is_written = ferror(stdout) || finish_text(&showing.writer);
     return is_shown && is_written;
 }
@@ -160,7 +157,8 @@ static bool show_packets(const struct request *request, struct capture *capture)
 /* Shows the packets of an open capture, with whole packets in place of their fragments. */
 static bool show_whole_packets(const struct request *request, struct capture *capture)
 {
-    struct defragmenter *defragmenter = begin_defragmenter(account_of(capture), slots_within(request->memory), false);
+    struct defragmenter *defragmenter = begin_defragmenter(account_of(capture), slots_within(request->memory),
+                                                          request->has_tunnels, false);
     if (!defragmenter) {
         complain_of_memory();
         return false;
@@ -169,6 +167,7 @@ static bool show_whole_packets(const struct request *request, struct capture *ca
     bool is_shown = show_packets(request, capture);
     stop_defragmenter(defragmenter);
     report_fragments(defragmenter, capture->name);
+    is_shown &= has_had_memory(defragmenter);
     end_defragmenter(defragmenter);
     return is_shown;
 }
@@ -177,7 +176,7 @@ static bool show_capture(const struct request *request)
 {
     struct input input;
     set_budget(request->memory, request->has_whole ? memory_of_slots(slots_within(request->memory), false) : 0);
-    if (!open_input(&input, request->path)) return false;
+    if (is_any_overwritten(&request->path, 1) || !open_input(&input, request->path)) return false;
     confine(FILES_NONE);
     bool is_shown = (request->has_whole ? show_whole_packets : show_packets)(request, &input.capture);
     bool is_read = close_input(&input);

@@ -28,6 +28,14 @@ static bool is_made_again(void)
     return !is_stopped;
 }
 
+/* Where the bytes that are read are also written, or -1. */
+static int bytes_copy = -1;
+
+void copy_bytes_to(int descriptor)
+{
+    bytes_copy = descriptor;
+}
+
 /* At most this many bytes are decompressed at once. Libraries count some lengths in 32 bits. */
 enum { MOST_AT_ONCE = 1 << 24 };
 
@@ -53,6 +61,23 @@ static ssize_t fail_as_system(struct source *source)
     return fail(source, "%s", errno ? strerror(errno) : "read error");
 }
 
+/* Writes bytes that were read to the copy, if there is one. Returns false on failure. */
+static bool write_copy(struct source *source, const uint8_t *bytes, size_t len)
+{
+    while (bytes_copy >= 0 && len > 0) {
+        ssize_t count = write(bytes_copy, bytes, len);
+        if (count < 0 && errno == EINTR) continue;
+        if (count <= 0) {
+            source->system_error = errno;
+            fail(source, "temporary file: %s", strerror(errno));
+            return false;
+        }
+        bytes += count;
+        len -= (size_t)count;
+    }
+    return true;
+}
+
 /* Reads bytes of the file, as many as have arrived. Returns their number, 0 at the end of the file, or -1. */
 static ssize_t read_file(struct source *source, void *bytes, size_t len)
 {
@@ -62,6 +87,7 @@ static ssize_t read_file(struct source *source, void *bytes, size_t len)
         count = read(source->descriptor, bytes, len);
     while (count < 0 && is_made_again());
     if (count < 0) return fail_as_system(source);
+    if (!write_copy(source, bytes, (size_t)count)) return -1;
     source->is_ended = count == 0;
     source->position += (uint64_t)count;
     return count;
@@ -206,12 +232,16 @@ static int open_file(const char *path)
 
 FILE *open_source(struct source *source, const char *path, const struct memory_source *memory)
 {
-    *source = (struct source){.descriptor = STDIN_FILENO};
-    if (!is_standard_stream(path)) source->descriptor = open_file(path);
-    if (source->descriptor < 0) {
-        fail_as_system(source);
-        return NULL;
-    }
+    int descriptor = is_standard_stream(path) ? STDIN_FILENO : open_file(path);
+    if (descriptor >= 0) return open_descriptor(source, descriptor, memory);
+    *source = (struct source){.descriptor = descriptor};
+    fail_as_system(source);
+    return NULL;
+}
+
+FILE *open_descriptor(struct source *source, int descriptor, const struct memory_source *memory)
+{
+    *source = (struct source){.descriptor = descriptor};
     FILE *stream = begin(source, memory) ? open_stream(source) : NULL;
     if (!stream && !*source->error) fail(source, "out of memory");
     if (!stream) close_source(source);

@@ -40,12 +40,21 @@ void stop_waiting_if(bool (*is_stopped)(void));
 bool is_standard_stream(const char *path);
 
 /*
+ * Sets an open file to which all bytes that are read are also written, except those of a regular file that isn't compressed, or
+ * -1 for none. If writing fails, so does reading, and nothing is read that wasn't written.
+ */
+void copy_bytes_to(int descriptor);
+
+/*
  * Opens a file or standard input. Returns a stream of its bytes, decompressed if the first ones are those of a known
  * format. Closing the stream also closes the file. The stream has each byte as soon as it has arrived. Decompression asks
  * `memory`, or takes what it needs if that is null. On failure, sets `error` and returns null. If reading from the stream fails
  * later, `error` says why.
  */
 FILE *open_source(struct source *source, const char *path, const struct memory_source *memory);
+
+/* Opens the stream of a file that is open, as `open_source` does. Closes the file on failure, too. */
+FILE *open_descriptor(struct source *source, int descriptor, const struct memory_source *memory);
 
 /* Returns how many bytes of the file were read for the stream. */
 uint64_t source_position(const struct source *source, FILE *stream);

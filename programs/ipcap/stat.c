@@ -9,6 +9,7 @@
 #include "arguments.h"
 #include "commands.h"
 #include "confine.h"
+#include "copy.h"
 #include "count_files.h"
 #include "counts.h"
 #include "defragment.h"
@@ -86,7 +87,7 @@ static bool report_file(const struct counted_file *file)
     if (file->defragmenter) report_fragments(file->defragmenter, file->name);
     if (*file->error) complain("%s: %s", file->name, file->error);
     if (file->is_memory_short) complain_of_memory();
-    return !*file->error && !file->is_memory_short;
+    return !*file->error && !file->is_memory_short && (!file->defragmenter || has_had_memory(file->defragmenter));
 }
 
 static bool add_file(struct counted_file *file, void *place)
@@ -121,6 +122,7 @@ static size_t choose_jobs(const struct request *request, const char *const *path
 /* Counts the files, and writes their statistics unless no file can be opened. */
 static bool run_request(const struct request *request, const char *const *paths, size_t count)
 {
+    if (is_any_overwritten(paths, count)) return false;
     struct summary summary = {.request = request, .is_done = true};
     struct files files = {paths, count, request->has_tunnels, request->has_whole, slots_within(request->memory)};
     set_budget(request->memory, request->has_whole ? memory_of_slots(files.slots, false) : 0);

@@ -42,7 +42,7 @@ static bool make_room(struct table *table)
 {
     if (table->count < table->room) return true;
     size_t room = table->room == 0 ? 16 : table->room * 2;
-    struct entry *entries = realloc(table->entries, room * sizeof *entries);
+    struct table_entry *entries = realloc(table->entries, room * sizeof *entries);
     if (!entries) return false;
     table->entries = entries;
     table->room = room;
@@ -55,13 +55,13 @@ static bool insert(struct table *table, size_t rank, const struct key *key, uint
     uint16_t *sorted = &table->sorted[rank];
     memmove(sorted + 1, sorted, (table->count - rank) * sizeof *sorted);
     *sorted = (uint16_t)table->count;
-    table->entries[table->count++] = (struct entry){*key, count};
+    table->entries[table->count++] = (struct table_entry){*key, count};
     return true;
 }
 
 static void add_at(struct table *table, size_t place, uint64_t count)
 {
-    struct entry *entry = &table->entries[place];
+    struct table_entry *entry = &table->entries[place];
     entry->count = add_counts(entry->count, count);
 }
 
@@ -110,7 +110,7 @@ uint64_t sum_table(const struct table *table)
 
 static int compare_entries(const void *left, const void *right)
 {
-    const struct entry *first = left, *second = right;
+    const struct table_entry *first = left, *second = right;
     if (first->count != second->count) return first->count > second->count ? -1 : 1;
     return compare_keys(&first->key, &second->key);
 }

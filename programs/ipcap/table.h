@@ -16,7 +16,7 @@ struct key {
     uint8_t bytes[KEY_BYTES];
 };
 
-struct entry {
+struct table_entry {
     struct key key;
     uint64_t count;
 };
@@ -32,7 +32,7 @@ struct recent {
 
 /* A table. All zeros are an empty table. */
 struct table {
-    struct entry *entries; /* in the order in which the keys were added */
+    struct table_entry *entries; /* in the order in which the keys were added */
     uint16_t sorted[TABLE_KEYS]; /* the indices of the entries, sorted by key */
     size_t count;
     size_t room;

@@ -19,7 +19,8 @@ static const struct {
     {"headers OP N", "the number of headers in the chain", "headers > 2"},
     {"chain-bytes OP N", "the length of the chain in bytes", "chain-bytes >= 256"},
     {"payload OP N", "the number of payload bytes captured", "payload < 8"},
-    {"length OP N", "the stated length of the packet in bytes", "length > 1280"},
+    {"length OP N", "the length of the packet in bytes", "length > 1280"},
+    {"no-length", "the IP header states length 0", "no-length"},
     {"hop-limit OP N", "the hop limit, or the time to live of IPv4", "hop-limit = 255"},
     {"ttl OP N", "as hop-limit", "ttl < 2"},
     {"dscp OP N", "the differentiated services code point", "dscp = 46"},
@@ -47,7 +48,7 @@ static const struct {
     {"src port PORTS", "the source port is one of these", "src port 1024-65535"},
     {"dst port PORTS", "the destination port is one of these", "dst port 443"},
     {"port PORTS", "either port is one of these", "port 53"},
-    {"no-transport", "the payload is too short for its ports", "no-transport"},
+    {"no-transport", "the upper-layer header is not all there", "no-transport"},
     {"icmp-type TYPE", "the type of an ICMP message of IPv4", "icmp-type icmp-echo"},
     {"icmp-code N", "the code of an ICMP message of IPv4", "icmp-code 0"},
     {"icmp6-type TYPE", "the type of an ICMPv6 message of IPv6", "icmp6-type icmp6-echo"},
@@ -63,7 +64,7 @@ static const char arguments[] =
     "          udp-lite (136)\n"
     "OP        = == != < <= > >=\n"
     "KIND      too-short, not-at-start, zero-length, unsupported-version, header-length\n"
-    "LAYER     IP-header, IPv4-header, IPv4-packet, authentication, IPv6-header, IPv6-packet, IPv6-extension, hop-by-hop,\n"
+    "LAYER     IP-header, IPv4-header, IPv4-packet, authentication, IPv6-header, IPv6-extension, hop-by-hop,\n"
     "          destination-options, routing, fragment\n"
     "TYPE      a number from 0 to 255, or its name in libpcap's expressions, as in the manual page\n"
     "N         a decimal number, or a hexadecimal one after 0x\n"

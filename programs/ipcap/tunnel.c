@@ -17,10 +17,24 @@ static void set_packet(struct inner *inner, const struct rest *rest, size_t offs
     inner->len = rest->len - offset;
 }
 
+/* Notes the number of a tunnel. */
+static void identify(struct inner *inner, uint32_t identifier)
+{
+    inner->has_identifier = true;
+    inner->identifier = identifier;
+}
+
+/* Reads a number of 4 bytes, most significant byte first. */
+static uint32_t long_number_at(const uint8_t *bytes)
+{
+    return (uint32_t)number_at(bytes) << 16 | number_at(bytes + 2);
+}
+
 /* Finds the packet in an Ethernet frame. */
 static void find_in_frame(const struct rest *rest, struct inner *inner)
 {
     size_t offset;
+    inner->frame = rest->bytes;
     inner->is_ip = find_ip(find_link_layer(DLT_EN10MB), rest->bytes, rest->len, &offset, &inner->protocol);
     set_packet(inner, rest, offset);
 }
@@ -57,8 +71,12 @@ static bool find_in_gre(struct rest *rest, struct inner *inner)
     static const unsigned fields[] = {HAS_CHECKSUM, HAS_KEY, HAS_SEQUENCE};
     const uint8_t *header = rest->bytes;
     if (!skip(rest, LEN) || (number_at(header) & (FORBIDDEN | VERSION))) return false;
-    for (size_t i = 0; i < sizeof fields / sizeof *fields; i++)
-        if ((number_at(header) & fields[i]) && !skip(rest, FIELD_LEN)) return false;
+    for (size_t i = 0; i < sizeof fields / sizeof *fields; i++) {
+        const uint8_t *field = rest->bytes;
+        if (!(number_at(header) & fields[i])) continue;
+        if (!skip(rest, FIELD_LEN)) return false;
+        if (fields[i] == HAS_KEY) identify(inner, long_number_at(field));
+    }
     find_by_type(rest, number_at(header + TYPE_AT), inner);
     return true;
 }
@@ -79,11 +97,12 @@ static bool skip_gtp_u_extensions(struct rest *rest, uint8_t type)
 /* 3GPP TS 29.281, section 5.1: version 1, no GTP', and a G-PDU, whose packet has no number that says what it is. */
 static bool find_in_gtp_u(struct rest *rest, struct inner *inner)
 {
-    enum { LEN = 8, TYPE_AT = 1, LENGTH_AT = 2, G_PDU = 255, OPTIONAL_LEN = 4, NEXT_TYPE_AT = 3 };
+    enum { LEN = 8, TYPE_AT = 1, LENGTH_AT = 2, ENDPOINT_AT = 4, G_PDU = 255, OPTIONAL_LEN = 4, NEXT_TYPE_AT = 3 };
     enum { VERSION_AND_TYPE = 0xf0, VERSION_1_GTP = 0x30, HAS_OPTIONAL = 0x07, HAS_EXTENSIONS = 0x04 };
     const uint8_t *header = rest->bytes;
     if (!skip(rest, LEN) || (header[0] & VERSION_AND_TYPE) != VERSION_1_GTP || header[TYPE_AT] != G_PDU) return false;
     shorten(rest, number_at(header + LENGTH_AT));
+    identify(inner, long_number_at(header + ENDPOINT_AT));
     const uint8_t *optional = rest->bytes;
     if ((header[0] & HAS_OPTIONAL) && !skip(rest, OPTIONAL_LEN)) return false;
     if ((header[0] & HAS_EXTENSIONS) && !skip_gtp_u_extensions(rest, optional[NEXT_TYPE_AT])) return false;
@@ -96,9 +115,10 @@ static bool find_in_gtp_u(struct rest *rest, struct inner *inner)
 /* RFC 7348, section 5: a flag that says that there is a network identifier, and then an Ethernet frame. */
 static bool find_in_vxlan(struct rest *rest, struct inner *inner)
 {
-    enum { LEN = 8, HAS_IDENTIFIER = 0x08 };
+    enum { LEN = 8, HAS_IDENTIFIER = 0x08, NETWORK_AT = 4 };
     const uint8_t *header = rest->bytes;
     if (!skip(rest, LEN) || !(header[0] & HAS_IDENTIFIER)) return false;
+    identify(inner, long_number_at(header + NETWORK_AT) >> 8);
     find_in_frame(rest, inner);
     return true;
 }
@@ -106,10 +126,11 @@ static bool find_in_vxlan(struct rest *rest, struct inner *inner)
 /* RFC 8926, section 3.4: version 0, the length of the options in units of 4 bytes, no control packet, an EtherType. */
 static bool find_in_geneve(struct rest *rest, struct inner *inner)
 {
-    enum { LEN = 8, VERSION = 0xc0, OPTIONS_LEN = 0x3f, UNIT = 4, FLAGS_AT = 1, IS_CONTROL = 0x80, TYPE_AT = 2 };
+    enum { LEN = 8, VERSION = 0xc0, OPTIONS_LEN = 0x3f, UNIT = 4, FLAGS_AT = 1, IS_CONTROL = 0x80, TYPE_AT = 2, NETWORK_AT = 4 };
     const uint8_t *header = rest->bytes;
     if (!skip(rest, LEN) || (header[0] & VERSION) || (header[FLAGS_AT] & IS_CONTROL)) return false;
     if (!skip(rest, (size_t)(header[0] & OPTIONS_LEN) * UNIT)) return false;
+    identify(inner, long_number_at(header + NETWORK_AT) >> 8);
     find_by_type(rest, number_at(header + TYPE_AT), inner);
     return true;
 }
@@ -163,8 +184,7 @@ bool find_inner(const struct parts *parts, struct inner *inner)
     if (packet->payload_number == NUMBER_UDP && !skip_udp(&rest, packet->version == 6, &port)) return false;
     for (size_t i = 0; i < sizeof tunnels / sizeof *tunnels; i++) {
         if (tunnels[i].number != packet->payload_number || tunnels[i].port != port) continue;
-        inner->tunnel = tunnels[i].tunnel;
-        inner->protocol = (struct protocol){.version = tunnels[i].version};
+        *inner = (struct inner){.tunnel = tunnels[i].tunnel, .protocol = {.version = tunnels[i].version}};
         return tunnels[i].find(&rest, inner);
     }
     return false;

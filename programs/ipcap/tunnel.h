@@ -18,6 +18,9 @@ struct inner {
     const uint8_t *bytes; /* of an IP packet: its bytes, and what follows it in the payload of the outer packet */
     size_t len;
     struct protocol protocol; /* the last number that says what the tunnel carries */
+    const uint8_t *frame;     /* the Ethernet frame with the packet, or null if there is none */
+    bool has_identifier;      /* the tunnel has a number: the key of GRE, the endpoint's of GTP-U, the network's of VXLAN and Geneve */
+    uint32_t identifier;
 };
 
 /* Returns the name of a tunnel, which is empty for IP in IP. */

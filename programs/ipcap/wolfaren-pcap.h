@@ -6,8 +6,9 @@
  * For every call: a path is that of a file; `-` has no special meaning. `error` has room for WOLFAREN_PCAP_ERROR_ROOM
  * bytes. A call that fails writes why, with a terminating null byte; otherwise, `error` is the empty text. Each call
  * with an `error` sets `errno`: to the system's error if the system refused to open, to read or to write a file,
- * otherwise to 0. Any number of threads may make calls at the same time, but only one at a time with the same reader. On
- * a processor without the instructions of libwolfaren, each call that opens a capture fails.
+ * otherwise to 0. Any number of threads may make calls at the same time, but only one at a time with the same reader. A
+ * call uses less than 160 KB of stack. On a processor without the instructions of libwolfaren, each call that opens a
+ * capture fails.
  */
 #ifndef WOLFAREN_PCAP_H
 #define WOLFAREN_PCAP_H

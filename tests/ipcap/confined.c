@@ -1,4 +1,7 @@
-/* Gives up what ipcap gives up, and prints which calls of the system still succeed. */
+/*
+ * confined HOW FILE: gives up what ipcap gives up, and prints which calls of the system still succeed. HOW is `none` if no file is
+ * needed, `reading` if files are read, and `both` for the one after the other.
+ */
 #include "confine.h"
 
 #include <errno.h>
@@ -54,7 +57,8 @@ int main(int count, char **arguments)
     if (count != 3) return 2;
     snprintf(created, sizeof created, "%s.new", arguments[2]);
     int file = open(arguments[2], O_RDWR);
-    confine(arguments[1][0] == 'r' ? FILES_READ : FILES_NONE);
+    if (arguments[1][0] != 'n') confine(FILES_READ);
+    if (arguments[1][0] != 'r') confine(FILES_NONE);
     print("read", read(file, &byte, 1) == 1);
     print("write", write(file, "", 1) == 1);
     print("seek", lseek(file, 0, SEEK_SET) == 0);

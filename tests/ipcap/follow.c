@@ -33,13 +33,12 @@ static unsigned follow(const uint8_t *bytes, size_t len, bool is_printed)
     uint8_t *packet = malloc(len);
     if (!packet && len > 0) abort();
     if (len > 0) memcpy(packet, bytes, len);
-    if (!parse_packet(&parts, packet, len, NULL)) abort();
+    parse_packet(&parts, packet, len, NULL);
     while (path.tunnels < PATH_TUNNELS && inner.is_ip && find_inner(&parts, &inner)) {
         extend_path(&path, &parts, inner.tunnel);
-        if (inner.is_ip && !parse_packet(&parts, inner.bytes, inner.len, NULL)) abort();
+        if (inner.is_ip) parse_packet(&parts, inner.bytes, inner.len, NULL);
         if (is_printed) print_inner(&path, &parts, &inner);
     }
-    free_parts(&parts);
     free(packet);
     return path.tunnels;
 }

@@ -1,16 +1,20 @@
-"""Runs all commands of ipcap, built with sanitizers, on captures that are changed at random.
+"""Runs all commands of ipcap, built with sanitizers, on captures that are changed at random: one, or two where a command takes
+several, from a pipe or from files, which may be compressed. `ipcap sum` gets what `ipcap stat --json` prints, also changed.
 
 Each run has to end by itself, with a status that the manual has. If the status is 0, what was written has to be readable:
-by ipcap, and by Wireshark's reader, which capinfos uses, if that reads the capture. Blocks of pcapng that are neither
+by ipcap, and by Wireshark's reader, which capinfos uses, if that reads the captures. Blocks of pcapng that are neither
 packets nor of the file's structure are copied as they are.
 
-usage: fuzz.py IPCAP MINUTES SEED FOLDER. Takes so many minutes of all processors together. Prints the number of runs. At the
-first error, prints the capture, which stays in FOLDER, and what was wrong.
+usage: fuzz.py IPCAP MINUTES SEED FOLDER. Takes so many minutes of all processors together. Prints the seed and the number of
+runs. At the first error, prints the captures, which stay in FOLDER, and what was wrong.
 """
 
 import concurrent.futures
+import gzip
+import lzma
 import os
 import random
+import re
 import struct
 import subprocess
 import sys
@@ -25,10 +29,16 @@ BATCH = 100
 WORDS = [bytes(4), b"\xff" * 4, b"\x7f\xff\xff\xff", b"\x80\0\0\0", b"\0\1\1\0", b"\n\r\r\n", b"\x1a\x2b\x3c\x4d", b"\x4d\x3c\x2b\x1a"]
 WRITING = [["filter", "fault or not fault"], ["filter", "--defrag", "not fragment"], ["filter", "-c", "3", "header 44 or tcp"],
            ["filter", "--number", "--tunnels", "ip6"],
-           ["defrag", "--report", "/dev/null"], ["defrag", "--keep"], ["defrag", "--keep", "--slots", "1"], ["rewrite", "--without", "0", "--without", "60"],
+           ["defrag", "--report", "/dev/null"], ["defrag", "--keep"], ["defrag", "--keep", "--slots", "1"], ["defrag", "--tunnels", "--keep"], ["defrag", "--tunnels", "--slots", "2"],
+           ["rewrite", "--without", "0", "--without", "60"], ["rewrite", "--tunnels", "--clear", "--in-order", "--without", "0"],
            ["rewrite", "--clear", "--in-order"], ["rewrite", "--break-authentication", "--without", "51", "--without", "43"]]
-READING = [["stat"], ["stat", "--json", "--tunnels"], ["stat", "--defrag", "--per-file"], ["show"], ["show", "--json"],
-           ["show", "--csv", "--defrag"], ["show", "--tunnels", "tcp or udp", "-"], ["show", "--one-line"]]
+READING = [["stat"], ["stat", "--json", "--tunnels"], ["stat", "--defrag", "--per-file"], ["stat", "-j1"], ["show"], ["show", "--json"],
+           ["show", "--csv", "--defrag"], ["show", "--tunnels", "tcp or udp"], ["show", "--one-line"]]
+SUMMING = [["stat", "--json"], ["stat", "--json", "--tunnels"], ["stat", "--json", "--defrag"]]
+# the commands that take several captures
+SEVERAL = ("filter", "stat")
+COMPRESSED = {".gz": lambda content: gzip.compress(content, 1), ".xz": lambda content: lzma.compress(content, preset=0)}
+NUMBERS = [b"0", b"1", b"-1", b"1e3", b"1.5", b"18446744073709551615", b"18446744073709551616"]
 
 
 def frames(draw):
@@ -39,6 +49,8 @@ def frames(draw):
     pieces = [ipv4(17, data[8 * it:8 * it + 32], (it == 0) << 13 | it) for it in draw.sample([0, 4], 2)]
     chains = [ipv6_chain([draw.choice([0, 43, 44, 51, 60]) for _ in range(draw.randrange(5))]) for _ in range(2)]
     tunnels = [ipv4(41, ipv6_chain([0, 60])), ipv4(47, gre(0x86DD, ipv6_chain([60]))), ipv6(4, ipv4(51, authentication(17) + UDP))]
+    tunnels += [draw.choice([lambda it: ipv6(47, gre(0x86DD, it, 0x8000)), lambda it: ipv4(17, udp(4789, vxlan(ethernet(it)))),
+                             lambda it: ipv6(17, udp(2152, gtp_u(it)))])(it) for it in parts]
     packets = parts + pieces + chains + tunnels
     return [ethernet(it, draw.choice([(), (), (0x8100,)])) for it in draw.sample(packets, len(packets))]
 
@@ -101,6 +113,19 @@ def made(draw):
     return content[:draw.randrange(len(content) + 1)] if draw.randrange(8) == 0 else content
 
 
+def changed_text(draw, text):
+    """Returns JSON of which some numbers or bytes are others, or a part comes twice."""
+    numbers = list(re.finditer(rb"\d+", text))
+    kind = draw.randrange(4)
+    if kind == 0 and numbers:
+        it = draw.choice(numbers)
+        return text[:it.start()] + draw.choice(NUMBERS) + text[it.end():]
+    if kind == 1:
+        at, end = sorted(draw.randrange(len(text) + 1) for _ in range(2))
+        return text[:end] + text[at:]
+    return changed(draw, text)
+
+
 class Wrong(Exception):
     """What was wrong, with the capture that shows it."""
 
@@ -120,9 +145,9 @@ def run(command, content):
 
 
 def written(ipcap, words, content):
-    """Returns what a command writes, or None if its status isn't 0. Checks that ipcap reads it again."""
+    """Returns what a command writes, or None if its status isn't 0. Checks that ipcap reads a capture again."""
     found = run([ipcap, *words], content)
-    if words in READING or found.returncode:
+    if found.returncode:
         return None
     again = run([ipcap, "stat"], found.stdout)
     if again.returncode:
@@ -130,21 +155,66 @@ def written(ipcap, words, content):
     return found.stdout
 
 
+def add_up(ipcap, draw, words, content):
+    """Adds up what a command counts, also with changes. A sum has to be what it is the sum of, and so has its own sum."""
+    found = run([ipcap, *words], content)
+    if found.returncode:
+        return
+    form = draw.choice([["sum"], ["sum", "--top", "1"]])
+    text, is_changed = found.stdout, draw.randrange(4) > 0
+    if is_changed:
+        text = changed_text(draw, draw.choice([text, text + text]))
+        run([ipcap, *form], text)
+    total = run([ipcap, "sum", "--json"], text)
+    if total.returncode and not is_changed:
+        raise Wrong(f"{words}: what was counted can't be added up: {total.stderr.decode(errors='replace')}")
+    again = run([ipcap, "sum", "--json"], total.stdout) if total.returncode == 0 else total
+    if again.stdout != total.stdout or (not is_changed and total.stdout != text):
+        raise Wrong(f"{words}: the sum is another one: {text!r}, {total.stdout!r}, {again.stdout!r}")
+
+
+def operand(draw, path, content, may_be_pipe):
+    """Returns the operand for a capture that was written to a path, and whether what ipcap reads is that capture."""
+    kind = draw.choice(["pipe"] * 4 + ["plain"] * 2 + list(COMPRESSED))
+    if kind == "pipe" and may_be_pipe:
+        return "-", True
+    if kind not in COMPRESSED:
+        return path, True
+    packed, is_damaged = COMPRESSED[kind](content), draw.randrange(3) == 0
+    with open(path + kind, "wb") as file:
+        file.write(changed(draw, packed) if is_damaged else packed)
+    return path + kind, not is_damaged
+
+
 def attempt(ipcap, draw, name):
-    """Runs one command on one capture, which is kept as NAME.in. If it writes one, keeps that as NAME.out, and returns
-    the command's words."""
-    content, words = made(draw), draw.choice(WRITING * 2 + READING)
-    with open(name + ".in", "wb") as file:
-        file.write(content)
+    """Runs one command on one or two captures, which are kept as NAME.in and NAME.more. If it writes one, keeps that as
+    NAME.out, and returns the command's words and the captures."""
+    words = draw.choice(WRITING * 2 + READING + SUMMING)
+    paths = [name + ".in", name + ".more"][:2 if words[0] in SEVERAL and draw.randrange(4) == 0 else 1]
+    operands, piped, are_read = [], b"", True
+    for path in paths:
+        content = made(draw)
+        with open(path, "wb") as file:
+            file.write(content)
+        given, is_read = operand(draw, path, content, "-" not in operands)
+        operands.append(given)
+        are_read &= is_read
+        piped = content if given == "-" else piped
+    output = None
     try:
-        output = written(ipcap, words, content)
+        if words in WRITING:
+            output = written(ipcap, words + operands, piped)
+        elif words in SUMMING:
+            add_up(ipcap, draw, words + operands, piped)
+        else:
+            run([ipcap, *words, *operands], piped)
     except Wrong as error:
-        raise Wrong(f"{name}.in: {error}") from None
-    if output is None:
+        raise Wrong(f"{', '.join(paths)}: {error}") from None
+    if output is None or not are_read:
         return None
     with open(name + ".out", "wb") as file:
         file.write(output)
-    return words
+    return words + operands, paths
 
 
 def is_readable(*paths):
@@ -153,12 +223,12 @@ def is_readable(*paths):
 
 
 def read_by_others(outputs):
-    """Checks that Wireshark's reader reads outputs, each a name and the words of the command, if it reads the captures."""
-    if not outputs or is_readable(*(name + ".out" for name, _ in outputs)):
+    """Checks that Wireshark's reader reads outputs, each a name, the words of the command and the captures, if it reads these."""
+    if not outputs or is_readable(*(name + ".out" for name, _, _ in outputs)):
         return
-    for name, words in outputs:
-        if not is_readable(name + ".out") and is_readable(name + ".in"):
-            raise Wrong(f"{name}.in: {words}: Wireshark can't read what was written: {name}.out")
+    for name, words, paths in outputs:
+        if not is_readable(name + ".out") and is_readable(*paths):
+            raise Wrong(f"{', '.join(paths)}: {words}: Wireshark can't read what was written: {name}.out")
 
 
 def work(ipcap, seed, until, folder):
@@ -167,8 +237,8 @@ def work(ipcap, seed, until, folder):
     os.mkdir(folder)
     while time.monotonic() < until:
         name = os.path.join(folder, f"{len(outputs):03}")
-        words = attempt(ipcap, draw, name)
-        outputs += [(name, words)] if words else []
+        found = attempt(ipcap, draw, name)
+        outputs += [(name, *found)] if found else []
         runs += 1
         if len(outputs) == BATCH:
             read_by_others(outputs)
@@ -180,6 +250,7 @@ def work(ipcap, seed, until, folder):
 def main():
     ipcap, minutes, seed, folder = sys.argv[1:]
     count = len(os.sched_getaffinity(0))
+    print(f"seed {seed}", flush=True)
     until = time.monotonic() + 60 * float(minutes) / count
     with concurrent.futures.ProcessPoolExecutor(count) as pool:
         jobs = [pool.submit(work, ipcap, f"{seed} {it}", until, os.path.join(folder, f"worker-{it}")) for it in range(count)]

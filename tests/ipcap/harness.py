@@ -46,6 +46,10 @@ class Harness:
     def path(self, suffix=".pcap"):
         return os.path.join(self.folder, "%d%s" % (next(self.files), suffix))
 
+    def temporary(self):
+        """Returns the folder of temporary files."""
+        return os.environ.get("TMPDIR") or "/tmp"
+
     def file(self, content, suffix=".pcap"):
         path = self.path(suffix)
         with open(path, "wb") as output:

@@ -27,11 +27,13 @@ def options_of(harness, command):
 
 def completions(harness):
     """Every command and option is completed, and nothing else."""
-    harness.equal(completed(harness, ""), COMMANDS + ["--help", "--version"], "commands")
+    harness.equal(completed(harness, ""), COMMANDS + ["help", "--help", "--version"], "commands")
     harness.equal(completed(harness, "s"), ["stat", "sum", "show"], "commands with s")
     harness.equal(completed(harness, "frob", ""), [], "another command")
+    harness.equal(completed(harness, "help", ""), COMMANDS, "commands to explain")
     with open(os.path.join(FOLDER, "_ipcap")) as file:
         in_zsh = file.read()
+    harness.check("help) _arguments ':command:(%s)'" % " ".join(COMMANDS) in in_zsh, "commands to explain, in zsh", in_zsh)
     for command in COMMANDS:
         wanted = options_of(harness, command)
         harness.equal(set(completed(harness, command, "-")), wanted, command)

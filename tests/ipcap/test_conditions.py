@@ -121,12 +121,21 @@ def port_pair(draw):
 
 
 COMPARISONS = ["=", "!=", "<", "<=", ">", ">="]
+MOST = {"hop-limit": 255, "ttl": 255, "dscp": 63, "ecn": 3, "flow": 0xfffff, "segments-left": 255}
+
+
+def comparison_of(draw, term, values):
+    """A sign and a number, with which a packet may compare."""
+    while True:
+        sign, value = draw.choice(COMPARISONS), draw.choice(values)
+        if (sign, value) not in [("<", 0), (">", MOST.get(term))]:
+            return sign, value
 
 
 def compared(draw, ours, values, *fields):
     """A comparison of a field that one header or another has. Each of `fields` is a protocol, its field, and what is added
     to that."""
-    comparison, value = draw.choice(COMPARISONS), draw.choice(values)
+    comparison, value = comparison_of(draw, ours, values)
     theirs = "==" if comparison == "=" else comparison
     return f"{ours} {comparison} {value}", " or ".join(
         f"({protocol} and {field} {theirs} {value - more})" for protocol, field, more in fields if value >= more)
@@ -311,7 +320,7 @@ def network_in_libpcap(draw):
 def field_in_libpcap(draw):
     """A comparison of a field of the base header: ours, and its bytes in IPv4 and in IPv6."""
     ours, four, six, values = draw.choice([("hop-limit", "ip[8]", "ip6[7]", HOPS), ("length", "ip[2:2]", "ip6[4:2] + 40", LENGTHS)])
-    comparison, value = draw.choice(COMPARISONS), draw.choice(values)
+    comparison, value = comparison_of(draw, ours, values)
     return f"{ours} {comparison} {value}", f"(ip and {four} {comparison} {value}) or (ip6 and {six} {comparison} {value})"
 
 

@@ -4,18 +4,23 @@ import ctypes
 import errno
 import os
 import platform
+import re
 import signal
 import subprocess
 import time
 
 from captures import *
 
-COMMANDS = [["show", "--one-line"], ["filter", "any"], ["defrag"], ["rewrite", "--without", "0"], ["stat", "--json"], ["sum"]]
+COMMANDS = [["show", "--one-line"], ["filter", "any"], ["defrag"], ["defrag", "--keep", "--tunnels"], ["rewrite", "--without", "0"], ["stat", "--json"], ["sum"]]
 HEAD = file_header() + record(ethernet(ipv6_chain([0, 44])))
 SECCOMP_CALLS = {"x86_64": (157, 317, 444, 445, 446), "aarch64": (167, 277, 444, 445, 446)}
 CALLS = ["read", "write", "seek", "memory", "terminal", "threads", "process", "open", "open-to-write", "truncate", "create", "remove", "mode", "code", "socket", "kill",
          "program"]
 ALLOWED = CALLS[:5]
+# what Landlock doesn't refuse
+LEFT = ["threads", "process", "mode", "code", "socket", "kill"]
+# CAP_DAC_OVERRIDE and CAP_DAC_READ_SEARCH
+READS_ALL = 1 << 1 | 1 << 2
 
 
 def has_means():
@@ -54,14 +59,8 @@ def confined(harness):
     if not has_means():
         print("confinement: skipped, this kernel or processor has no means for it")
         return
-    is_root = os.geteuid() == 0
     for arguments in COMMANDS:
-        process = waiting(harness.plain, arguments, harness.environment)
-        fields = wait_until(process, "Seccomp", "2")
-        process.communicate()
-        harness.equal((fields["Seccomp"], fields["NoNewPrivs"]), ("2", "1"), arguments)
-        has_capabilities = int(fields["CapEff"], 16) != 0
-        harness.equal(has_capabilities, is_root and arguments[0] == "stat", arguments, "capabilities", fields["CapEff"])
+        confined_as(harness, arguments, 0)
     for command, more in [(harness.sanitized, {}), (harness.plain, {"LD_PRELOAD": harness.refusing})]:
         process = waiting(command, ["filter", "any"], dict(harness.environment, **more))
         harness.equal(process.stdout.read(len(HEAD)), HEAD, "the first packet")
@@ -70,22 +69,71 @@ def confined(harness):
         harness.equal((fields["Seccomp"], fields["NoNewPrivs"]), ("0", "0"), command, more)
 
 
+def confined_as(harness, arguments, capabilities):
+    """A command that waits for bytes is confined, and has kept only these capabilities."""
+    process = waiting(harness.plain, arguments, harness.environment)
+    fields = wait_until(process, "CapPrm", "%016x" % capabilities)
+    process.communicate()
+    harness.equal((fields["Seccomp"], fields["NoNewPrivs"]), ("2", "1"), arguments)
+    found = [int(fields[name], 16) for name in ("CapEff", "CapPrm", "CapInh")]
+    harness.equal(found, [capabilities, capabilities, 0], arguments, "capabilities")
+
+
+def several_files(harness):
+    """While files are left to open, a command keeps what it takes to open them for reading."""
+    if not has_means():
+        print("confinement with several files: skipped, this kernel or processor has no means for it")
+        return
+    with open("/proc/self/status") as file:
+        own = int(re.search(r"^CapEff:\t(\w+)", file.read(), re.M)[1], 16)
+    path, empty, absent = harness.file(HEAD), harness.file(file_header()), "/nonexistent"
+    for command in (["filter", "any"], ["stat", "--json", "-j1"]):
+        confined_as(harness, command + ["-", path], own & READS_ALL)
+        confined_as(harness, command + ["-", absent], own & READS_ALL)
+        confined_as(harness, command + [path, "-"], 0)
+        confined_as(harness, command + [path, path, "-"], 0)
+    confined_as(harness, ["stat", "--json", "-j2", path, "-"], own & READS_ALL)
+    for command in (["filter", "any"], ["stat", "--json", "-j1"], ["stat", "--json", "-j2"]):
+        found = harness.run(*command, path, absent)
+        harness.equal((found[0], found[2]), (1, "ipcap: /nonexistent: No such file or directory\n"), command)
+        harness.equal(found[1], harness.run(*command, path, empty)[1], command)
+        many = harness.run(*command, *[path] * 40)
+        harness.equal((many[0], many[2]), (0, ""), command, "many files")
+
+
 def calls(harness):
     """What isn't needed is refused, and what is needed isn't."""
     if not has_means():
         print("calls of the system: skipped, this kernel or processor has no means to refuse them")
         return
-    for name, allowed in [("none", ALLOWED), ("reading", ALLOWED + ["threads", "open"])]:
-        path = harness.file(b"some bytes")
-        command = harness.commands("confined")[0]
-        found = subprocess.run(command + [name, path], stdout=subprocess.PIPE, stderr=subprocess.PIPE, env=harness.environment)
-        wanted = "".join("%s %s\n" % (it, "done" if it in allowed else "refused") for it in CALLS)
-        harness.equal((found.returncode, found.stdout.decode(), found.stderr), (-signal.SIGTERM, wanted, b""), name)
-        with open(path, "rb") as file:
-            harness.equal(file.read(), b"s\0me bytes", "the file", name)
+    for name, allowed in [("none", ALLOWED), ("reading", ALLOWED + ["threads", "open"]), ("both", ALLOWED)]:
+        calls_as(harness, name, allowed, None)
     found = subprocess.run(harness.commands("confined")[1] + ["none", harness.file(b"x")], stdout=subprocess.PIPE, stderr=subprocess.PIPE,
                            env=dict(harness.environment, ASAN_OPTIONS="detect_leaks=0"))
     harness.check(b"open done\n" in found.stdout, "with sanitizers", found.stdout)
+
+
+def calls_as(harness, name, allowed, before):
+    """Of the calls that are tried, these succeed."""
+    path = harness.file(b"some bytes")
+    found = subprocess.run(harness.commands("confined")[0] + [name, path], stdout=subprocess.PIPE, stderr=subprocess.PIPE, env=harness.environment,
+                           preexec_fn=before)
+    wanted = "".join("%s %s\n" % (it, "done" if it in allowed else "refused") for it in CALLS)
+    harness.equal((found.returncode, found.stdout.decode(), found.stderr), (-signal.SIGTERM, wanted, b""), name)
+    with open(path, "rb") as file:
+        harness.equal(file.read(), b"s\0me bytes", "the file", name)
+
+
+def landlock(harness):
+    """Landlock alone refuses to open files, to change them and to run programs."""
+    create, with_truncate = 444, 3
+    version = ctypes.CDLL(None).syscall(create, None, 0, 1) if has_means() else -1
+    if version < with_truncate:
+        print("Landlock: skipped, this kernel has none, or one that doesn't refuse to truncate files")
+        return
+    without_seccomp = refuser([SECCOMP_CALLS[platform.machine()][1]], errno.EPERM)
+    for name, allowed in [("none", ALLOWED + LEFT), ("reading", ALLOWED + LEFT + ["open"]), ("both", ALLOWED + LEFT)]:
+        calls_as(harness, name, allowed, without_seccomp)
 
 
 class Step(ctypes.Structure):

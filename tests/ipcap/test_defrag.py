@@ -1,9 +1,11 @@
 """Tests of `ipcap defrag`. A plain, slow program makes packets whole in its own way."""
 
+import gzip
 import itertools
 import os
 import random
 import re
+import resource
 import struct
 import subprocess
 
@@ -269,7 +271,7 @@ def slots(harness):
     harness.equal(found, (wanted, "ipcap: FILE: 1 fragment of packets given up for others, since all slots were in use\n"
                           "ipcap: FILE: 1 fragment of packets that aren't whole at the end\n"), "two slots")
     found = defragment(harness, frames, "--slots", "2", "--keep")
-    harness.equal(found[0], wanted + [frames[0], frames[5]], "kept fragments of two slots")
+    harness.equal(found[0], [frames[0], *wanted, frames[5]], "kept fragments of two slots")
 
 
 def long_packets(harness):
@@ -375,6 +377,104 @@ def plain_agrees(harness):
         content, wanted = random_capture(seed, 250)
         found = harness.answer(harness.plain, ["defrag"], content, None)
         harness.equal([it for _, _, it in frames_of(found[1])], wanted, "random lists", seed)
+
+
+def kept_in_place(rows):
+    """What `defrag --keep` writes of rows, each a key, a time, offset, more, data and a frame, and a function that makes the whole frame:
+    fragments that made nothing whole stay where they were. A row without a key is no fragment."""
+    plain, written, parts = Plain(), [], {}
+    for index, (key, time, offset, more, data, one, make) in enumerate(rows):
+        written.append(one)
+        if key is None:
+            continue
+        before = plain.packets.get(key)
+        answer = plain.add(key, time, offset, more, data)
+        if plain.packets.get(key) is not before and not isinstance(answer, bytes):
+            parts[key] = []
+        if before is None and isinstance(answer, bytes):
+            parts[key] = []
+        if not isinstance(answer, str):
+            parts.setdefault(key, []).append(index)
+        if isinstance(answer, bytes):
+            for part in parts.pop(key):
+                written[part] = None
+            written[index] = make(answer)
+    return [it for it in written if it is not None]
+
+
+def scapy_rows(seed):
+    """Fragments that scapy makes of packets of both versions, in a random order and with some lost, among other packets."""
+    from scapy.layers.inet import IP, UDP as ScapyUdp, fragment as fragment4
+    from scapy.layers.inet6 import IPv6, IPv6ExtHdrFragment, fragment6
+    rng, rows = random.Random(seed), []
+    for number in range(1, 41):
+        data = ScapyUdp(dport=9999) / rng.randbytes(rng.randint(500, 2500))
+        if number % 2:
+            whole = IP(bytes(IP(src="192.0.2.1", dst="192.0.2.2", id=number) / data))
+            parts, key = [bytes(it) for it in fragment4(whole, 400)], (4, number)
+            offsets = [(struct.unpack(">H", it[6:8])[0], it[20:]) for it in parts]
+            cut = [(bits & 0x1FFF, bool(bits & MORE), it) for bits, it in offsets]
+            make = lambda payload, whole=bytes(whole): frame(whole)
+        else:
+            base = IPv6(src="2001:db8::1", dst="2001:db8::2")
+            parts, key = [bytes(it) for it in fragment6(IPv6(bytes(base / IPv6ExtHdrFragment(id=number) / data)), 448)], (6, number)
+            offsets = [(struct.unpack(">H", it[42:44])[0], it[48:]) for it in parts]
+            cut = [(bits >> 3, bool(bits & 1), it) for bits, it in offsets]
+            make = lambda payload, whole=bytes(base / data): frame(whole)
+        rows += [(key, *it, frame(one), make) for it, one in zip(cut, parts) if rng.random() < 0.9 and len(parts) > 1]
+        rows.append((None, 0, False, b"", ethernet(ipv6_chain([0], 17, UDP + bytes([number]))), None))
+    for at in range(len(rows) - 1, 0, -1):
+        other = max(0, at - rng.randrange(30))
+        rows[at], rows[other] = rows[other], rows[at]
+    return [(key, index / 1000, *rest) for index, (key, *rest) in enumerate(rows)]
+
+
+def kept_places(harness):
+    """Fragments that make nothing whole stay where they were, in classic files, sections and pipes."""
+    for seed in range(8):
+        rows = scapy_rows(seed)
+        frames, wanted = [it[5] for it in rows], kept_in_place(rows)
+        content = file_header() + b"".join(record(it, None, 1000, index * 1000) for index, it in enumerate(frames))
+        found = harness.run("defrag", "--keep", harness.file(content))
+        harness.equal([it for _, _, it in frames_of(found[1])], wanted, "kept in place", seed)
+        harness.check(found[0] == 0 and 0 < len(wanted) < len(frames) and "at the end" in found[2], found[2])
+        times = [fraction for _, fraction, _ in frames_of(found[1])]
+        harness.equal(times, sorted(times), "times")
+        piped = harness.run("defrag", "--keep", content=content)
+        harness.equal(piped[:2], found[:2], "a pipe")
+        with open(harness.file(content), "rb") as file:
+            again = subprocess.run(harness.plain + ["defrag", "--keep", "-"], stdin=file, stdout=subprocess.PIPE, stderr=subprocess.PIPE)
+        harness.equal(again.stdout, found[1], "a file as standard input")
+        packed = harness.run("defrag", "--keep", harness.file(gzip.compress(content), ".gz"))
+        harness.equal(packed[:2], found[:2], "a compressed file")
+        harness.equal(harness.run("defrag", "--keep", content=gzip.compress(content))[1], found[1], "a compressed pipe")
+        report = harness.run("defrag", "--keep", "--report", "{}", content=content)
+        harness.equal(report[3], harness.run("defrag", "--report", "{}", content=content)[3], "the report")
+    lost = len(frames) - len(defragment(harness, frames)[0])
+    harness.check(lost > 0 and not [it for it in os.listdir(harness.temporary()) if it.startswith("ipcap.")], "temporary files")
+    content = capture(frames)
+    for folder in ("/nonexistent", "/proc"):
+        found = subprocess.run(harness.plain + ["defrag", "--keep"], input=content, stdout=subprocess.PIPE, stderr=subprocess.PIPE,
+                               env=dict(harness.environment, TMPDIR=folder))
+        harness.check(found.returncode == 1 and found.stderr.startswith(b"ipcap: %s/ipcap." % folder.encode()), found)
+    truncated = content[:-5]
+    for found in (harness.run("defrag", "--keep", content=truncated), harness.run("defrag", "--keep", harness.file(truncated))):
+        harness.check(found[0] == 1 and found[2].count("can't read packet") == 1, "a truncated file", found[2])
+        harness.equal(frames_of(found[1]), frames_of(harness.run("defrag", "--keep", content=capture(frames[:-1]))[1]), "its packets")
+
+
+def full_temporary(harness):
+    """If the temporary file can't be written, what was read is written, and the status says so."""
+    parts = [frame(ipv6_part(number, 0, True, bytes(800))) for number in range(400)]
+    content = capture(parts)
+    for command in [harness.plain, harness.sanitized]:
+        found = subprocess.run(command + ["defrag", "--keep", "-w", "/dev/stdout"], input=content, stdout=subprocess.PIPE, stderr=subprocess.PIPE,
+                               preexec_fn=lambda: resource.setrlimit(resource.RLIMIT_FSIZE, (200000, 200000)), restore_signals=False,
+                               env=harness.environment)
+        written = [it for _, _, it in frames_of(found.stdout)]
+        harness.check(found.returncode == 1 and b"temporary file: File too large" in found.stderr, found.stderr)
+        harness.equal(written, parts[:len(written)], "what was read")
+        harness.check(100 < len(written) < 400, len(written))
 
 
 def shuffled(seed):

@@ -10,6 +10,7 @@ import subprocess
 import threading
 import time
 
+from blocks import interface, packet, section
 from captures import *
 from test_compression import formats
 from test_defrag import frame, ipv4_part, ipv6_part
@@ -69,21 +70,41 @@ def budget_of_slots(harness):
 
 
 def budget_of_kept(harness):
-    """Fragments that are kept have what the slots and the rest leave."""
-    part = frame(ipv4_part(1, 0, True, bytes(8))) + bytes(200000)
+    """Numbers of fragments that are kept have what the slots and the rest leave. Those that don't fit are counted."""
+    part = frame(ipv4_part(1, 0, True, bytes(8)))
     path = harness.path(".gz")
-    count = 2000
+    count = 2000000
     with gzip.open(path, "wb", 1) as file:
-        file.write(file_header(snap_len=262144) + record(part) * count)
-    kept = []
-    for memory in (100, 200, 400, 1000):
+        file.write(file_header() + record(part) * count)
+    for memory in (64, 80, 200):
         status, found, errors, peak = harness.measure("defrag", "--keep", "--slots", "8", "--memory", "%dM" % memory, path)
-        lost = re.search(r"(\d+) of these weren't kept: out of memory\n", errors)
+        lost = re.search(r"(\d+) of these weren't kept, first packet (\d+): out of memory\n", errors)
         harness.check(peak <= memory << 20, "peak", peak >> 20, memory)
-        harness.equal((status, bool(lost)), (0, False) if memory == 1000 else (1, True), memory, errors)
-        kept.append((len(found) - 24) // (16 + len(part)))
-        harness.equal(kept[-1], count - int(lost[1]) if lost else count, memory, "written")
-        harness.check(kept[-1] * len(part) > ((memory - 60) << 20) * 0.9 or memory == 1000, "what is left is used", memory, kept)
+        harness.equal((status, bool(lost)), (0, False) if memory == 200 else (1, True), memory, errors)
+        kept = (len(found) - 24) // (16 + len(part))
+        harness.equal(kept, count - int(lost[1]) if lost else count, memory, "written")
+        harness.check(not lost or kept == int(lost[2]) - 1, "the first that is lost", errors)
+        harness.check(not lost or kept * 32 > ((memory - 45) << 20) * 0.9, "what is left is used", memory, kept)
+
+
+def budget_of_tunnels(harness):
+    """Tunnels with fragments have what is left. Fragments of further ones stay as they are, and the status says so."""
+    part = ethernet(ipv4(17, udp(4789, vxlan(ethernet(ipv4_part(1, 0, True, bytes(8)))))))
+    at = 14 + 20 + 8 + 4
+    path = harness.path(".gz")
+    count = 400000
+    with gzip.open(path, "wb", 1) as file:
+        file.write(file_header() + b"".join(record(part[:at] + struct.pack(">I", number << 8) + part[at + 4:]) for number in range(count)))
+    tags = b"".join(record(ethernet(ipv4(17, UDP), (0x88A8, 0x8100), 0x0800)[:14] + struct.pack(">HHH", number % 4096, 0x8100, number // 4096)
+                           + b"\x08\0" + ipv4(17, UDP)) for number in range(count))
+    found = harness.measure("defrag", "--tunnels", "--slots", "8", "--memory", "64M", harness.file(file_header() + tags))
+    harness.equal((found[0], len(found[1]), found[2]), (0, 24 + len(tags), ""), "many VLANs without fragments")
+    for memory in (64, 200):
+        status, found, errors, peak = harness.measure("defrag", "--tunnels", "--slots", "8", "--memory", "%dM" % memory, path)
+        harness.check(peak <= memory << 20, "peak", peak >> 20, memory)
+        left = (len(found) - 24) // (16 + len(part))
+        harness.equal((status, "out of memory" in errors), (0, False) if memory == 200 else (1, True), memory, errors)
+        harness.check(left == 0 if memory == 200 else 0 < left < count - 50000, "what stays", left)
 
 
 def with_window(content, descriptor):
@@ -137,6 +158,57 @@ def budget_of_decoders(harness):
         harness.check(found[0] == 1 and "xz data can't be decompressed: more than 256 MiB of memory needed" in found[2], found[2])
         small, large = [lzma.compress(it, filters=[{"id": lzma.FILTER_LZMA2, "preset": 0, "dict_size": size}]) for it, size in ((content[:900], 1 << 16), (content[900:], 48 << 20))]
         harness.equal(harness.run("stat", "--json", "--defrag", content=small + large)[1], wanted, "streams with several dictionaries")
+
+
+def long_chains(harness):
+    """Extension headers after the first 64 are found, too."""
+    numbers = [0] + [60, 43, 44, 51] * 40
+    path = harness.file(capture([ethernet(ipv6_chain(numbers))]))
+    shown = json.loads(harness.run("show", "--json", path)[1])["headers"]
+    lengths = [len(header(it, 17)) for it in numbers]
+    wanted = [(40 + sum(lengths[:at]), lengths[at], it, (numbers + [17])[at + 1]) for at, it in enumerate(numbers)]
+    harness.equal([tuple(it[name] for name in ("offset", "len", "number", "next_header")) for it in shown], wanted, "show --json")
+    harness.check(",%s," % " ".join(map(str, numbers)) in harness.run("show", "--csv", path)[1].decode(), "show --csv")
+    drawn = harness.run("show", path)[1].decode()
+    harness.equal([drawn.count(" %s " % it) for it in ("routing", "fragment")], [40, 40], "show")
+    before = chain([60] * 70, 44)
+    path = harness.file(capture([ethernet(ipv6(60, before + fragment(17, 0, 1) + bytes(8)))]))
+    harness.check(b" frag (0x00000007:0|8)" in harness.run("show", "--one-line", path)[1], "show --one-line")
+    report = harness.run("defrag", "--report", "{}", path)[3]
+    harness.check(b", protocol 17, id 0x00000007: " in report, "defrag --report", report)
+    path = harness.file(capture([ethernet(ipv6(60, before + b"\x11\1" + fragment(17)[2:] + UDP))]))
+    found = harness.run("rewrite", "--clear", path)[1]
+    harness.equal(found, capture([ethernet(ipv6(60, before + fragment(17) + UDP))]), "rewrite --clear")
+    path = harness.file(capture([ethernet(ipv6_chain([44] * 70 + [60, 43]))]))
+    found = harness.run("rewrite", "--in-order", path)[1]
+    harness.equal(found, capture([ethernet(ipv6_chain([60, 43] + [44] * 70))]), "rewrite --in-order")
+    content = capture([ethernet(ipv6(60, chain([60] * 70 + [51], 41) + ipv6_chain([0])))])
+    found = harness.run("rewrite", "--tunnels", "--without", "0", content=content)
+    harness.check(found[1] == content and "1 packet unchanged: " in found[2], "an authenticated tunnel", found[2])
+
+
+def budget_of_headers(harness):
+    """A packet may have millions of extension headers, which are visited one by one."""
+    count = ((16 << 20) - 200) // 8
+    frame = ethernet(ipv6(60, options(60) * (count - 1) + options(17) + UDP, 0))
+    content = section() + interface() + packet(frame)
+    path = harness.file(content)
+    found = harness.measure("stat", "--json", "--memory", "64M", path)
+    counts = json.loads(found[1])
+    harness.equal((found[0], found[2], counts["headers"], counts["chains"]), (0, "", {"60": count}, {"other": 1}), "stat")
+    harness.check(found[3] <= 64 << 20, "peak", found[3] >> 20)
+    peak = harness.measure("stat", "--memory", "128M", "-j4", *[harness.file(content) for _ in range(4)])[3]
+    harness.check(peak <= 128 << 20, "peak side by side", peak >> 20)
+    for form in ([], ["--one-line"], ["--csv"], ["--tunnels"]):
+        status, _, errors, peak = harness.measure("show", "--memory", "64M", *form, path, output=subprocess.DEVNULL)
+        harness.check((status, errors) == (0, "") and peak <= 64 << 20, "show", form, errors, peak >> 20)
+    for changes in (["--in-order"], ["--clear"]):
+        status, output, errors, peak = harness.measure("rewrite", "--memory", "64M", *changes, path)
+        harness.check((status, errors) == (0, "") and output == content and peak <= 64 << 20, "rewrite", changes, errors, peak >> 20)
+    for memory in (64, 128):
+        status, output, errors, peak = harness.measure("rewrite", "--memory", "%dM" % memory, "--without", "60", path)
+        harness.check(peak <= memory << 20, "rewrite", memory, peak >> 20)
+        harness.equal((status, "out of memory" in errors), (1, True) if memory == 64 else (0, False), memory, errors)
 
 
 def sizes(harness):

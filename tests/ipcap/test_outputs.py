@@ -84,7 +84,7 @@ def simple_packets(harness):
 
 
 def kept_in_sections(harness):
-    """A fragment that is kept is written in a section with its byte order and its interfaces."""
+    """A fragment that is kept stays in its section."""
     data = payload(10, 60)
     parts = [ipv6_part(number, *it) for number in (1, 2, 3) for it in pieces(data, [24, 16])]
     whole = ipv6_whole(3, data)
@@ -98,16 +98,18 @@ def kept_in_sections(harness):
                + three + two + late + packet(parts[8], 1, 8, order=">"))
     wanted = (lifted[0] + lifted[1] + lifted[2] + three + lifted[1] + lifted[2] + packet(whole, 1, 8, order=">"))
     kept = (lifted[0] + packet(parts[0], 0, 1) + packet(frame(parts[1]), 1, 2)
-            + lifted[1] + lifted[2] + packet(frame(parts[3]), 0, 4, order=">") + packet(parts[4], 1, 5, order=">"))
+            + lifted[1] + packet(frame(parts[3]), 0, 4, order=">") + lifted[2] + packet(parts[4], 1, 5, order=">")
+            + three + lifted[1] + lifted[2] + packet(whole, 1, 8, order=">"))
     path = harness.file(content, ".pcapng")
     words = "ipcap: %s: 4 fragments of packets that aren't whole at the end\n" % path
     harness.equal(harness.run("defrag", path), (0, wanted, words, None), "without those kept")
     found = harness.run("defrag", "--keep", path)
-    harness.equal(found, (0, wanted + kept, words, None), "sections")
+    harness.equal(found, (0, kept, words, None), "sections")
+    harness.equal(harness.run("defrag", "--keep", content=content)[1], kept, "sections in a pipe")
     written = harness.file(found[1], ".pcapng")
     fields = harness.tshark(written, "-T", "fields", "-e", "frame.number", "-e", "ipv6.src", "-e", "ipv6.fraghdr.ident", "-o", "ipv6.defragment:FALSE")
     rows = [line.split(b"\t") for line in fields.splitlines() if line]
-    harness.equal([row[2] for row in rows], [b"", b"0x00000001", b"0x00000001", b"0x00000002", b"0x00000002"], "tshark")
+    harness.equal([row[2] for row in rows], [b"0x00000001", b"0x00000001", b"0x00000002", b"0x00000002", b""], "tshark")
     for order in "<>":
         start = section(order) + interface(order=order)
         blocks = [packet(frame(it), order=order) for it in parts[:2]]
@@ -162,7 +164,7 @@ def memory_for_kept(harness):
 
 
 def room_for_kept(harness):
-    """Fragments that are kept have a bounded memory. Those that would need more are counted, and the status says so."""
+    """Fragments that are kept need no memory for their bytes."""
     part = frame(ipv6_part(1, *pieces(payload(13, 60), [24, 16])[1]))
     for head, long_frame in [(section() + interface(), packet(part + bytes(1 << 20))), (file_header(snap_len=262144), record(part + bytes(200000)))]:
         count = (400 << 20) // len(long_frame)
@@ -171,11 +173,11 @@ def room_for_kept(harness):
             file.write(head)
             for _ in range(count):
                 file.write(long_frame)
-        with open(os.devnull, "wb") as output:
-            status, _, errors, peak = harness.measure("defrag", "--keep", path, output=output)
-        harness.check(status == 1 and peak < 300 << 20, "memory", peak, status)
-        lost = re.search(r"(\d+) of these weren't kept: out of memory\n", errors)
-        harness.check(lost and 0 < count - int(lost[1]) <= (256 << 20) // len(long_frame), "lost", errors, count)
+        written = harness.path()
+        status, _, errors, peak = harness.measure("defrag", "--keep", "--memory", "64M", "-w", written, path)
+        harness.check(status == 0 and peak < 64 << 20 and "kept" not in errors, "memory", peak, status, errors)
+        harness.check(0 <= os.path.getsize(written) - count * len(long_frame) < 1000, "written", count)
+        os.remove(written)
 
 
 def run_with(harness, command, arguments, prepare, content=b""):
@@ -218,9 +220,10 @@ def appended_outputs(harness):
     """Standard output that is the input is refused."""
     contents = [capture([ethernet(ipv6_chain([0]))] * 4000), section() + interface() + packet(ethernet(ipv6_chain([0]))) * 4000]
     for content in contents:
-        path = harness.file(content)
+        path, other = harness.file(content), harness.file(content)
         for arguments in (["filter", "header 0"], ["filter", "header 0", "/dev/null"], ["filter", "--number", "header 0"], ["defrag"],
-                          ["defrag", "--report", "/dev/null"], ["rewrite", "--without", "0"]):
+                          ["defrag", "--report", "/dev/null"], ["rewrite", "--without", "0"], ["show"], ["show", "--one-line", "any"], ["stat"],
+                          ["stat", "--json", "/dev/null"], ["stat", "-j1", "--per-file", other]):
             for command in [harness.plain, harness.sanitized, harness.checked]:
                 with open(path, "ab") as output:
                     process = subprocess.run(command + arguments + [path], stdout=output, stderr=subprocess.PIPE, preexec_fn=limit_files,
@@ -230,6 +233,13 @@ def appended_outputs(harness):
                 words = process.stderr.decode()
                 harness.check(process.returncode == 1 and is_same and "standard output: input and output are the same file\n" in words,
                               arguments, process.returncode, words)
+        for arguments in (["show"], ["stat"]):
+            with open(path, "rb") as given, open(path, "ab") as output:
+                process = subprocess.run(harness.plain + arguments, stdin=given, stdout=output, stderr=subprocess.PIPE, preexec_fn=limit_files)
+            harness.equal((process.returncode, process.stderr), (1, b"ipcap: standard output: input and output are the same file\n"), arguments)
+            with open(other, "ab") as output:
+                process = subprocess.run(harness.plain + arguments + [path], stdout=output, stderr=subprocess.PIPE)
+            harness.equal((process.returncode, process.stderr), (0, b""), arguments, "another file")
 
 
 def is_whole(content):
@@ -303,7 +313,7 @@ def silent_pipe(harness, command, arguments, number):
     watch = threading.Timer(120, process.kill)
     watch.start()
     os.write(process.stdin.fileno(), start + packet(bytes(60))[:33])
-    output = process.stdout.read(len(start)) if arguments[0] != "stat" else b""
+    output = process.stdout.read(len(start)) if arguments[0] != "stat" and "--keep" not in arguments else b""
     if not output:
         time.sleep(2 if command == harness.checked else 1)
     process.send_signal(number)
@@ -322,5 +332,7 @@ def signals_in_pipes(harness):
         for number in (signal.SIGTERM, signal.SIGHUP):
             found = silent_pipe(harness, command, ["filter", "header 0"], number)
             harness.equal(found, (-number, start, "ipcap: standard input: interrupted after 1 packet\n"), "filter", number)
+    found = silent_pipe(harness, harness.plain, ["defrag", "--keep"], signal.SIGTERM)
+    harness.equal(found, (-signal.SIGTERM, start, "ipcap: standard input: interrupted after 1 packet\n"), "defrag --keep")
     status, output, errors = silent_pipe(harness, harness.plain, ["stat", "--json"], signal.SIGTERM)
     harness.check(status == -signal.SIGTERM and b'"packets":1,' in output and "interrupted after 1 packet" in errors, status, output, errors)

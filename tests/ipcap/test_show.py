@@ -1,12 +1,16 @@
 """Tests of `ipcap show`."""
 
+import collections
 import csv
+import itertools
 import json
 import random
 import re
 import shutil
 import socket
+import struct
 import subprocess
+import xml.etree.ElementTree
 
 from blocks import interface, packet, section
 from captures import *
@@ -97,36 +101,42 @@ def objects(harness):
     """--json prints an object per packet, with the names and codes of wolfaren.h."""
     status, found, errors, _ = harness.run("show", "--json", content=drawn_capture() + record(ethernet(b"\x50" + bytes(5))))
     harness.equal((status, errors), (0, ""), "--json")
-    none = dict.fromkeys(["required_len", "len", "offset", "kind", "header", "layer", "len_source", "value"], 0)
-    six = {"src": "2001:db8::1", "dst": "2001:db8::2", "version": 6, "base_len": 40}
+    six = {"src": "2001:db8::1", "dst": "2001:db8::2", "version": 6, "base_len": 40, "hop_limit": 64}
+    ports = {"src_port": 1000, "dst_port": 2000}
     def packet(number, time, frame_len, captured_len, **fields):
         return {"packet": number, "time": "1970-01-01T00:16:%sZ" % time, "frame_len": frame_len, "captured_len": captured_len,
                 **fields}
     def dissected(**fields):
-        names = ["missing", "padding", "fragment", "identification", "fragment_offset", "end"]
-        return {**dict.fromkeys(names, 0), "headers": [], "fault": none, **fields}
+        return {"missing": 0, "padding": 0, "headers": [], "end": 0, "end_name": "payload", **fields}
     def headers(*rows):
-        return [dict(zip(["offset", "len", "number", "next_header"], row)) for row in rows]
+        return [dict(zip(["offset", "len", "number", "name", "next_header", "next_header_name"], row)) for row in rows]
     wanted = [
-        packet(1, "40.000005", 90, 90, ip_offset=14, **six, **dissected(
-            stated_len=76, headers=headers((40, 8, 0, 43), (48, 8, 43, 44), (56, 8, 44, 17)), payload_number=17,
-            payload_offset=64, payload_len=12, fragment=1, identification=7)),
-        packet(2, "41.000006", 60, 60),
-        packet(3, "42.000007", 46, 46, ip_offset=18, src="192.0.2.1", dst="192.0.2.2", version=4, base_len=20,
-               **dissected(stated_len=28, payload_number=17, payload_offset=20, payload_len=8)),
+        packet(1, "40.000005", 90, 90, ip_offset=14, **six, **ports, **dissected(
+            stated_len=76, headers=headers((40, 8, 0, "hop-by-hop", 43, "routing"), (48, 8, 43, "routing", 44, "fragment"),
+                                           (56, 8, 44, "fragment", 17, "UDP")), chain="IPv6 0,43,44 -> 17", payload_number=17, payload_name="UDP",
+            payload_offset=64, payload_len=12, fragment=1, fragment_name="atomic", identification=7, fragment_offset=0)),
+        packet(2, "41.000006", 60, 60, other_protocol="EtherType 0x0806"),
+        packet(3, "42.000007", 46, 46, ip_offset=18, src="192.0.2.1", dst="192.0.2.2", version=4, base_len=20, hop_limit=64, **ports,
+               **dissected(stated_len=28, chain="IPv4 -> 17", payload_number=17, payload_name="UDP", payload_offset=20, payload_len=8)),
         packet(4, "40.000005", 78, 62, ip_offset=14, **six, **dissected(
-            stated_len=64, headers=headers((40, 8, 60, 44)), payload_number=44, payload_offset=48, payload_len=0, missing=16,
-            end=2, fault={**none, "required_len": 8, "offset": 48, "kind": 1, "header": 11, "layer": 11, "len_source": 1})),
+            stated_len=64, headers=headers((40, 8, 60, "destination-options", 44, "fragment")), chain="IPv6 60 -> 44 truncated",
+            payload_number=44, payload_name="fragment", payload_offset=48, payload_len=0, missing=16, end=2, end_name="truncated-header",
+            fault={"name": "fragment", "text": "not enough bytes for the fragment header at offset 48: 8 needed, 0 there",
+                   "required_len": 8, "len": 0, "offset": 48, "kind": 1, "kind_name": "too-short", "header": 11, "header_name": "fragment",
+                   "layer": 11, "layer_name": "fragment", "len_source": 1, "len_source_name": "capture"})),
         packet(5, "40.000005", 70, 70, ip_offset=14, **six, **dissected(
-            stated_len=56, headers=headers((40, 8, 44, 60)), payload_number=60, payload_offset=48, payload_len=8, fragment=3,
-            identification=7, fragment_offset=1480, end=1)),
+            stated_len=56, headers=headers((40, 8, 44, "fragment", 60, "destination-options")), chain="IPv6 44 -> 60", payload_number=60,
+            payload_name="destination-options", payload_offset=48, payload_len=8, fragment=3, fragment_name="middle", identification=7,
+            fragment_offset=1480, end=1, end_name="later-fragment")),
         packet(6, "40.000005", 20, 20, ip_offset=14, version=0, base_len=0, **dissected(
-            stated_len=0, payload_number=59, payload_offset=0, payload_len=0, padding=6, end=3,
-            fault={**none, "kind": 4, "value": 5})),
+            stated_len=0, payload_number=59, payload_name="no-next", payload_offset=0, payload_len=0, padding=6, end=3, end_name="fault",
+            fault={"name": "unsupported-version IP-header", "text": "the IP version is 5, where 4 or 6 is required", "kind": 4,
+                   "kind_name": "unsupported-version", "value": 5})),
     ]
     harness.equal([json.loads(line) for line in found.splitlines()], wanted, "objects")
     found = harness.run("show", "--json", "-c", "1", content=capture([ethernet(ipv6_chain([60] * 100))]))[1]
-    harness.equal(len(json.loads(found)["headers"]), 100, "all headers")
+    long = json.loads(found)
+    harness.equal((len(long["headers"]), "chain" in long), (100, False), "all headers")
 
 
 def rows(harness):
@@ -138,19 +148,86 @@ def rows(harness):
     harness.equal([len(row) for row in found], 6 * [len(names)], "values")
     first, other, four, truncated, _, faulty = [dict(zip(names, row)) for row in found]
     harness.equal({name: text for name, text in other.items() if text},
-                  {"packet": "2", "time": "1970-01-01T00:16:41.000006Z", "frame_len": "60", "captured_len": "60"}, "not IP")
-    harness.equal((first["headers"], first["src"], first["dst"], first["identification"], first["payload_number"]),
-                  ("0 43 44", "2001:db8::1", "2001:db8::2", "7", "17"), "headers")
-    harness.equal((four["headers"], four["version"], four["payload_len"], four["fault_kind"]), ("", "4", "8", "0"), "IPv4")
+                  {"packet": "2", "time": "1970-01-01T00:16:41.000006Z", "frame_len": "60", "captured_len": "60", "other_protocol": "EtherType 0x0806"},
+                  "not IP")
+    harness.equal((first["headers"], first["header_names"], first["src"], first["dst"], first["identification"], first["payload_number"]),
+                  ("0 43 44", "hop-by-hop routing fragment", "2001:db8::1", "2001:db8::2", "7", "17"), "headers")
+    harness.equal((four["headers"], four["version"], four["payload_len"], four["fault_kind"], four["fragment"]), ("", "4", "8", "", ""), "IPv4")
     harness.equal((truncated["fault_required_len"], truncated["fault_offset"], truncated["end"]), ("8", "48", "2"), "truncated")
     harness.equal((faulty["src"], faulty["padding"], faulty["fault_value"]), ("", "6", "5"), "another version")
     for line, row in zip(harness.run("show", "--json", content=content)[1].splitlines(), found):
         packet = json.loads(line)
         fault = packet.pop("fault", {})
-        headers = " ".join(str(header["number"]) for header in packet.pop("headers", []))
-        wanted = {**packet, "headers": headers, **{f"fault_{name}": number for name, number in fault.items()}}
+        headers = packet.pop("headers", [])
+        numbers, texts = [" ".join(str(header[name]) for header in headers) for name in ("number", "name")]
+        wanted = {**packet, "headers": numbers, "header_names": texts, **{f"fault_{name}": number for name, number in fault.items()}}
         harness.equal({name: str(wanted.get(name, "")) for name in names}, dict(zip(names, row)), "the same as --json")
     harness.equal(harness.run("show", "--csv", content=capture([]))[1].decode().count("\n"), 1, "no packet")
+
+
+# names of protocols that tshark has in other words
+OTHER_NAMES = {0: "IPv6 Hop-by-Hop Option", 4: "IPIP", 33: "Datagram Congestion Control Protocol", 43: "Routing Header for IPv6", 44: "Fragment Header for IPv6",
+               46: "Reservation Protocol", 47: "Generic Routing Encapsulation", 50: "Encap Security Payload", 51: "Authentication Header",
+               59: "No Next Header for IPv6", 60: "Destination Options for IPv6", 89: "OSPF IGP", 97: "Ether in IP", 115: "Layer 2 Tunneling",
+               135: "Mobile IPv6", 137: "MPLS in IP", 140: "Shim6 header"}
+PORTS = [("tcp", 6), ("udp", 17), ("dccp", 33), ("sctp", 132), ("udplite", 136)]
+
+
+def described(packet):
+    """What an object of --json says that tshark says too."""
+    return [str(packet.get(name, "")) for name in ("src", "dst", "hop_limit", "src_port", "dst_port")]
+
+
+def tshark_agrees(harness):
+    """Addresses, hop limits, ports, fragments and names are those that tshark finds, in each form of files."""
+    draw, frames = random.Random(5), random_frames(200, 9)
+    for outer, (_, number) in itertools.product((ipv4, ipv6), PORTS * 3):
+        one = bytearray(outer(number, struct.pack(">HH", draw.randrange(1 << 16), draw.randrange(1 << 16)) + (TCP if number == 6 else UDP)[4:] + bytes(20)))
+        one[8 if outer is ipv4 else 7] = draw.randrange(256)
+        frames.append(ethernet(bytes(one)))
+    frames += [ethernet(ipv4(17, UDP + bytes(4), bits)) for bits in (0x2000, 0x2010, 0x0010)]
+    frames += [ethernet(ipv6(44, fragment(17, at, more, 9 + at) + UDP + bytes(4))) for at, more in [(0, 1), (2, 1), (5, 0)]]
+    fields = ["ip.src", "ipv6.src", "ip.dst", "ipv6.dst", "ip.ttl", "ipv6.hlim"] + [name % it for name in ("%s.srcport", "%s.dstport") for it, _ in PORTS[:-1]]
+    fragments = ["ip.frag_offset", "ipv6.fraghdr.offset", "ipv6.fraghdr.ident"]
+    for content in (capture(frames), capture(frames, magic=NANOSECONDS, order=">"), section(">") + interface(order=">") + b"".join(packet(it, order=">") for it in frames)):
+        path = harness.file(content)
+        options = [word for name in fields + fragments for word in ("-e", name)] + ["-E", "occurrence=f", "-o", "ip.defragment:FALSE", "-o", "ipv6.defragment:FALSE"]
+        rows = [line.split("\t") for line in harness.tshark(path, "-T", "fields", *options).decode().splitlines()]
+        ours = [json.loads(line) for line in harness.run("show", "--json", path)[1].splitlines()]
+        harness.equal(len(rows), len(ours), "packets")
+        for row, one in zip(rows, ours):
+            theirs = dict(zip(fields + fragments, row))
+            wanted = ["".join(theirs[it] for it in names) for names in (fields[:2], fields[2:4], fields[4:6], fields[6:10], fields[10:])]
+            harness.equal(described(one), wanted, one)
+            if one.get("fragment", 0) > 1:
+                units = int(theirs["ip.frag_offset"] or theirs["ipv6.fraghdr.offset"])
+                harness.equal(one["fragment_offset"], 8 * units, "offset of a fragment", one)
+            if one.get("fragment") and one["version"] == 6:
+                harness.equal(one["identification"], int(theirs["ipv6.fraghdr.ident"], 16), "identification", one)
+
+
+def names_of_numbers(harness):
+    """Each number has the name that tshark has for it, and ends of chains and faults have those of `stat`."""
+    path = harness.file(capture([ethernet(ipv6(number, bytes(40))) for number in range(256)]))
+    trees = xml.etree.ElementTree.fromstring(harness.tshark(path, "-T", "pdml"))
+    shown = [next(it.get("showname") for it in one.iter("field") if it.get("name") == "ipv6.nxt") for one in trees.findall("packet")]
+    for number, line in enumerate(harness.run("show", "--json", path)[1].splitlines()):
+        one = json.loads(line)
+        first = one["headers"][0] if one["headers"] else {"number": one["payload_number"], "name": one.get("payload_name", "")}
+        theirs = shown[number].partition(": ")[2].rpartition(" (")[0]
+        harness.equal(first["number"], number, "number")
+        harness.check(first.get("name", "") in ("", theirs) or OTHER_NAMES.get(number) == theirs, "name", first, theirs)
+    rows = [ipv6(0, options(43, 3) + routing(17)[:5]), ipv6_chain([43, 60, 0]), ipv6(51, b"\x11\0" + bytes(14)), ipv6(60, b"\x11\4" + bytes(6)),
+            ipv4(51, b"\x11\0" + bytes(14)), b"\x50" + bytes(40), ipv4(17, UDP, words=4), ipv4(17, UDP, total_len=19), ipv6_chain([60], 44, b"")]
+    cut = [ipv6(60, b"", 40), ipv6(44, b"", 40), ipv6(51, b"", 40), b"", ipv4(17, UDP)[:9], ipv6(17, UDP)[:30]]
+    for packets, table in ((rows, "faults"), (cut, "truncated_headers")):
+        path = harness.file(capture(packets, RAW))
+        found = collections.Counter(json.loads(line)["fault"]["name"] for line in harness.run("show", "--json", path)[1].splitlines())
+        harness.equal(found, harness.stat(path)[0][table], table)
+    for packet_bytes in rows:
+        one = json.loads(harness.run("show", "--json", content=capture([packet_bytes], RAW))[1])
+        text = one["fault"]["text"]
+        harness.check(("^ " + text).encode() in harness.run("show", content=capture([packet_bytes], RAW))[1], text)
 
 
 def large_offsets(harness):
@@ -198,15 +275,15 @@ def places_of_faults(harness):
              (b"", 0, cut + "IP header at offset 0: 1 needed, 0 there"),
              (ipv4(17, b"")[:19], 0, cut + "IPv4 header at offset 0: 20 needed, 19 there"),
              (ipv4(51, authentication(17)[:9], words=7, option_bytes=bytes(8)), 28,
-              short + "authentication header at offset 28: 12 needed, 9 there by the total length")]
+              short + "authentication header at offset 28: 24 needed, 9 there by the total length")]
     for packet, place, words in cases:
         status, found, _, _ = harness.run("show", content=capture([ethernet(packet)]))
         drawn = list(carets(found))
         harness.equal((status, len(drawn), drawn[0][0] if drawn else None), (0, 1, place), packet.hex(),
                       found.decode())
         harness.equal(drawn[0][1], words, packet.hex())
-    for kept, place, needed in [(0, 0, 1), (16, 0, 40), (39, 0, 40), (40, 40, 8), (47, 40, 8), (48, 48, 8), (55, 48, 8),
-                                (56, 48, 24), (71, 48, 24), (72, 72, 8)]:
+    for kept, place, needed in [(0, 0, 1), (16, 0, 40), (39, 0, 40), (40, 40, 8), (47, 40, 8), (48, 48, 8), (49, 48, 8),
+                                (50, 48, 24), (71, 48, 24), (72, 72, 8)]:
         frame = ethernet(ipv6(0, options(43) + routing(44, 2) + fragment(17) + UDP))
         found = harness.run("show", content=file_header() + record(frame, 14 + kept))[1]
         drawn = [(at, words.startswith("truncated: "), words[words.index("offset"):]) for at, words in carets(found)]

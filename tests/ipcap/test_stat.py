@@ -148,7 +148,8 @@ def faults_in_truncated_packets(harness):
     for packet, kept, faults_wanted in [
             (ipv6_chain([60, 0]), 70, {"not-at-start hop-by-hop": 1}),
             (ipv6(51, zero + UDP), 70, {"zero-length authentication": 1}),
-            (ipv4(51, zero + UDP), 60, {"zero-length authentication": 1}), (ipv6(51, zero), 60, {}),
+            (ipv4(51, zero + UDP), 60, {"zero-length authentication": 1}), (ipv6(51, zero), 55, {}),
+            (ipv6(51, zero), 56, {"zero-length authentication": 1}),
             (ipv6(0, options(43) + routing(17) + bytes(99), payload_len=12), 90, {"too-short routing": 1}),
             (b"\x70" + bytes(90), 50, {"unsupported-version IP-header": 1}),
             (ipv4(17, UDP, words=3), 40, {"header-length IPv4-header": 1}),

@@ -1,6 +1,7 @@
 """Tests of `ipcap stat --tunnels`. Headers of tunnels were written by hand from the standards."""
 
 import collections
+import csv
 import json
 import random
 import xml.etree.ElementTree as ElementTree
@@ -560,7 +561,10 @@ def shown(harness):
         packet = packets[one["packet"] - 1]
         harness.check((one["frame_len"], one["captured_len"]) == (len(packet), len(packet)), "lengths of the frame", one)
         harness.check(one.get("version", 0) == 0 or packet[one["ip_offset"]] >> 4 == one["version"], "place", one)
-    names, *rows = [it.split(",") for it in harness.run("show", "--csv", "--tunnels", path)[1].decode().splitlines()]
+    texts = {(it["packet"], it["tunnels"]): it.get("chain", it.get("other_protocol", "")) for it in objects}
+    harness.equal([texts[i, depth] or "none" for i, each in enumerate(wanted, 1) for depth in range(1, len(each) + 1)],
+                  [{"no header": "none", "other": "none"}.get(text, text) for each in wanted for text in each], "chains")
+    names, *rows = csv.reader(harness.run("show", "--csv", "--tunnels", path)[1].decode().splitlines())
     harness.equal([{name: int(value) for name, value in zip(names, row) if name in ("packet", "tunnels")} for row in rows],
                   [{"packet": it["packet"], "tunnels": it["tunnels"]} for it in objects], "--csv")
     harness.check("tunnels" not in harness.run("show", "--csv", path)[1].decode(), "without --tunnels")

@@ -10,6 +10,7 @@ import shutil
 import signal
 import subprocess
 
+import test_compression
 from captures import *
 
 STACK = 160 << 10
@@ -45,7 +46,7 @@ def wrong_usage(harness):
                       ["stat", "--json=1"], ["stat", "-j", "0"], ["stat", "-j"],
                       ["stat", "-j", "x"], ["sum", "-j", "2"],
                       ["stat", "--top", "0"], ["stat", "--top"], ["sum", "--top", "x"], ["sum", "--per-file"],
-                      ["stat", "--tunnels=1"], ["sum", "--tunnels"], ["defrag", "--tunnels"], ["rewrite", "--clear", "--tunnels"]]:
+                      ["stat", "--tunnels=1"], ["sum", "--tunnels"], ["defrag", "--tunnels=1"], ["rewrite", "--tunnels=1", "--clear"]]:
         status, found, errors, _ = harness.run(*arguments)
         harness.equal((status, found), (2, b""), arguments)
         name = "ipcap " + arguments[0] if arguments[0] in COMMANDS else "ipcap"
@@ -290,13 +291,17 @@ def limit_stack():
 
 
 def small_stacks(harness):
-    """Threads with little room on their stacks, as some C libraries give them, count and filter files."""
-    path = harness.file(capture([ethernet(ipv6_chain([0]))] * 9))
-    wanted = harness.run("stat", "--json", path, path, path)[1]
-    for command, output in [(harness.plain + ["stat", "--json", "-j2", path, path, path], wanted),
-                            (harness.commands("count")[0] + [path], harness.run("stat", "--json", path)[1])]:
-        found = subprocess.run(command, stdout=subprocess.PIPE, env={}, preexec_fn=limit_stack)
-        harness.equal((found.returncode, found.stdout), (0, output), command)
+    """Threads with little room on their stacks, as some C libraries give them, count and filter files, also compressed ones."""
+    parts = [ethernet(ipv6(44, fragment(17, offset, more) + bytes(16))) for offset, more in ((0, 1), (2, 0))]
+    content = capture(([ethernet(ipv6_chain([0]))] + parts) * 9)
+    for name, compressed in [("", content), *((name, packed(content)) for name, packed in test_compression.formats(harness))]:
+        path = harness.file(compressed)
+        count = harness.commands("count")[0]
+        for command, arguments in [(harness.plain + ["stat", "--json", "-j2", path, path, path], ["stat", "--json", path, path, path]),
+                                   (harness.plain + ["stat", "--json", "--defrag", "-j2", path, path], ["stat", "--json", "--defrag", path, path]),
+                                   (count + [path], ["stat", "--json", path]), (count + [path, "header 0"], ["filter", "header 0", path])]:
+            found = subprocess.run(command, stdout=subprocess.PIPE, env={}, preexec_fn=limit_stack)
+            harness.equal((found.returncode, found.stdout), (0, harness.run(*arguments)[1]), name, command)
 
 
 def refused_memory(harness):

@@ -33,10 +33,10 @@ _ipcap_argument() {
 }
 
 _ipcap() {
-    local word=${COMP_WORDS[COMP_CWORD]} options
+    local word=${COMP_WORDS[COMP_CWORD]} commands='stat sum filter show defrag rewrite' options
     COMPREPLY=()
     if [ "$COMP_CWORD" -eq 1 ]; then
-        _ipcap_words 'stat sum filter show defrag rewrite --help --version' "$word"
+        _ipcap_words "$commands help --help --version" "$word"
         return
     fi
     case ${COMP_WORDS[1]} in
@@ -44,8 +44,12 @@ _ipcap() {
         sum) options='--json --top' ;;
         filter) options='-c -n -r -w --since --until --packets --defrag --tunnels --memory --number --show --help-terms' ;;
         show) options='-c --defrag --tunnels --memory --color= --one-line --json --csv' ;;
-        defrag) options='-w --keep --memory --report --slots' ;;
-        rewrite) options='-w --without --clear --in-order --break-authentication --memory' ;;
+        defrag) options='-w --keep --tunnels --memory --report --slots' ;;
+        rewrite) options='-w --without --clear --in-order --break-authentication --tunnels --memory' ;;
+        help)
+            _ipcap_words "$commands" "$word"
+            return
+            ;;
         *) return ;;
     esac
     _ipcap_argument "${COMP_WORDS[COMP_CWORD-1]}" "$word" && return

@@ -10,7 +10,8 @@
 # make portable       build those of them that need libpcap so that they load it by either of its names, in build/portable/,
 #                     as `make wheel` and `make dist` pack them
 # make wheel          pack the Python package with the shared libraries, as build/wolfaren-VERSION-py3-none-TAG.whl, whose tag
-#                     is manylinux_2_X_x86_64 if it needs only glibc 2.X, otherwise linux_x86_64
+#                     is manylinux_2_X_x86_64 if it needs only glibc 2.X, otherwise linux_x86_64 (TARGET=aarch64: for ARM64,
+#                     where it reads no compressed captures)
 # make install        install what `make programs` has built: the libraries, their headers, the programs, their manual
 #                     pages, and the completions for bash and zsh. Needs neither rt nor a compiler (PREFIX=/usr/local, also
 #                     LIBDIR, BINDIR, INCLUDEDIR, MANDIR, BASHDIR and ZSHDIR; DESTDIR=.. is prepended to the paths)
@@ -33,13 +34,13 @@
 # make diff           compare its results with etherparse 0.19.0 (SEED=..; LINES=..: how many cases)
 # make diff-test      test that comparison
 # make diff-fields    compare fragment headers with scapy (SEED=..; HEADERS=..: how many)
-# make fuzz           compare its results with etherparse 0.19.0 on inputs made by AFL++, and run ipcap on captures that are
-#                     changed at random (MINUTES=.. for each)
+# make fuzz           run ipcap on captures that are changed at random, then compare the library's results with etherparse
+#                     0.19.0 on inputs made by AFL++ (MINUTES=.. for each; SEED=.. of the changes)
 # make fuzz-test      test that comparison
 #
 # The last eight and make test-c take CARGO_FLAGS="..", additional flags for Cargo, such as one that locates the crate
 # on a machine without network access.
-.PHONY: run try test lib lib-x86_64 lib-aarch64 programs portable wheel install install-lib install-pcap-lib uninstall dist deb test-c page test-page mutants memory bench bench-border cost diff diff-test diff-fields fuzz fuzz-test
+.PHONY: run try test lib lib-x86_64 lib-aarch64 programs portable wheel wheel-x86_64 wheel-aarch64 install install-lib install-pcap-lib uninstall dist deb test-c page test-page mutants memory bench bench-border cost diff diff-test diff-fields fuzz fuzz-test
 .SILENT:
 
 CC_IS_THERE = command -v $(firstword $(1)) >/dev/null || { \
@@ -99,7 +100,7 @@ lib-x86_64:
 	$(MAKE) -s -C programs archive PROVED=../crates/ipexts_c/out/libipexts_c.a OUT=../build
 	cmp -s include/wolfaren.h build/wolfaren.h || cp include/wolfaren.h build/
 
-# the archive is removed, so that none of another machine is left beside the proofs
+# The archive of this machine is set aside meanwhile, byte for byte, since scripts/prove compares it.
 lib-aarch64:
 	$(RT_IS_THERE)
 	$(PYTHON_IS_THERE)
@@ -107,11 +108,12 @@ lib-aarch64:
 	scripts/prove ipexts_c
 	mkdir -p build/aarch64
 	rm -f build/aarch64/libwolfaren.so.*
-	cd crates/ipexts_c && rt lib --target aarch64-unknown-linux-gnu >> ../../build/prove.log 2>&1 || { \
-		echo "ipexts_c could not be built for ARM64; build/prove.log has the output of the tools" >&2; exit 1; }
-	$(MAKE) -s -C programs archive CC='$(ARM64_CC)' AR='$(ARM64_AR)' \
-		PROVED=../crates/ipexts_c/out/libipexts_c.a OUT=../build/aarch64
-	rm crates/ipexts_c/out/libipexts_c.a
+	built=crates/ipexts_c/out/libipexts_c.a; aside=$$built.x86_64; \
+	rm -f $$aside; [ ! -f $$built ] || mv $$built $$aside || exit 1; \
+	trap 'rm -f $$built; [ ! -f $$aside ] || mv $$aside $$built' EXIT; trap 'exit 1' HUP INT TERM; \
+	(cd crates/ipexts_c && rt lib --target aarch64-unknown-linux-gnu) >> build/prove.log 2>&1 || { \
+		echo "ipexts_c could not be built for ARM64; build/prove.log has the output of the tools" >&2; exit 1; }; \
+	$(MAKE) -s -C programs archive CC='$(ARM64_CC)' AR='$(ARM64_AR)' PROVED=../$$built OUT=../build/aarch64
 	cp include/wolfaren.h build/aarch64/
 	$(MAKE) -C programs shared CC='$(ARM64_CC)' LIB=$(CURDIR)/build/aarch64 OUT=$(CURDIR)/build/aarch64
 
@@ -126,9 +128,18 @@ portable: programs
 	$(MAKE) -C programs shared pcap-shared ipcap PCAP=loaded LIB=$(CURDIR)/build INCLUDE=$(CURDIR)/build \
 		OUT=$(CURDIR)/build/portable
 
-wheel: portable
+wheel: wheel-$(TARGET)
+
+wheel-x86_64: portable
 	$(PYTHON_IS_THERE)
 	scripts/wheel build build/portable
+
+# the libraries that decompress captures are this machine's alone
+wheel-aarch64: lib-aarch64
+	$(PCAP_IS_THERE)
+	$(MAKE) -C programs pcap-shared CC='$(ARM64_CC)' PCAP=loaded ZLIB= ZSTD= LZMA= LIB=$(CURDIR)/build/aarch64 \
+		INCLUDE=$(CURDIR)/build/aarch64 OUT=$(CURDIR)/build/aarch64
+	scripts/wheel build build/aarch64
 
 PREFIX = /usr/local
 BINDIR = $(PREFIX)/bin
@@ -187,9 +198,9 @@ uninstall:
 	rm -f $(DESTDIR)$(MANDIR)/man1/ipcap.1 $(DESTDIR)$(MANDIR)/man1/ipexts.1
 	rm -f $(DESTDIR)$(BASHDIR)/ipcap $(DESTDIR)$(ZSHDIR)/_ipcap
 
-dist: portable page wheel
+dist: portable page wheel-x86_64
 	scripts/dist
-	! command -v $(firstword $(ARM64_CC)) >/dev/null || { $(MAKE) lib TARGET=aarch64 && scripts/dist aarch64; }
+	! command -v $(firstword $(ARM64_CC)) >/dev/null || { $(MAKE) wheel TARGET=aarch64 && scripts/dist aarch64; }
 
 deb: programs
 	scripts/deb
@@ -220,11 +231,10 @@ memory:
 	$(PYTHON_IS_THERE)
 	scripts/refuse-memory
 
-SEED = 1
 LINES = 1000000
 HEADERS = 5000
 MINUTES = 5
-export SEED LINES HEADERS MINUTES ONLY CARGO_FLAGS
+export LINES HEADERS MINUTES ONLY CARGO_FLAGS
 
 bench: lib-x86_64
 	status=0; bench/compare || status=1; [ -n "$(ONLY)" ] || for part in border defragment rewriter; do \
@@ -246,8 +256,7 @@ diff-fields:
 	tests/diff/fields
 
 fuzz: lib-x86_64
-	tests/fuzz/run
-	tests/ipcap/fuzz build build
+	status=0; for part in 'tests/ipcap/fuzz build build' tests/fuzz/run; do $$part || status=$$?; done; exit $$status
 
 fuzz-test:
 	tests/fuzz/test

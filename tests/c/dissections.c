@@ -299,7 +299,7 @@ static void no_ip_header(void)
     check_no_packet("version 5", bytes, sizeof bytes, WOLFAREN_AT_FAULT, &fault);
 }
 
-/* A header of a chain that is truncated at every byte. Its length byte is needed once `first_len` bytes are here. */
+/* A header of a chain that is truncated at every byte. It needs `first_len` bytes until the byte with its length is here. */
 struct link {
     struct wolfaren_header header;
     size_t first_len;
@@ -331,7 +331,7 @@ static void check_each_length(const char *name, const struct row *row, const str
             .payload_number = whole > 0 ? links[whole - 1].header.next_header : row->number};
         if (whole < count) {
             const struct link *next = &links[whole];
-            const size_t needed = len - at < next->first_len ? next->first_len : next->header.len;
+            const size_t needed = len - at < 2 ? next->first_len : next->header.len;
             wanted.fault = (struct wolfaren_fault){needed, len - at, at, WOLFAREN_TOO_SHORT, next->header_layer,
                                                    next->layer, len_source, 0};
             wanted.end = is_stated ? WOLFAREN_AT_FAULT : WOLFAREN_AT_TRUNCATED_HEADER;

@@ -126,7 +126,7 @@ static void fields_of_single_headers(void)
     const uint8_t bytes[8] = {17, 0, 0, 0xe1, 1, 2, 3, 4};
     struct wolfaren_fragment fragment;
     check(wolfaren_fragment_fields(bytes, sizeof bytes, &fragment), "a fragment header");
-    check(fragment.fragment_offset == 28 && fragment.more_fragments == 1, "where a fragment lies");
+    check(fragment.fragment_offset == 224 && fragment.more_fragments == 1, "where a fragment lies");
     check(fragment.identification == 0x01020304 && fragment.next_header == 17, "a fragment's packet");
     const uint8_t auth_bytes[12] = {17, 1, 0xff, 0xff, 0, 0, 0, 1, 0, 0, 0, 2};
     struct wolfaren_authentication auth;
@@ -172,6 +172,9 @@ static void a_truncated_packet(void)
     check(packet.version == 6 && packet.headers == 1 && packet.len_source == WOLFAREN_SLICE, "its result");
     check(packet.payload_offset == 48 && packet.payload_len == 0 && header.offset == 40, "its parts");
     check(fault.kind == 200, "left unchanged on success");
+    uint8_t ipv4[21] = {0x45, 0, 0, 22, 0, 0, 0, 0, 64, 17};
+    check(!wolfaren_parse_packet_lax(ipv4, sizeof ipv4, &header, 1, &packet, &fault), "a truncated IPv4 packet");
+    check(fault.kind == WOLFAREN_TOO_SHORT && fault.required_len == 22 && fault.len == 21, "its error");
 }
 
 /* The payload of a packet with three bytes of payload, of a fragment, and of a truncated packet. */

@@ -4,6 +4,7 @@
 #include <stdio.h>
 #include <stdlib.h>
 #include <string.h>
+#include <time.h>
 
 /* From 192.0.2.1 to 192.0.2.2, the first fragment with identification 0x1234, with an authentication header and 2 bytes. */
 static const uint8_t IPV4[34] = {0x45, 0,   0, 34, 0x12, 0x34, 0x20, 0, 64, 51, 0, 0, 192, 0, 2, 1, 192,
@@ -142,7 +143,7 @@ static void any_contents(void)
         for (size_t i = 0; i < sizeof filter; i++) ((uint8_t *)&filter)[i] = next_byte();
         for (size_t i = 0; i < WOLFAREN_FILTER_TESTS; i++) {
             struct wolfaren_filter_test *test = &filter.tests[i];
-            test->kind %= WOLFAREN_TEST_ICMP6_CODE + 2;
+            test->kind %= WOLFAREN_TEST_NO_LENGTH + 2;
             if (round % 3 == 0) continue;
             test->if_met = (uint8_t)(i + test->if_met % 16);
             test->if_not = (uint8_t)(i + test->if_not % 16);
@@ -208,7 +209,8 @@ static void programs(void)
          {1, {{.kind = WOLFAREN_TEST_PORT, .number = 2313, .address_low = UINT64_MAX, .if_met = 64}}}},
         {"no destination port", true,
          {1, {{.kind = WOLFAREN_TEST_DESTINATION_PORT, .address_low = 65535, .if_not = 64}}}},
-        {"too few bytes for both ports", true, {1, {{.kind = WOLFAREN_TEST_NO_TRANSPORT, .if_met = 64}}}},
+        {"too few bytes for TCP", true, {1, {{.kind = WOLFAREN_TEST_NO_TRANSPORT, .if_met = 64}}}},
+        {"a length", true, {1, {{.kind = WOLFAREN_TEST_NO_LENGTH, .if_not = 64}}}},
         {"no type of ICMP", true, {1, {{.kind = WOLFAREN_TEST_ICMP_TYPE, .number = 9, .if_not = 64}}}},
         {"no code of ICMP", true, {1, {{.kind = WOLFAREN_TEST_ICMP_CODE, .number = 9, .if_not = 64}}}},
         {"no flags of TCP", true, {1, {{.kind = WOLFAREN_TEST_TCP_FLAGS, .if_not = 64}}}},
@@ -230,7 +232,7 @@ static void longest(void)
     }
 }
 
-/* Each term of a text is one test, in the order of the text. */
+/* Each term of a text is one test. That of the network needs only the base header, so it comes first; the others keep the text's order. */
 static void parsed_program(void)
 {
     struct wolfaren_filter filter;
@@ -238,14 +240,14 @@ static void parsed_program(void)
     check(parse("not (fragment and payload > 5) or dst 192.0.2.0/24", &filter, &error), "a text");
     const struct wolfaren_filter_test *tests = filter.tests;
     check(filter.count == 3, "three terms are three tests");
-    check(tests[0].kind == WOLFAREN_TEST_FLAGS && tests[0].number == 3 << WOLFAREN_FLAG_FIRST_FRAGMENT, "fragment");
-    check(tests[0].if_met == 1 && tests[0].if_not == WOLFAREN_FILTER_PASSED, "where fragment leads");
-    check(tests[1].kind == WOLFAREN_TEST_PAYLOAD && tests[1].comparison == WOLFAREN_GREATER && tests[1].number == 5,
+    check(tests[0].kind == WOLFAREN_TEST_DESTINATION && tests[0].version == 4 && tests[0].prefix_len == 24
+              && tests[0].address_low == 0xc0000200, "dst");
+    check(tests[0].if_met == WOLFAREN_FILTER_PASSED && tests[0].if_not == 1, "where dst leads");
+    check(tests[1].kind == WOLFAREN_TEST_FLAGS && tests[1].number == 3 << WOLFAREN_FLAG_FIRST_FRAGMENT, "fragment");
+    check(tests[1].if_met == 2 && tests[1].if_not == WOLFAREN_FILTER_PASSED, "where fragment leads");
+    check(tests[2].kind == WOLFAREN_TEST_PAYLOAD && tests[2].comparison == WOLFAREN_GREATER && tests[2].number == 5,
           "payload");
-    check(tests[1].if_met == 2 && tests[1].if_not == WOLFAREN_FILTER_PASSED, "where payload leads");
-    check(tests[2].kind == WOLFAREN_TEST_DESTINATION && tests[2].version == 4 && tests[2].prefix_len == 24
-              && tests[2].address_low == 0xc0000200, "dst");
-    check(tests[2].if_met == WOLFAREN_FILTER_PASSED && tests[2].if_not > WOLFAREN_FILTER_PASSED, "where dst leads");
+    check(tests[2].if_met > WOLFAREN_FILTER_PASSED && tests[2].if_not == WOLFAREN_FILTER_PASSED, "where payload leads");
 }
 
 /* Returns the only test of a text. */
@@ -279,6 +281,7 @@ static void parsed_tests(void)
         {"dst port 1024-65535", WOLFAREN_TEST_DESTINATION_PORT, 1024, 65535},
         {"port 0-1", WOLFAREN_TEST_PORT, 0, 1},
         {"no-transport", WOLFAREN_TEST_NO_TRANSPORT, 0, 0},
+        {"no-length", WOLFAREN_TEST_NO_LENGTH, 0, 0},
         {"icmp-type 128", WOLFAREN_TEST_ICMP_TYPE, 128, 0},
         {"icmp-code 255", WOLFAREN_TEST_ICMP_CODE, 255, 0},
         {"icmp6-type 128", WOLFAREN_TEST_ICMP6_TYPE, 128, 0},
@@ -364,6 +367,34 @@ static void options(void)
     }
 }
 
+/* Returns the processor time of many matches of a packet with 1,023 options, none of which the text names. */
+static clock_t time_of_options(const char *text)
+{
+    static uint8_t packet[40 + 2048] = {0x60, 0, 0, 0, 8, 0, 0, 64};
+    packet[40] = 59;
+    packet[41] = 255;
+    for (size_t i = 42; i < sizeof packet; i += 2) packet[i] = 1; /* PadN without data (RFC 8200, section 4.2) */
+    struct wolfaren_filter filter;
+    struct wolfaren_filter_error error;
+    check(parse(text, &filter, &error), text);
+    clock_t least = 0;
+    for (int run = 0; run < 5; run++) {
+        clock_t start = clock();
+        for (int i = 0; i < 500; i++) check(!wolfaren_filter_matches(&filter, packet, sizeof packet), text);
+        clock_t taken = clock() - start;
+        if (run == 0 || taken < least) least = taken;
+    }
+    return least;
+}
+
+/* Options are walked once, however many terms ask for one: 64 terms take a few times as long as one, not 64 times. */
+static void many_options(void)
+{
+    char text[64 * 16] = "option 2";
+    for (unsigned type = 3; type < 66; type++) snprintf(text + strlen(text), 16, " or option %u", type);
+    check(time_of_options(text) < 16 * (time_of_options("option 2") + 1), "64 terms about options");
+}
+
 /* Two fragment headers: of a first fragment with identification 7, and of a middle one with identification 9. */
 static const uint8_t TWICE[] = {IPV6(16, 44), 44, 0, 0, 1, 0, 0, 0, 7, 17, 0, 3, 0x21, 0, 0, 0, 9};
 
@@ -417,7 +448,8 @@ static void upper_layers(void)
         {"src port 443 and dst port 50000 and first-fragment", true, false},
         {"port 443 or icmp6-type 128", true, true},
         {"icmp or icmp-type 128 or icmp-code 7", false, false},
-        {"port 1-442 or port 444-49999 or port 50001-65535 or no-transport", false, false},
+        {"port 1-442 or port 444-49999 or port 50001-65535 or no-length", false, false},
+        {"no-transport", true, true},
         {"icmp6-type 128 and icmp6-code 7 and icmp6", false, true},
         {"dscp = 46 and ecn = 1 and flow = 0xcdef1 and hop-limit = 9", true, true},
         {"length = 60 or length = 54", true, true},
@@ -445,5 +477,6 @@ int main(void)
     routing();
     two_fragment_headers();
     options();
+    many_options();
     return 0;
 }

@@ -433,6 +433,31 @@ static void test_refusals(void)
     expect_refused(&packet, first, WOLFAREN_REFUSED_HEADERS, "faulty headers");
 }
 
+/* Each refusal has a text, and no other code has one. */
+static void test_texts(void)
+{
+    static const char *const texts[] = {
+        [WOLFAREN_NOT_REFUSED] = "",
+        [WOLFAREN_REFUSED_HEADERS] = "the headers of the packet are truncated or faulty",
+        [WOLFAREN_REFUSED_MISSING] = "bytes of the packet are missing",
+        [WOLFAREN_REFUSED_LATER_FRAGMENT] = "the packet is a later fragment",
+        [WOLFAREN_REFUSED_NOT_A_HEADER] = "the bytes are no extension header for the packet",
+        [WOLFAREN_REFUSED_NO_HEADER] = "the packet has no such header",
+        [WOLFAREN_REFUSED_FRAGMENT_HEADER] = "the header is that of a fragment",
+        [WOLFAREN_REFUSED_MISPLACED] = "the header can't be at this place",
+        [WOLFAREN_REFUSED_FRAGMENTED] = "the change is in the part that is fragmented",
+        [WOLFAREN_REFUSED_AUTHENTICATED] = "an authentication header covers the change",
+        [WOLFAREN_REFUSED_HEADER_FOLLOWS] = "the payload would be read as an extension header",
+        [WOLFAREN_REFUSED_NO_LENGTH] = "the packet states no length",
+        [WOLFAREN_REFUSED_TOO_LONG] = "the packet is too long for its length field",
+        [WOLFAREN_REFUSED_NO_ROOM] = "the buffer is too short for the packet"};
+    char text[WOLFAREN_TEXT_ROOM];
+    for (unsigned i = 0; i < 256; i++) {
+        const char *wanted = i < sizeof texts / sizeof *texts ? texts[i] : "";
+        expect(wolfaren_refusal_text((uint8_t)i, text, sizeof text) == strlen(wanted) && strcmp(text, wanted) == 0, wanted);
+    }
+}
+
 /* A packet with segments left loses its checksums, and one without a stated length isn't made shorter. */
 static void test_fields(void)
 {
@@ -580,6 +605,7 @@ int main(void)
     test_ipv4();
     test_more_ipv4();
     test_refusals();
+    test_texts();
     test_more_refusals();
     test_fields();
     test_longest();

@@ -184,10 +184,17 @@ impl Parser {
             "fragment" => Term::Fragment,
             "first-fragment" => Term::FirstFragment,
             "later-fragment" => Term::LaterFragment,
-            "truncated" => Term::Truncated(self.take(layer, Expected::Operand).ok()),
+            "truncated" => {
+                let truncated =
+                    |word: &str| layer(word).filter(|layer| *layer != Layer::Ipv4Packet);
+                Term::Truncated(self.take(truncated, Expected::Operand).ok())
+            }
             "incomplete" => Term::Incomplete,
             "fault" => match self.take(fault_kind, Expected::Operand) {
-                Ok(kind) => Term::Fault(Some(kind), self.take(layer, Expected::Operand).ok()),
+                Ok(kind) => {
+                    let faulty = |word: &str| layer(word).filter(|layer| can_have(kind, *layer));
+                    Term::Fault(Some(kind), self.take(faulty, Expected::Operand).ok())
+                }
                 Err(_) => Term::Fault(None, None),
             },
             "spi" => Term::Spi(self.take(number, Expected::Number)?),
@@ -197,6 +204,7 @@ impl Parser {
             "host" => Term::Either(self.take(host, Expected::Address)?),
             "port" => Term::Port(self.take(ports, Expected::Ports)?),
             "no-transport" => Term::NoTransport,
+            "no-length" => Term::NoLength,
             "option" => Term::Option(self.take(byte, Expected::Byte)?),
             "routing-type" => Term::RoutingType(self.take(byte, Expected::Byte)?),
             "segments-left" => Term::SegmentsLeft(self.comparison()?),
@@ -444,13 +452,27 @@ fn layer(word: &str) -> Option<Layer> {
         "IPv4-packet" => Some(Layer::Ipv4Packet),
         "authentication" => Some(Layer::IpAuthHeader),
         "IPv6-header" => Some(Layer::Ipv6Header),
-        "IPv6-packet" => Some(Layer::Ipv6Packet),
         "IPv6-extension" => Some(Layer::Ipv6ExtHeader),
         "hop-by-hop" => Some(Layer::Ipv6HopByHopHeader),
         "destination-options" => Some(Layer::Ipv6DestOptionsHeader),
         "routing" => Some(Layer::Ipv6RouteHeader),
         "fragment" => Some(Layer::Ipv6FragHeader),
         _ => None,
+    }
+}
+
+/// Returns whether a header of the layer can be faulty in this way.
+fn can_have(kind: FaultKind, layer: Layer) -> bool {
+    match layer {
+        Layer::IpHeader => kind == FaultKind::UnsupportedVersion,
+        Layer::Ipv4Header => kind == FaultKind::HeaderLength,
+        Layer::Ipv6Header => false,
+        Layer::IpAuthHeader => [FaultKind::TooShort, FaultKind::ZeroLength].contains(&kind),
+        Layer::Ipv6HopByHopHeader => [FaultKind::TooShort, FaultKind::NotAtStart].contains(&kind),
+        Layer::Ipv6ExtHeader => {
+            ![FaultKind::UnsupportedVersion, FaultKind::HeaderLength].contains(&kind)
+        }
+        _ => kind == FaultKind::TooShort,
     }
 }
 

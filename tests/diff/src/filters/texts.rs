@@ -110,6 +110,7 @@ fn term(packet: &[u8], random: &mut Random, words: &mut Vec<String>) {
         "incomplete",
         "fault",
         "no-transport",
+        "no-length",
         "ip",
         "ip6",
     ];

@@ -12,6 +12,8 @@ const AUTH: u8 = 51;
 
 const TCP: u8 = 6;
 
+const DCCP: u8 = 33;
+
 const ESP: u8 = 50;
 
 /// The protocols whose headers begin with the source and the destination port, of 2 bytes each: TCP, UDP, DCCP, SCTP and
@@ -47,7 +49,7 @@ fn is_met(term: &Term, packet: &Dissected<'_>) -> bool {
         Term::LaterFragment => has_fragment(packet, |it| it.offset != 0),
         Term::Truncated(layer) => match &packet.end {
             End::Truncated(error, header) => {
-                layer.is_none_or(|layer| layer == header.unwrap_or(error.layer))
+                layer.is_none_or(|layer| is_in(packet, header.unwrap_or(error.layer), layer))
             }
             _ => false,
         },
@@ -55,7 +57,8 @@ fn is_met(term: &Term, packet: &Dissected<'_>) -> bool {
         Term::Fault(kind, layer) => match &packet.end {
             End::Fault(error, header) => {
                 kind.is_none_or(|kind| kind == kind_of(error))
-                    && layer.is_none_or(|layer| layer == header.unwrap_or(layer_of(error)))
+                    && layer
+                        .is_none_or(|layer| is_in(packet, header.unwrap_or(layer_of(error)), layer))
             }
             _ => false,
         },
@@ -96,7 +99,8 @@ fn is_met(term: &Term, packet: &Dissected<'_>) -> bool {
         Term::SourcePort(ports) => is_among(port(packet, 0), ports),
         Term::DestinationPort(ports) => is_among(port(packet, 2), ports),
         Term::Port(ports) => is_among(port(packet, 0), ports) || is_among(port(packet, 2), ports),
-        Term::NoTransport => upper_layer(packet, &WITH_PORTS).is_some_and(|bytes| bytes.len() < 4),
+        Term::NoTransport => lacks_upper_layer(packet),
+        Term::NoLength => has_base && packet.stated.is_none() && after_base(packet) > 0,
         Term::Icmp => is_of(packet, ICMP),
         Term::Icmp6 => is_of(packet, ICMP6),
         Term::IcmpType(number) => message_byte(packet, ICMP, 0) == Some(*number),
@@ -146,7 +150,12 @@ fn value(quantity: Quantity, packet: &Dissected<'_>) -> Option<usize> {
         _ => None,
     };
     match quantity {
-        Quantity::Length => packet.stated,
+        Quantity::Length if packet.version == 0 => None,
+        Quantity::Length => Some(
+            packet
+                .stated
+                .unwrap_or(packet.base.len() + after_base(packet)),
+        ),
         Quantity::HopLimit => of_version(8, 7),
         Quantity::Dscp => traffic_class(packet).map(|class| class >> 2),
         Quantity::Ecn => traffic_class(packet).map(|class| class & 3),
@@ -154,9 +163,15 @@ fn value(quantity: Quantity, packet: &Dissected<'_>) -> Option<usize> {
         Quantity::FlowLabel => None,
         _ if packet.version == 0 => None,
         Quantity::Headers => Some(packet.headers.len()),
-        Quantity::ChainBytes => Some(packet.headers.iter().map(|(_, bytes)| bytes.len()).sum()),
+        Quantity::ChainBytes => Some(after_base(packet) - packet.payload.len()),
         Quantity::Payload => Some(packet.payload.len()),
     }
+}
+
+/// Returns how many bytes of the packet follow its base header.
+fn after_base(packet: &Dissected<'_>) -> usize {
+    let headers: usize = packet.headers.iter().map(|(_, bytes)| bytes.len()).sum();
+    headers + packet.payload.len()
 }
 
 /// Returns the traffic class: byte 1 of an IPv4 header, and the 8 bits after the version of an IPv6 header.
@@ -180,6 +195,25 @@ fn flow_label(base: &[u8]) -> usize {
 /// Returns the payload if it begins with the header of one of the protocols.
 fn upper_layer<'a>(packet: &Dissected<'a>, protocols: &[u8]) -> Option<&'a [u8]> {
     (packet.end == End::Payload && protocols.contains(&packet.number)).then_some(packet.payload)
+}
+
+/// Returns whether the payload should begin with the header of an upper layer, but has only a part of it.
+fn lacks_upper_layer(packet: &Dissected<'_>) -> bool {
+    let Some(bytes) = upper_layer(packet, &[packet.number]) else {
+        return false;
+    };
+    let word = |at: usize| bytes.get(at).copied().unwrap_or(0);
+    let (least, stated) = match (packet.version, packet.number) {
+        (_, TCP) => (20, usize::from(word(12) >> 4) * 4),
+        (_, DCCP) if word(8) & 1 == 1 => (16, usize::from(word(4)) * 4),
+        (_, DCCP) => (12, usize::from(word(4)) * 4),
+        (_, 132) => (12, 12),
+        (_, 17 | 136) => (8, 8),
+        ICMP => (8, 8),
+        ICMP6 => (4, 4),
+        _ => return false,
+    };
+    bytes.len() < least || bytes.len() < stated || stated < least
 }
 
 /// Returns the port at an offset in the payload, if the packet has it.
@@ -222,6 +256,12 @@ fn kind_of(error: &ip::SliceError) -> FaultKind {
             ipv6_exts::HeaderError::IpAuth(_) => FaultKind::ZeroLength,
         },
     }
+}
+
+/// Returns whether the layer of a header is the one that is asked for, which may be any extension header of IPv6.
+fn is_in(packet: &Dissected<'_>, layer: Layer, asked: Layer) -> bool {
+    let is_extension = packet.version == 6 && layer != Layer::Ipv6Header;
+    layer == asked || asked == Layer::Ipv6ExtHeader && is_extension
 }
 
 /// Returns the layer that an error names.

@@ -19,12 +19,21 @@ pub fn packet(random: &mut Random) -> Vec<u8> {
 }
 
 /// Makes the start of an upper-layer header, which may lack its ports, and its number. Often the first two bytes, the type
-/// and the code of an ICMP message, are small.
+/// and the code of an ICMP message, are small, and the data offsets of DCCP and TCP near their least values.
 fn upper_layer(random: &mut Random) -> (u8, Vec<u8>) {
-    let len = random.below(20);
+    let len = random.below(40);
     let mut bytes = random.bytes(len);
     if random.percent(30) {
         bytes.iter_mut().take(2).for_each(|byte| *byte %= 4);
+    }
+    if random.percent(50) {
+        let offset = random.below(8) as u8;
+        if let Some(byte) = bytes.get_mut(4) {
+            *byte = offset;
+        }
+        if let Some(byte) = bytes.get_mut(12) {
+            *byte = offset << 4 | *byte & 15;
+        }
     }
     (NUMBERS[random.below(NUMBERS.len())], bytes)
 }
@@ -35,7 +44,11 @@ fn ipv4(random: &mut Random) -> Vec<u8> {
         after.splice(0..0, authentication(number, random));
         number = AUTH;
     }
-    let len = 20 + after.len() as u8;
+    let len = if random.percent(5) {
+        0
+    } else {
+        20 + after.len() as u8
+    };
     let mut bytes = vec![0x45, random.next() as u8, 0, len];
     bytes.extend(random.bytes(2));
     // The flags come first in an IPv4 header, and last in a fragment header.
@@ -56,7 +69,12 @@ fn ipv6(random: &mut Random) -> Vec<u8> {
     }
     let mut bytes = vec![0x60 | random.below(16) as u8];
     bytes.extend(random.bytes(3));
-    bytes.extend([0, after.len() as u8, number, random.next() as u8]);
+    let len = if random.percent(5) {
+        0
+    } else {
+        after.len() as u8
+    };
+    bytes.extend([0, len, number, random.next() as u8]);
     bytes.extend(random.bytes(32));
     bytes.extend(after);
     bytes

@@ -1,13 +1,14 @@
 /*
- * Times wolfaren_defragment for fragments of 1,280 bytes that are interleaved over 1,000 packets, and for a flood of fragments
- * whose packets never become whole, beside a copy of the same bytes with a look-up of the packet in a hash table.
+ * Times wolfaren_defragmenter_add for fragments of 1,280 bytes that are interleaved over 1,000 packets, and for floods of fragments
+ * whose packets never become whole, beside a copy of the same bytes with a look-up of the packet in a hash table. The keys of a flood
+ * are identifications in order, random, or chosen: keys that collide if their words are reduced by the prime 4294967291.
  *
  * usage: PROGRAM [ROUNDS [JOB]]
  *        PROGRAM write FILE
  *
- * Each round has 50,000 fragments. JOB is `whole`, `ipv4`, `flood`, `copy` or `none`; without it, prints nanoseconds for each
- * fragment of each job, the least of several rounds, and ratios to the copy. `write` writes the IPv4 fragments to a file, each
- * after its length in four bytes, in network byte order.
+ * Each round has 50,000 fragments. JOB is `whole`, `ipv4`, `flood`, `random`, `chosen`, `copy` or `none`; without it, prints
+ * nanoseconds for each fragment of each job, the least of several rounds, and ratios to the copy. `write` writes the IPv4 fragments
+ * to a file, each after its length in four bytes, in network byte order.
  */
 #define _DEFAULT_SOURCE
 
@@ -21,16 +22,14 @@
 
 enum { KEYS = 1000, PIECES = 50, FRAGMENTS = KEYS * PIECES, LEN = 1280, DATA = LEN - 48, SLOTS = 4096, TABLE = 4096 };
 enum { IPV4_DATA = 1256, IPV4_LEN = 20 + IPV4_DATA };
+/* the words of a key: both addresses and the identification */
+enum { WORDS = 9 };
+#define PRIME UINT32_C(4294967291)
 
-static uint8_t *fragments, *ipv4_fragments;
-static struct wolfaren_slot *slots;
-static struct wolfaren_packet_memory *memories;
-static struct wolfaren_defragmenter_counts counts;
-/* With this seed, no more than 8 of the packets that become whole share their slots, so that none is given up. */
-static const struct wolfaren_defragmenter_settings settings = {{0x0123456789abcdef, 0xfedcba9876543210},
-                                                               WOLFAREN_DEFAULT_TIMEOUT};
+static uint8_t *fragments, *ipv4_fragments, *flood;
+static struct wolfaren_defragmenter *defragmenter;
 static uint64_t now;
-static uint32_t flooded;
+static uint32_t flooded, random_keys[FRAGMENTS][WORDS], chosen_keys[FRAGMENTS][WORDS];
 
 struct entry {
     uint8_t key[36];
@@ -48,9 +47,9 @@ static void *reserve(size_t len)
     return memory;
 }
 
-static void put_identification(uint8_t *bytes, uint32_t identification)
+static void put_word(uint8_t *place, uint32_t word)
 {
-    for (int i = 0; i < 4; i++) bytes[44 + i] = (uint8_t)(identification >> (24 - 8 * i));
+    for (int i = 0; i < 4; i++) place[i] = (uint8_t)(word >> (24 - 8 * i));
 }
 
 /* Fragment j of each packet, then fragment j + 1 of each. */
@@ -68,7 +67,7 @@ static void make_fragments(void)
         bytes[40] = 17;
         bytes[42] = (uint8_t)(offset >> 8);
         bytes[43] = (uint8_t)offset;
-        put_identification(bytes, i % KEYS);
+        put_word(bytes + 44, i % KEYS);
         memset(bytes + 48, (int)i, DATA);
     }
 }
@@ -101,7 +100,7 @@ static void write_ipv4_fragments(const char *path)
 static void add(const uint8_t *bytes, size_t len)
 {
     struct wolfaren_added added;
-    if (!wolfaren_defragment(slots, SLOTS, memories, SLOTS, &counts, &settings, bytes, len, 0, now++, &added)) exit(3);
+    wolfaren_defragmenter_add(defragmenter, 0, bytes, len, now++, &added);
 }
 
 static void run_whole(void)
@@ -118,11 +117,48 @@ static void run_ipv4(void)
 static void run_flood(void)
 {
     for (size_t i = 0; i < FRAGMENTS; i++) {
-        uint8_t *bytes = fragments + i % KEYS * LEN;
-        put_identification(bytes, 1000000 + flooded++);
+        uint8_t *bytes = flood + i % KEYS * LEN;
+        put_word(bytes + 44, 1000000 + flooded++);
         add(bytes, LEN);
     }
-    for (unsigned i = 0; i < KEYS; i++) put_identification(fragments + (size_t)i * LEN, i);
+}
+
+/* Random keys by SplitMix64, and keys from 2001:db8::1 and their like: to each of seven words the prime is added or not, so that
+ * 128 keys of an identification collide if words are reduced by it. */
+static void make_keys(void)
+{
+    static const uint32_t first[WORDS] = {0x20010db8, 0, 0, 1, 0, 0, 0, 2, 0};
+    uint64_t state = 0;
+    for (uint32_t i = 0; i < FRAGMENTS; i++) {
+        for (int j = 0; j < WORDS; j++) {
+            uint64_t word = state += 0x9e3779b97f4a7c15;
+            word = (word ^ word >> 30) * 0xbf58476d1ce4e5b9;
+            word = (word ^ word >> 27) * 0x94d049bb133111eb;
+            random_keys[i][j] = (uint32_t)(word >> 32);
+            chosen_keys[i][j] = first[j] + (j > 0 && j < WORDS - 1 ? (i >> (j - 1) & 1) * PRIME : 0);
+        }
+        chosen_keys[i][WORDS - 1] = i >> (WORDS - 2);
+    }
+}
+
+/* The first fragments, each with a key of its own. */
+static void run_keys(uint32_t (*keys)[WORDS])
+{
+    for (size_t i = 0; i < FRAGMENTS; i++) {
+        uint8_t *bytes = flood + i % KEYS * LEN;
+        for (int j = 0; j < WORDS; j++) put_word(bytes + (j < WORDS - 1 ? 8 + 4 * j : 44), keys[i][j]);
+        add(bytes, LEN);
+    }
+}
+
+static void run_random(void)
+{
+    run_keys(random_keys);
+}
+
+static void run_chosen(void)
+{
+    run_keys(chosen_keys);
 }
 
 /* Returns the number of the packet of a fragment. */
@@ -161,7 +197,8 @@ static void run_none(void)
 static const struct job {
     const char *name;
     void (*run)(void);
-} jobs[] = {{"none", run_none}, {"copy", run_copy}, {"whole", run_whole}, {"ipv4", run_ipv4}, {"flood", run_flood}};
+} jobs[] = {{"none", run_none}, {"copy", run_copy}, {"whole", run_whole}, {"ipv4", run_ipv4}, {"flood", run_flood},
+            {"random", run_random}, {"chosen", run_chosen}};
 
 enum { JOBS = sizeof jobs / sizeof *jobs };
 
@@ -175,14 +212,19 @@ static double seconds(void)
 int main(int count, char **arguments)
 {
     int rounds = count > 1 ? atoi(arguments[1]) : 20;
-    double least[JOBS] = {0, 1e9, 1e9, 1e9, 1e9};
+    double least[JOBS] = {0, 1e9, 1e9, 1e9, 1e9, 1e9, 1e9};
     fragments = reserve((size_t)FRAGMENTS * LEN);
     ipv4_fragments = reserve((size_t)FRAGMENTS * IPV4_LEN);
-    slots = reserve(SLOTS * sizeof *slots);
-    memories = reserve(SLOTS * sizeof *memories);
+    static const uint64_t seed[2] = {0x0123456789abcdef, 0xfedcba9876543210};
+    size_t size = wolfaren_defragmenter_size(SLOTS);
+    defragmenter = wolfaren_defragmenter_init(reserve(size), size, seed);
+    if (defragmenter == NULL) exit(3);
     copies = reserve((size_t)KEYS * 65536);
+    flood = reserve((size_t)KEYS * LEN);
     make_fragments();
+    memcpy(flood, fragments, (size_t)KEYS * LEN);
     make_ipv4_fragments();
+    make_keys();
     if (count == 3 && strcmp(arguments[1], "write") == 0) {
         write_ipv4_fragments(arguments[2]);
         return 0;
@@ -197,10 +239,12 @@ int main(int count, char **arguments)
         }
     }
     if (count > 2) return 0;
-    if (counts.outcomes[WOLFAREN_WHOLE] != (uint64_t)rounds * 2 * KEYS) return 4;
+    if (defragmenter->counts->outcomes[WOLFAREN_WHOLE] != (uint64_t)rounds * 2 * KEYS) return 4;
     printf("copy and look-up  %7.1f ns a fragment\n", least[1]);
     printf("whole packets     %7.1f ns a fragment: %.2f\n", least[2], least[2] / least[1]);
     printf("of IPv4           %7.1f ns a fragment: %.2f\n", least[3], least[3] / least[1]);
     printf("flood             %7.1f ns a fragment: %.2f\n", least[4], least[4] / least[1]);
+    printf("of random keys    %7.1f ns a fragment: %.2f\n", least[5], least[5] / least[1]);
+    printf("of chosen keys    %7.1f ns a fragment: %.2f, of random ones %.2f\n", least[6], least[6] / least[1], least[6] / least[5]);
     return 0;
 }

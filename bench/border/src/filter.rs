@@ -1,8 +1,12 @@
-//! Filters packets through C by `header 44`, and by libpcap's `ip6 protochain 44`.
+//! Filters packets through C, and by libpcap's expressions for the same packets.
+#[cfg(feature = "libpcap")]
+use self::pcap::Compiled;
 use crate::sums::Digest;
+#[cfg(feature = "libpcap")]
+use std::sync::OnceLock;
 
 #[repr(C)]
-#[derive(Clone, Copy)]
+#[derive(Clone, Copy, Default)]
 struct Test {
     number: u64,
     address_high: u64,
@@ -37,8 +41,48 @@ static HEADER_44: Filter = Filter {
     }; 64],
 };
 
+/// What the text of a filter needs, and where.
+#[cfg(feature = "libpcap")]
+#[repr(C)]
+#[derive(Default)]
+struct Error {
+    offset: usize,
+    expected: u8,
+}
+
 unsafe extern "C" {
+    #[cfg(feature = "libpcap")]
+    fn wolfaren_parse_filter(
+        text: *const u8,
+        len: usize,
+        filter: *mut Filter,
+        error: *mut Error,
+    ) -> bool;
+
     fn wolfaren_filter_matches(filter: *const Filter, bytes: *const u8, len: usize) -> bool;
+}
+
+impl Filter {
+    #[cfg(feature = "libpcap")]
+    fn parse(text: &str) -> Filter {
+        let mut filter = Filter {
+            count: 0,
+            tests: [Test::default(); 64],
+        };
+        let mut error = Error::default();
+        // SAFETY: the pointers and the length are those of borrowed values.
+        let is_parsed = unsafe {
+            wolfaren_parse_filter(text.as_ptr(), text.len(), &raw mut filter, &raw mut error)
+        };
+        assert!(is_parsed, "the filter is parsed");
+        filter
+    }
+
+    #[inline(always)]
+    fn matches(&self, bytes: &[u8]) -> bool {
+        // SAFETY: the pointers and the length are those of borrowed values.
+        unsafe { wolfaren_filter_matches(self, bytes.as_ptr(), bytes.len()) }
+    }
 }
 
 /// Filters by `header 44`.
@@ -47,17 +91,14 @@ pub struct Header44;
 impl Digest for Header44 {
     #[inline(always)]
     fn digest(bytes: &[u8]) -> u64 {
-        // SAFETY: the pointers and the length are those of borrowed values.
-        u64::from(unsafe { wolfaren_filter_matches(&HEADER_44, bytes.as_ptr(), bytes.len()) })
+        u64::from(HEADER_44.matches(bytes))
     }
 }
 
 #[cfg(feature = "libpcap")]
 pub mod pcap {
-    use super::Digest;
-    use std::ffi::{c_char, c_int, c_void};
+    use std::ffi::{c_char, c_int, c_void, CStr};
     use std::ptr;
-    use std::sync::OnceLock;
 
     /// The link layer of packets that start with their IP header.
     const DLT_RAW: c_int = 12;
@@ -93,38 +134,30 @@ pub mod pcap {
         ) -> c_int;
     }
 
-    /// Filters by libpcap's `ip6 protochain 44`.
-    pub struct Protochain44;
-
-    struct Compiled(Program);
+    /// A compiled expression.
+    pub struct Compiled(Program);
 
     // SAFETY: nothing changes the program after it was compiled.
     unsafe impl Send for Compiled {}
     unsafe impl Sync for Compiled {}
 
-    /// Returns the compiled expression.
-    fn program() -> &'static Program {
-        static PROGRAM: OnceLock<Compiled> = OnceLock::new();
-        let compile = || {
+    impl Compiled {
+        pub fn new(text: &CStr) -> Compiled {
             let mut program = Program {
                 len: 0,
                 instructions: ptr::null_mut(),
             };
-            let text = c"ip6 protochain 44".as_ptr();
             // SAFETY: the handle and the program are valid, and the text ends with a 0 byte.
             let status = unsafe {
                 let handle = pcap_open_dead(DLT_RAW, 65_535);
-                pcap_compile(handle, &raw mut program, text, 1, 0)
+                pcap_compile(handle, &raw mut program, text.as_ptr(), 1, 0)
             };
             assert_eq!(status, 0, "libpcap compiles the expression");
             Compiled(program)
-        };
-        &PROGRAM.get_or_init(compile).0
-    }
+        }
 
-    impl Digest for Protochain44 {
         #[inline(always)]
-        fn digest(bytes: &[u8]) -> u64 {
+        pub fn matches(&self, bytes: &[u8]) -> bool {
             let len = bytes.len() as u32;
             let header = Header {
                 time: [0; 2],
@@ -132,7 +165,63 @@ pub mod pcap {
                 len,
             };
             // SAFETY: the program was compiled, and the header has the length of the bytes.
-            u64::from(unsafe { pcap_offline_filter(program(), &header, bytes.as_ptr()) != 0 })
+            unsafe { pcap_offline_filter(&raw const self.0, &header, bytes.as_ptr()) != 0 }
         }
     }
+}
+
+/// Filters by libpcap's `ip6 protochain 44`.
+#[cfg(feature = "libpcap")]
+pub struct Protochain44;
+
+#[cfg(feature = "libpcap")]
+impl Digest for Protochain44 {
+    #[inline(always)]
+    fn digest(bytes: &[u8]) -> u64 {
+        static PROGRAM: OnceLock<Compiled> = OnceLock::new();
+        u64::from(
+            PROGRAM
+                .get_or_init(|| Compiled::new(c"ip6 protochain 44"))
+                .matches(bytes),
+        )
+    }
+}
+
+/// Makes a module for each filter: `Ours` filters by its text, and `Libpcap` by libpcap's expression.
+#[cfg(feature = "libpcap")]
+macro_rules! filters {
+    ($($name:ident: $ours:literal, $theirs:literal;)*) => {
+        $(pub mod $name {
+            use super::{Compiled, Filter};
+            use crate::sums::Digest;
+            use std::sync::OnceLock;
+
+            pub struct Ours;
+
+            impl Digest for Ours {
+                #[inline(always)]
+                fn digest(bytes: &[u8]) -> u64 {
+                    static FILTER: OnceLock<Filter> = OnceLock::new();
+                    u64::from(FILTER.get_or_init(|| Filter::parse($ours)).matches(bytes))
+                }
+            }
+
+            pub struct Libpcap;
+
+            impl Digest for Libpcap {
+                #[inline(always)]
+                fn digest(bytes: &[u8]) -> u64 {
+                    static PROGRAM: OnceLock<Compiled> = OnceLock::new();
+                    u64::from(PROGRAM.get_or_init(|| Compiled::new($theirs)).matches(bytes))
+                }
+            }
+        })*
+    };
+}
+
+#[cfg(feature = "libpcap")]
+filters! {
+    net: "net 2000::/3", c"net 2000::/3";
+    hop_limit: "ttl < 65", c"ip6[7] < 65";
+    other_net: "src 2001:db8::/32 and tcp and port 443", c"src net 2001:db8::/32 and tcp and port 443";
 }

@@ -177,19 +177,7 @@ fn filters(seed: u64) -> Vec<Row> {
         "filter",
     );
     #[cfg(feature = "libpcap")]
-    let libpcap = {
-        let has_authentication = |packet: &[u8]| {
-            let packet = wolfaren::Dissection::from_slice(packet);
-            let found = packet.headers().any(|header| header.number().0 == 51);
-            found
-        };
-        let packets = whole[0].1.kept(|packet| !has_authentication(packet));
-        Form::against::<filter::Header44, filter::pcap::Protochain44>(
-            "C, header 44 against libpcap",
-            "filter",
-        )
-        .in_one_loop("IPv6", Sides::new(packets))
-    };
+    let libpcap = against_libpcap(&whole[0].1);
     let broken = inputs::broken(PACKETS, seed).map(|it| (it.what, Sides::new(it.packets)));
     let mut rows = Vec::new();
     for (what, packets) in whole.map(|(what, packets)| (what, Sides::new(packets))) {
@@ -198,7 +186,38 @@ fn filters(seed: u64) -> Vec<Row> {
     }
     rows.extend(broken.map(|(what, packets)| form.in_one_loop(what, packets)));
     #[cfg(feature = "libpcap")]
-    rows.push(libpcap);
+    rows.extend(libpcap);
+    rows
+}
+
+/// IPv6 packets filtered through C and by libpcap's expressions for the same packets.
+#[cfg(feature = "libpcap")]
+fn against_libpcap(packets: &inputs::Packets) -> Vec<Row> {
+    use filter::{hop_limit, net, other_net};
+    let has = |packet: &[u8], is_asked: fn(u8) -> bool| {
+        let packet = wolfaren::Dissection::from_slice(packet);
+        let found = packet.headers().any(|header| is_asked(header.number().0));
+        found
+    };
+    let unauthenticated = packets.kept(|packet| !has(packet, |number| number == 51));
+    let with_headers = Sides::new(packets.kept(|packet| has(packet, |_| true)));
+    let mixed = Sides::new(packets.kept(|_| true));
+    let protochain = Form::against::<filter::Header44, filter::Protochain44>(
+        "C, header 44 against libpcap",
+        "filter",
+    );
+    let mut rows = vec![protochain.in_one_loop("IPv6", Sides::new(unauthenticated))];
+    for form in [
+        Form::against::<net::Ours, net::Libpcap>("C, net against libpcap", "filter"),
+        Form::against::<hop_limit::Ours, hop_limit::Libpcap>("C, ttl against libpcap", "filter"),
+        Form::against::<other_net::Ours, other_net::Libpcap>(
+            "C, another net, tcp and a port against libpcap",
+            "filter",
+        ),
+    ] {
+        rows.push(form.in_one_loop("IPv6", mixed));
+        rows.push(form.in_one_loop("IPv6, 1 to 4 headers", with_headers));
+    }
     rows
 }
 

@@ -7,8 +7,6 @@ mod progress;
 mod reassembly;
 mod run;
 mod state;
-#[cfg(test)]
-mod tests;
 mod zero_laws;
 
 pub use err::AddError;

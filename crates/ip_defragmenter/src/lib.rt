@@ -8,8 +8,6 @@ mod err;
 mod fields;
 mod finder;
 mod fragment;
-#[cfg(test)]
-mod hash_tests;
 mod key;
 mod memory;
 mod outcome;
@@ -22,8 +20,6 @@ mod slot;
 mod slot_laws;
 mod slots;
 mod store;
-#[cfg(test)]
-mod tests;
 mod whole;
 mod zero_laws;
 

@@ -8,10 +8,6 @@ mod members;
 mod moves;
 mod table;
 mod table_laws;
-#[cfg(test)]
-mod table_tests;
-#[cfg(test)]
-mod tests;
 
 pub use links::Links;
 pub use list_laws::{each_head_has_one_list, lists_are_apart};

@@ -16,10 +16,6 @@ mod payload;
 mod place;
 mod removal;
 mod survey;
-#[cfg(test)]
-mod test_packets;
-#[cfg(test)]
-mod tests;
 mod which;
 mod write;
 

@@ -1,6 +1,6 @@
 //! Tests: packets whose fragments scapy made, and rows worked out by hand from RFC 791, RFC 5722, RFC 6946, RFC 7112 and
 //! RFC 8200.
-use crate::{
+use ip_defragmenter::{
     Added, Defragmenter, DefragmenterCounts, DropReason, FragmentError, FragmentKey, Loss,
     LossReason, Outcome, PacketMemory, Pending, Settings, Slot, SlotTable, StoreError, WholeError,
     defragment, write_packet,

@@ -1,6 +1,6 @@
 //! Tests: a plain program over the list of fragments, in all orders and at random, and rows worked out by hand from
 //! RFC 791, RFC 5722 and RFC 8200.
-use crate::{AddError, Progress, Reassembly};
+use ip_defrag::{AddError, Progress, Reassembly};
 use ip_base::IpFragOffset;
 use std::process::Abort;
 use std::test::Fail;

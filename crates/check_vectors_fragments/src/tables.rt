@@ -1,6 +1,6 @@
 //! Tests: tables of three places and two buckets, worked out by hand.
-use crate::tests::assert_links;
-use crate::{Links, Table, Taken};
+use crate::lists::assert_links;
+use ip_lists::{Links, Table, Taken};
 use std::process::Abort;
 
 /// Checks the places of a bucket.

@@ -1,5 +1,5 @@
 //! Tests: arrays and lists worked out by hand.
-use crate::Links;
+use ip_lists::Links;
 use std::process::Abort;
 
 /// Checks what the arrays have.

@@ -1,12 +1,12 @@
 //! Tests: packets that scapy made, before and after a change, and packets with headers in any order.
-use crate::test_packets::{
+use crate::packets::{
     ATOMIC, ATOMIC_COVERED, ATOMIC_SHORT, AUTHENTICATED, AUTHENTICATED_SHORT, AUTHENTICATION,
     CHAIN, CHAIN_ECHO, CHAIN_NO_DESTINATION, CHAIN_NO_OPTIONS, CHAIN_NO_ROUTING, COVERED,
     COVERED_ATOMIC, COVERED_NO_OPTIONS, DESTINATION, ECHO, FIRST, FIRST_COVERED, FIRST_NO_OPTIONS,
     FRAGMENT, JUMBOGRAM, JUMBOGRAM_OTHER, LATER, LATER_NO_OPTIONS, OPTIONS, PLAIN, ROUTING, TWICE,
     TWICE_NO_DESTINATION, UNAUTHENTICATED, UNAUTHENTICATED_SHORT,
 };
-use crate::{
+use ip_rewrite::{
     Authentication, RewriteError, Rewritten, Which, cleared, in_order, recommended_index,
     with_header, with_payload, without,
 };

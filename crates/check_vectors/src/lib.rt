@@ -9,6 +9,8 @@ mod base_headers;
 #[cfg(test)]
 mod checks;
 #[cfg(test)]
+mod digits;
+#[cfg(test)]
 mod full_heap;
 #[cfg(test)]
 mod header_slices;
@@ -22,3 +24,5 @@ mod long_chains;
 mod memory;
 #[cfg(test)]
 mod single_headers;
+#[cfg(test)]
+mod tool;

@@ -88,6 +88,3 @@ fn are_values(front: u8x16, back: u8x16) -> bool
     let larger = front.simd_max(back);
     larger.simd_ge(u8x16::splat(128)).to_bitmask() == 0
 }
-
-#[cfg(test)]
-mod tests;

@@ -142,6 +142,3 @@ fn advance<A: Allocator + Copy, R: Read, W: Write>(
     answered?;
     Ok(true)
 }
-
-#[cfg(test)]
-mod tests;

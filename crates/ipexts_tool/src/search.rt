@@ -62,6 +62,3 @@ fn places_in_block(text: &[u8], at: usize, byte: u8) -> u64
     let block = u8x16::from_slice(&text[at..]);
     block.simd_eq(u8x16::splat(byte)).to_bitmask()
 }
-
-#[cfg(test)]
-mod tests;

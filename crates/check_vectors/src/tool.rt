@@ -1,5 +1,5 @@
 //! Runs over memory, and over readers, writers and allocators that fail.
-use super::{ToolError, run};
+use ipexts_tool::{ToolError, run};
 use linked_list_allocator::LocalHeap;
 use std::alloc::{AllocError, Global};
 use std::io;
@@ -98,7 +98,7 @@ fn failed_with(ended: &Result<(), ToolError>, kind: ErrorKind) -> bool {
 }
 
 /// Returns the output of a run over these bytes.
-fn output_of(alloc: Global, mut input: &[u8]) -> Result<Vec<u8>, ToolError> {
+pub(crate) fn output_of(alloc: Global, mut input: &[u8]) -> Result<Vec<u8>, ToolError> {
     let mut output = Vec::new(alloc);
     run(alloc, &mut input, &mut output)?;
     Ok(output)

@@ -82,6 +82,7 @@ VERSION = 0.1.0
 
 TARGET = x86_64
 ARM64_CC = aarch64-linux-gnu-gcc
+ARM64_PROVED = crates/ipexts_c/out/libipexts_c.a.aarch64
 ARM64_AR = $(shell $(ARM64_CC) -print-prog-name=ar)
 
 # The shared libraries, whose names end in the checksums of their interfaces.
@@ -108,12 +109,14 @@ lib-aarch64:
 	scripts/prove ipexts_c
 	mkdir -p build/aarch64
 	rm -f build/aarch64/libwolfaren.so.*
+	scripts/built aarch64 $(ARM64_PROVED) || { \
 	built=crates/ipexts_c/out/libipexts_c.a; aside=$$built.x86_64; \
 	rm -f $$aside; [ ! -f $$built ] || mv $$built $$aside || exit 1; \
 	trap 'rm -f $$built; [ ! -f $$aside ] || mv $$aside $$built' EXIT; trap 'exit 1' HUP INT TERM; \
 	(cd crates/ipexts_c && rt lib --target aarch64-unknown-linux-gnu) >> build/prove.log 2>&1 || { \
 		echo "ipexts_c could not be built for ARM64; build/prove.log has the output of the tools" >&2; exit 1; }; \
-	$(MAKE) -s -C programs archive CC='$(ARM64_CC)' AR='$(ARM64_AR)' PROVED=../$$built OUT=../build/aarch64
+	mv $$built $(ARM64_PROVED) && scripts/built --note aarch64 $(ARM64_PROVED); }
+	$(MAKE) -s -C programs archive CC='$(ARM64_CC)' AR='$(ARM64_AR)' PROVED=../$(ARM64_PROVED) OUT=../build/aarch64
 	cp include/wolfaren.h build/aarch64/
 	$(MAKE) -C programs shared CC='$(ARM64_CC)' LIB=$(CURDIR)/build/aarch64 OUT=$(CURDIR)/build/aarch64
 

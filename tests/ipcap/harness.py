@@ -90,6 +90,8 @@ class Harness:
         if kind not in self.seen:
             self.seen.add(kind)
             self.pending.append((self.pool.submit(self.answer, self.checked, arguments, content, output), answer, arguments))
+        if output:
+            self.finish()
         return answer
 
     def measure(self, *arguments, output=None, timeout=300):
@@ -99,11 +101,15 @@ class Harness:
         errors, _, peak = found.stderr.decode().rpartition("peak ")
         return found.returncode, found.stdout, errors, int(peak) << 10
 
-    def settle(self):
+    def finish(self):
         """Waits for the runs under valgrind, and compares their results with those of the plain build."""
         for checked, answer, arguments in self.pending:
             self.equal(checked.result(), answer, "different result under valgrind of", arguments)
         self.pending = []
+
+    def settle(self):
+        """Ends a group."""
+        self.finish()
         self.seen = set()
 
     def stat(self, *arguments, content=b"", status=0):

@@ -117,25 +117,29 @@ static void take_interface(struct capture *capture)
     if (interface->link_layer) capture->blocks.has_interface = true;
 }
 
-/* Makes room for the last block in the head. Returns false if memory runs out. */
+/* Makes room for the last block in the head. Returns false if memory or the budget runs out. */
 static bool make_head_room(struct capture *capture)
 {
+    enum { STEP = 1 << 20 }; /* the first one is part of what every file has */
     struct capture_blocks *blocks = &capture->blocks;
-    size_t len = blocks->head_len + blocks->file.len;
+    const struct memory_source *memory = capture->memory;
+    size_t len = blocks->head_len + blocks->file.len, room = (len + STEP - 1) / STEP * STEP;
     if (len <= blocks->head_room) return true;
-    uint8_t *head = realloc(blocks->head, 2 * len);
+    if (memory && !memory->ask(memory->account, room - (blocks->head ? blocks->head_room : STEP)))
+        return fail(capture, "the blocks before the first packet can't be kept: " MEMORY_REFUSED);
+    uint8_t *head = realloc(blocks->head, room);
     if (!head) return fail(capture, "out of memory");
     blocks->head = head;
-    blocks->head_room = 2 * len;
+    blocks->head_room = room;
     return true;
 }
 
-/* Adds the last block to the head. Returns false if memory runs out. */
+/* Counts the last block as one of the head, and adds it if that is kept. Returns false if memory or the budget runs out. */
 static bool add_to_head(struct capture *capture)
 {
     struct capture_blocks *blocks = &capture->blocks;
-    if (!make_head_room(capture)) return false;
-    memcpy(blocks->head + blocks->head_len, blocks->file.block, blocks->file.len);
+    if (capture->keeps_head && !make_head_room(capture)) return false;
+    if (capture->keeps_head) memcpy(blocks->head + blocks->head_len, blocks->file.block, blocks->file.len);
     blocks->head_len += blocks->file.len;
     return true;
 }
@@ -196,9 +200,9 @@ static bool open_stream(struct capture *capture, FILE *stream)
     return false;
 }
 
-bool open_capture(struct capture *capture, const char *path, const struct memory_source *memory)
+bool open_capture(struct capture *capture, const char *path, const struct memory_source *memory, bool keeps_head)
 {
-    *capture = (struct capture){0};
+    *capture = (struct capture){.memory = memory, .keeps_head = keeps_head};
     capture->name = is_standard_stream(path) ? "standard input" : path;
     if (!wolfaren_cpu_is_supported()) return fail(capture, UNSUPPORTED_CPU);
     return open_stream(capture, open_source(&capture->source, path, memory));

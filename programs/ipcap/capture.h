@@ -32,7 +32,7 @@ struct capture_blocks {
     bool is_ahead;      /* the last block is a packet that wasn't read yet */
     bool has_begun;     /* the first packet was found, or there are too many blocks before it */
     bool has_interface; /* there is one with a supported link layer */
-    uint8_t *head;      /* the blocks before the first packet, except those that must not be copied */
+    uint8_t *head;      /* the blocks before the first packet, except those that must not be copied, or null if it isn't kept */
     size_t head_len;
     size_t head_room;   /* allocated for the head */
     int left_out[MOST_LEFT_OUT]; /* the link layers that aren't supported, one of libpcap's DLT_ values each */
@@ -46,6 +46,8 @@ struct capture {
     pcap_t *handle;   /* null for a pcapng file */
     const char *name; /* for messages */
     FILE *file;       /* the bytes of the source */
+    const struct memory_source *memory; /* for the head */
+    bool keeps_head;  /* of a pcapng file, for an output */
     struct capture_blocks blocks;
     int link_type;    /* one of libpcap's DLT_ values: of a pcapng file, that of the first supported interface */
     const struct link_layer *link_layer;
@@ -85,12 +87,12 @@ struct packet {
 };
 
 /*
- * Opens a file or standard input. Decompression asks `memory`, or takes what it needs if that is null. On failure, sets `error`
- * and returns false.
+ * Opens a file or standard input. An output with the blocks of a pcapng file needs its head, which is otherwise not kept.
+ * Decompression and the head ask `memory`, or take what they need if that is null. On failure, sets `error` and returns false.
  */
-bool open_capture(struct capture *capture, const char *path, const struct memory_source *memory);
+bool open_capture(struct capture *capture, const char *path, const struct memory_source *memory, bool keeps_head);
 
-/* Opens a file that is open already, as `open_capture` does. The name is for messages. */
+/* Opens a file that is open already, as `open_capture` does, but keeps no head. The name is for messages. */
 bool open_capture_of(struct capture *capture, int descriptor, const char *name, const struct memory_source *memory);
 
 /*

@@ -42,7 +42,7 @@ enum turn {
 static void count_packets(struct counted_file *file, const struct files *files, struct input *input, struct account *account,
                           enum turn turn)
 {
-    file->is_open = begin_input(input, file->path, account);
+    file->is_open = begin_input(input, file->path, account, false);
     if (turn == SIDE_BY_SIDE) input->capture.follow = NULL;
     if (turn == LAST_IN_TURN) confine(FILES_NONE);
     if (file->is_open) {

@@ -141,7 +141,7 @@ static bool defragment_file(const struct request *request, const char *path)
     set_budget(request->memory, memory_of_slots(request->slots, request->report));
     bool is_prepared = !request->keeps || prepare_again(&again, path);
     bool is_done = false;
-    if (is_prepared && open_input(&input, path)) {
+    if (is_prepared && open_input(&input, path, true)) {
         bool is_kept = !request->keeps || keep_file(&again, &input);
         is_done = is_kept && defragment_input(request, path, &input, &again);
         if (!is_kept) close_input(&input);

@@ -314,7 +314,7 @@ static bool filter_file(const struct request *request, struct target *target, co
 {
     struct input input;
     struct capture *capture = &input.capture;
-    if (!open_input(&input, path)) return false;
+    if (!open_input(&input, path, request->file_count == 1)) return false;
     if (!is_standard_stream(request->output)) allow_progress(&input);
     if (request->file_count > 1 && has_no_link_type(capture)) {
         target->has_empty = true;

@@ -104,7 +104,7 @@ static void begin_account(void *account, uint64_t most)
     open_account(account, most);
 }
 
-/* Asks an account for memory for decompression. */
+/* Asks an account for memory. */
 static bool ask(void *account, uint64_t bytes)
 {
     return ask_for_memory(account, bytes);
@@ -125,11 +125,11 @@ static void begin_reading(struct input *input)
     if (shows_progress()) allow_progress(input);
 }
 
-bool begin_input(struct input *input, const char *path, struct account *account)
+bool begin_input(struct input *input, const char *path, struct account *account, bool keeps_head)
 {
     set_account(input, account);
     look_at_file(input, path);
-    if (!open_capture(&input->capture, path, &input->memory)) return false;
+    if (!open_capture(&input->capture, path, &input->memory, keeps_head)) return false;
     input->capture.source.wait = wait_for_bytes;
     begin_reading(input);
     return true;
@@ -142,10 +142,10 @@ void end_input(struct input *input)
     end_stopping();
 }
 
-bool open_input(struct input *input, const char *path)
+bool open_input(struct input *input, const char *path, bool keeps_head)
 {
     *input = (struct input){0};
-    if (begin_input(input, path, &input->own)) return true;
+    if (begin_input(input, path, &input->own, keeps_head)) return true;
     close_account(&input->own);
     return report_error(&input->capture);
 }

@@ -16,7 +16,7 @@ struct input {
     struct timespec shown;  /* when the progress line was last updated */
     struct account own;     /* that of `open_input` */
     struct account *account; /* from which memory for the file is taken */
-    struct memory_source memory; /* that account for decompression */
+    struct memory_source memory; /* that account for the capture */
 };
 
 /* Returns the account of an input by its capture. */
@@ -39,18 +39,18 @@ void show_files_progress(struct files_progress *progress, size_t done, size_t co
 void clear_files_progress(struct files_progress *progress);
 
 /*
- * Opens a file or standard input, and the account. The input must be all zeros. On failure, sets the error of the capture and returns false.
- * Reports nothing.
+ * Opens a file or standard input, as `open_capture` does, and the account. The input must be all zeros. On failure, sets the error of
+ * the capture and returns false. Reports nothing.
  */
-bool begin_input(struct input *input, const char *path, struct account *account);
+bool begin_input(struct input *input, const char *path, struct account *account, bool keeps_head);
 
 /* Closes an input. Reports nothing. */
 void end_input(struct input *input);
 
-/* Opens a file or standard input, with an account of its own. On failure, reports why and returns false. */
-bool open_input(struct input *input, const char *path);
+/* Opens a file or standard input, as `open_capture` does, with an account of its own. On failure, reports why and returns false. */
+bool open_input(struct input *input, const char *path, bool keeps_head);
 
-/* Opens a file that is open already, as `open_input` does. It is read to its end: no signal is waited for. */
+/* Opens a file that is open already, as `open_input` does, but keeps no head. It is read to its end: no signal is waited for. */
 bool reopen_input(struct input *input, int descriptor, const char *name);
 
 /* Shows progress even if standard output is a terminal. For commands that write nothing to standard output. */

@@ -31,9 +31,9 @@ struct output {
 
 /*
  * Begins an output in the format of an open capture. Of a classic file, it has the link layer, the snap length and the
- * timestamp precision, with numbers in a pcapng file. Of a pcapng file, it has the blocks before the first packet, and later ones that aren't packets
- * are copied while the capture is read. On failure, sets `error` and returns false. The file is then closed, here or by
- * `end_output`, unless it is standard output.
+ * timestamp precision, with numbers in a pcapng file. Of a pcapng file, it has the head, which the capture must have kept, and later
+ * blocks that aren't packets are copied while the capture is read. On failure, sets `error` and returns false. The file is then
+ * closed, here or by `end_output`, unless it is standard output.
  */
 bool begin_output(struct output *output, struct capture *capture, FILE *file);
 

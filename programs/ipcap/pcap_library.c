@@ -50,7 +50,7 @@ static char *count_opened(struct counting *counting)
 EXPORTED char *wolfaren_pcap_count(const char *path, char error[WOLFAREN_PCAP_ERROR_ROOM])
 {
     struct counting *counting = malloc(sizeof *counting);
-    bool is_open = counting && open_capture(&counting->capture, path, NULL);
+    bool is_open = counting && open_capture(&counting->capture, path, NULL, false);
     char *json = is_open ? count_opened(counting) : NULL;
     bool is_memory_short = !counting || (is_open && !json);
     int system_error = is_memory_short ? 0 : counting->capture.system_error;

@@ -41,7 +41,7 @@ EXPORTED struct wolfaren_pcap_reader *wolfaren_pcap_open(const char *path, char 
         write_error(error, "out of memory", 0);
         return NULL;
     }
-    bool is_open = open_capture(&reader->capture, path, NULL);
+    bool is_open = open_capture(&reader->capture, path, NULL, false);
     write_error(error, reader->capture.error, reader->capture.system_error);
     if (is_open) return reader;
     int system_error = errno;
@@ -189,7 +189,7 @@ static int filter_input(const struct wolfaren_filter *condition, struct filterin
                         struct wolfaren_pcap_counts *counts, char error[WOLFAREN_PCAP_ERROR_ROOM])
 {
     struct capture *capture = &filtering->capture;
-    if (!open_capture(capture, input, NULL)) {
+    if (!open_capture(capture, input, NULL, true)) {
         write_error(error, capture->error, capture->system_error);
         return WOLFAREN_PCAP_INPUT_FAILED;
     }

@@ -72,7 +72,7 @@ static bool rewrite_file(const struct request *request, const char *path)
         .has_tunnels = request->has_tunnels,
     };
     set_budget(request->memory, 0);
-    if (!open_input(&input, path)) return false;
+    if (!open_input(&input, path, true)) return false;
     rewriter.account = account_of(&input.capture);
     if (!is_standard_stream(request->output)) allow_progress(&input);
     bool is_open = open_copy(&output, request->output, &input.capture, path, begin_output);

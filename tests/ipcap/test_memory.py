@@ -10,7 +10,7 @@ import subprocess
 import threading
 import time
 
-from blocks import interface, packet, section
+from blocks import block, interface, packet, section
 from captures import *
 from test_compression import formats
 from test_defrag import frame, ipv4_part, ipv6_part
@@ -209,6 +209,37 @@ def budget_of_headers(harness):
         status, output, errors, peak = harness.measure("rewrite", "--memory", "%dM" % memory, "--without", "60", path)
         harness.check(peak <= memory << 20, "rewrite", memory, peak >> 20)
         harness.equal((status, "out of memory" in errors), (1, True) if memory == 64 else (0, False), memory, errors)
+
+
+def budget_of_heads(harness):
+    """Blocks before the first packet of a pcapng file are kept only where they are copied, and have what is left."""
+    most = 16 << 20
+    start, end = section() + interface(), packet(ethernet(ipv4(17, UDP)))
+    large = block(0x0BAD, bytes(most - 12))
+    heads = [start + block(0x0BAD, bytes(most - 200)) + large, start + block(0x0BAD, bytes(65000)) * 258 + large]
+    files = [harness.file(gzip.compress(it + end, 1)) for it in heads]
+    words = "ipcap: %s: the blocks before the first packet can't be kept: more memory needed than the budget allows\n"
+    for memory, jobs in ((128, 4), (512, 20)):
+        path = harness.file(gzip.compress(heads[jobs == 4] + end + large + large, 1))
+        status, found, errors, peak = harness.measure("stat", "--json", "--memory", "%dM" % memory, "-j%d" % jobs, *[path] * 2 * jobs)
+        harness.equal((status, errors, json.loads(found)["packets"]), (0, "", 2 * jobs), "stat", jobs)
+        harness.check(peak <= memory << 20, "peak side by side", peak >> 20, jobs)
+    for path, head in zip(files, heads):
+        for command in (["stat", "--defrag"], ["show"], ["show", "--defrag"]):
+            status, _, errors, peak = harness.measure(*command, "--memory", "64M", path)
+            harness.check((status, errors) == (0, "") and peak <= 64 << 20, command, errors, peak >> 20)
+        for command, enough in ((["filter", "any"], 96), (["rewrite", "--clear"], 96), (["defrag"], 200), (["defrag", "--keep"], 200)):
+            refused = harness.measure(*command, "--memory", "64M", path)
+            harness.equal(refused[:3], (1, b"", words % path), command)
+            status, found, errors, peak = harness.measure(*command, "--memory", "%dM" % enough, path)
+            harness.check((status, errors) == (0, "") and found == head + end, command, status, errors)
+            harness.check(peak <= enough << 20 and refused[3] <= 64 << 20, command, peak >> 20, refused[3] >> 20)
+    harness.equal(harness.run("filter", "--memory", "64M", "any", "-w", "{}", files[0]), (1, b"", words % files[0], None), "no output")
+    found = harness.measure("filter", "--memory", "64M", "any", *files)
+    harness.check((found[0], found[2]) == (0, "") and len(found[1]) < 1000 and found[3] <= 64 << 20, "several files", found[2], found[3] >> 20)
+    small = start + block(0x0BAD, bytes(65000)) * 80 + large + end
+    found = harness.measure("filter", "--memory", "64M", "any", harness.file(gzip.compress(small, 1)))
+    harness.check((found[0], found[2]) == (0, "") and found[1] == small and found[3] <= 64 << 20, found[2], found[3] >> 20)
 
 
 def sizes(harness):

@@ -34,7 +34,7 @@ fn header_and_answer(alloc: Global, len: usize, seed: u32) -> Result<(Vec<u8>, V
 
 #[test]
 fn digits_of_all_lengths(rt: HostRuntime) -> Result<(), Fail> {
-    for seed in 0..30u32 {
+    for seed in 0..100u32 {
         for len in 8..81usize {
             let (line, answer) = header_and_answer(rt.alloc(), len, seed)?;
             let output = output_of(rt.alloc(), &line)?;

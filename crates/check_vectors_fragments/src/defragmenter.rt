@@ -1,12 +1,12 @@
 //! Tests: packets whose fragments scapy made, and rows worked out by hand from RFC 791, RFC 5722, RFC 6946, RFC 7112 and
 //! RFC 8200.
+use ip_base::{IpNumber, ip_number};
+use ip_defrag::AddError;
 use ip_defragmenter::{
     Added, Defragmenter, DefragmenterCounts, DropReason, FragmentError, FragmentKey, Loss,
     LossReason, Outcome, PacketMemory, Pending, Settings, Slot, SlotTable, StoreError, WholeError,
     defragment, write_packet,
 };
-use ip_base::{IpNumber, ip_number};
-use ip_defrag::AddError;
 use ip_lists::{Links, Table};
 use std::process::Abort;
 use std::test::Fail;

@@ -1,7 +1,7 @@
 //! Tests: a plain program over the list of fragments, in all orders and at random, and rows worked out by hand from
 //! RFC 791, RFC 5722 and RFC 8200.
-use ip_defrag::{AddError, Progress, Reassembly};
 use ip_base::IpFragOffset;
+use ip_defrag::{AddError, Progress, Reassembly};
 use std::process::Abort;
 use std::test::Fail;
 

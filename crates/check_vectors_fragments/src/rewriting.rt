@@ -6,11 +6,11 @@ use crate::packets::{
     FRAGMENT, JUMBOGRAM, JUMBOGRAM_OTHER, LATER, LATER_NO_OPTIONS, OPTIONS, PLAIN, ROUTING, TWICE,
     TWICE_NO_DESTINATION, UNAUTHENTICATED, UNAUTHENTICATED_SHORT,
 };
+use ip_base::{IpNumber, ip_number};
 use ip_rewrite::{
     Authentication, RewriteError, Rewritten, Which, cleared, in_order, recommended_index,
     with_header, with_payload, without,
 };
-use ip_base::{IpNumber, ip_number};
 use std::process::Abort;
 use std::test::Fail;
 

@@ -3,6 +3,8 @@
 # make test           compare the documented contracts, errors, terms and figures with the code and the recorded run, run
 #                     the merge gate, check the documents and the spelling, and test the program, the library, ipcap,
 #                     the packages and the page, and 20,000 comparisons with etherparse
+# make quick          run the checks that need no proof: documents, spelling, layout, and all test vectors with run-time
+#                     checks, in two or three minutes
 # make lib            build the static C library and its header in build/, which needs a C compiler (TARGET=aarch64: for
 #                     ARM64, with the compiler ARM64_CC=aarch64-linux-gnu-gcc, in build/aarch64/, with its shared library)
 # make programs       build the shared libraries and the programs ipexts and ipcap, which needs a C compiler and libpcap;
@@ -40,7 +42,7 @@
 #
 # The last eight and make test-c take CARGO_FLAGS="..", additional flags for Cargo, such as one that locates the crate
 # on a machine without network access.
-.PHONY: run try test lib lib-x86_64 lib-aarch64 programs portable wheel wheel-x86_64 wheel-aarch64 install install-lib install-pcap-lib uninstall dist deb test-c page test-page mutants memory bench bench-border cost diff diff-test diff-fields fuzz fuzz-test
+.PHONY: run try test quick lib lib-x86_64 lib-aarch64 programs portable wheel wheel-x86_64 wheel-aarch64 install install-lib install-pcap-lib uninstall dist deb test-c page test-page mutants memory bench bench-border cost diff diff-test diff-fields fuzz fuzz-test
 .SILENT:
 
 CC_IS_THERE = command -v $(firstword $(1)) >/dev/null || { \
@@ -77,6 +79,11 @@ test:
 	scripts/check-terms
 	bench/quote --check
 	scripts/gate
+
+quick:
+	$(RT_IS_THERE)
+	$(PYTHON_IS_THERE)
+	scripts/quick
 
 VERSION = 0.1.0
 

@@ -63,10 +63,11 @@ fn code(outcome: Result<Progress, AddError>) -> u8 {
 /// Adds a fragment of at most 1,280 bytes.
 fn add(reassembly: &mut Reassembly<'_>, piece: Piece) -> Result<u8, Fail> {
     let mut bytes = [0u8; 1280];
-    for (i, byte) in bytes.iter_mut().enumerate() {
+    let len = usize::from(piece.len);
+    for (i, byte) in bytes.iter_mut().take(len).enumerate() {
         *byte = byte_at(start(piece).saturating_add(i), piece.other);
     }
-    let bytes = bytes.get(..usize::from(piece.len)).ok_or("the length")?;
+    let bytes = bytes.get(..len).ok_or("the length")?;
     let offset = IpFragOffset::try_new(piece.offset)?;
     Ok(code(reassembly.add(offset, piece.more, bytes)))
 }

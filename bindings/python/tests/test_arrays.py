@@ -102,9 +102,14 @@ class AsSingleCalls(unittest.TestCase):
             one, two, three = columns[name].tolist()
             self.assertEqual(numpy.diff(columns[name]).tolist(), [two - one, three - two], name)
         self.assertEqual(numpy.diff(columns["payload_offset"]).tolist(), [16, -8])
-        array = dissect_many(*joined([ipv6(44, fragment(17, 0, 1, it) + UDP) for it in [7, 5]]))
-        self.assertEqual(numpy.diff(array["identification"].astype("i8")).tolist(), [-2])
-        self.assertIn('`array["identification"].astype("i8")`', inspect.getdoc(dissect_many))
+        array = dissect_many(*joined([ipv6(44, fragment(17, 0, 1, it) + UDP) for it in [7, 0xffffffff, 5]]))
+        self.assertEqual(numpy.diff(array["identification"]).tolist(), [0xffffffff - 7, 5 - 0xffffffff])
+
+    def test_signs(self):
+        """No column is unsigned."""
+        kinds = dissect_many(b"", [], []).dtype
+        numbers = [kinds["fault"][it] for it in kinds["fault"].names] + [kinds[it] for it in kinds.names if it != "fault"]
+        self.assertEqual({it.kind for it in numbers}, {"i"})
 
     def test_random_packets(self):
         for seed, gap in [(1, b""), (2, b"\x60\x00\x00")]:

@@ -10,8 +10,8 @@ from ._optional import import_for
 _FORMATS = {"size_t": "u8", "uint64_t": "u8", "int64_t": "i8", "uint32_t": "u4", "int32_t": "i4", "uint16_t": "u2",
             "uint8_t": "u1", "_Bool": "?"}
 
-# The only number of a dissection that may be above those of the signed type of its length, and so stays unsigned.
-_UNSIGNED = "identification"
+# The only number of a dissection that may be above those of the signed type of its length.
+_WIDE = "identification"
 
 # How many packets are passed to the library at a time. In between, Python runs the handlers of signals.
 _TOGETHER = 1 << 11
@@ -38,10 +38,20 @@ def dtype_of(numpy: Any, kind: Any) -> Any:
     """Returns numpy's type of a C struct."""
     names, fields = zip(*kind.fields)
     formats = [dtype_of(numpy, it.type) if it.type.kind == "struct" else _FORMATS[it.type.cname] for it in fields]
-    if kind.cname in ("struct wolfaren_dissection", "struct wolfaren_fault"):
-        formats = [it if name == _UNSIGNED or not isinstance(it, str) else it.replace("u", "i") for name, it in zip(names, formats)]
     return numpy.dtype({"names": names, "formats": formats, "offsets": [it.offset for it in fields],
                         "itemsize": ffi.sizeof(kind)})
+
+
+def signed(numpy: Any, kind: Any) -> Any:
+    """Returns numpy's type of a C struct whose numbers have signs. The one that needs 64 bits for that comes after the struct."""
+    size, formats, offsets = kind.itemsize, [], []
+    for name in kind.names:
+        field, offset = kind.fields[name]
+        is_wide = name == _WIDE
+        formats.append("i8" if is_wide else signed(numpy, field) if field.names else field.str.replace("u", "i"))
+        offsets.append(size if is_wide else offset)
+    return numpy.dtype({"names": kind.names, "formats": formats, "offsets": offsets,
+                        "itemsize": size + 8 * (_WIDE in kind.names)})
 
 
 class Packets:
@@ -90,8 +100,7 @@ def dissect_many(buffer: Buffer, offsets: Any, lengths: Any) -> Any:
 
     Packet i has the `lengths[i]` bytes of the buffer from `offsets[i]` on. Both are one-dimensional arrays or sequences of
     integers. Packets may overlap. Returns a numpy array with an element for each packet, in order, whose fields are the
-    columns. Their types are signed, so that differences are right, except that of `identification`: the array is one of the
-    library's structs, in which it has 32 bits without a sign. `array["identification"].astype("i8")` is signed.
+    columns. Their types are signed, so that differences are right.
 
         base_len                i8   the length of the IP header in bytes, or 0 if there is none
         stated_len              i8   the packet's length in bytes as the IP header states it, or 0 if it states none
@@ -108,7 +117,7 @@ def dissect_many(buffer: Buffer, offsets: Any, lengths: Any) -> Any:
         fault.layer             i1   the layer that needs the bytes, a `Layer`
         fault.len_source        i1   where `fault.len` comes from, a `LenSource`
         fault.value             i4   the invalid version or internet header length
-        identification          u4   a number that all fragments of a packet share, or 0
+        identification          i8   a number that all fragments of a packet share, or 0
         fragment_offset         i4   where the fragment lies in the payload, in bytes
         version                 i2   4 or 6, or 0 if there is no IP header
         payload_number          i2   the protocol number of what follows the headers
@@ -124,7 +133,19 @@ def dissect_many(buffer: Buffer, offsets: Any, lengths: Any) -> Any:
     `ImportError` if numpy isn't installed. Python's other threads run meanwhile; none may write to the buffer.
     """
     packets = Packets("wolfaren.dissect_many", buffer, offsets, lengths)
-    kind = ffi.typeof("struct wolfaren_dissection")
-    parts = packets.numpy.empty(packets.count, dtype_of(packets.numpy, kind))
-    packets.pass_to(lib.wolfaren_dissect_packets, array=ffi.from_buffer("struct wolfaren_dissection[]", parts))
+    numpy = packets.numpy
+    kind = dtype_of(numpy, ffi.typeof("struct wolfaren_dissection"))
+    parts = numpy.empty(packets.count, signed(numpy, kind))
+    structs = numpy.empty(min(packets.count, _TOGETHER), kind)
+    for start in range(0, packets.count, _TOGETHER):
+        some = parts[start:start + _TOGETHER]
+        filled = structs[:len(some)]
+        packets.pass_to(lib.wolfaren_dissect_packets, array=ffi.from_buffer("struct wolfaren_dissection[]", filled), start=start)
+        _rows(numpy, some)[:, :kind.itemsize] = _rows(numpy, filled)
+        some[_WIDE] = filled[_WIDE]
     return parts
+
+
+def _rows(numpy: Any, structs: Any) -> Any:
+    """Returns the bytes of each struct of an array, as a row."""
+    return structs.view(numpy.uint8).reshape(len(structs), structs.itemsize)

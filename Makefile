@@ -41,7 +41,8 @@
 # make fuzz-test      test that comparison
 #
 # The last eight and make test-c take CARGO_FLAGS="..", additional flags for Cargo, such as one that locates the crate
-# on a machine without network access.
+# on a machine without network access. So does make test, or ETHERPARSE=.., a program that makes a package of the crate in the
+# folder that it is given, and prints those flags.
 .PHONY: run try test quick lib lib-x86_64 lib-aarch64 programs portable wheel wheel-x86_64 wheel-aarch64 install install-lib install-pcap-lib uninstall dist deb test-c page test-page mutants memory bench bench-border cost diff diff-test diff-fields fuzz fuzz-test
 .SILENT:
 

@@ -24,6 +24,8 @@
 # make deb            make Debian packages of libraries, headers, programs and Python package, in build/
 #                     (MAINTAINER='NAME <ADDRESS>')
 # make test-c         test the library, ipcap, and the packages in bindings/rust and bindings/python
+# make docs           write pages in build/docs/: the documents, each crate's calls with their contracts, the definitions, and,
+#                     where doxygen, Cargo and sphinx are there, the C interface and the packages. Needs Python's markdown
 # make page           build the files that page/index.html needs
 # make test-page      test that page in Chromium
 # make mutants        try the mutants in tests/mutants/ (CRATE='NAME ..': only these crates; ONLY=WORD: only those whose
@@ -43,7 +45,7 @@
 # The last eight and make test-c take CARGO_FLAGS="..", additional flags for Cargo, such as one that locates the crate
 # on a machine without network access. So does make test, or ETHERPARSE=.., a program that makes a package of the crate in the
 # folder that it is given, and prints those flags.
-.PHONY: run try test quick lib lib-x86_64 lib-aarch64 programs portable wheel wheel-x86_64 wheel-aarch64 install install-lib install-pcap-lib uninstall dist deb test-c page test-page mutants memory bench bench-border cost diff diff-test diff-fields fuzz fuzz-test
+.PHONY: run try test quick lib lib-x86_64 lib-aarch64 programs portable wheel wheel-x86_64 wheel-aarch64 install install-lib install-pcap-lib uninstall dist deb test-c docs page test-page mutants memory bench bench-border cost diff diff-test diff-fields fuzz fuzz-test
 .SILENT:
 
 CC_IS_THERE = command -v $(firstword $(1)) >/dev/null || { \
@@ -224,6 +226,13 @@ test-c: programs
 	tests/ipcap/run build build
 	scripts/test-python
 	cd bindings/rust && WOLFAREN_LIB_DIR=$(CURDIR)/build cargo test --quiet $$CARGO_FLAGS
+
+# Python with the package markdown, which may be Debian's and not the first on the PATH
+docs:
+	$(PYTHON_IS_THERE)
+	for python in python3 /usr/bin/python3; do \
+		! $$python -c 'import markdown' 2>/dev/null || exec $$python scripts/docs; done; \
+	echo "Python's package markdown is missing (Debian: python3-markdown)." >&2; exit 1
 
 page:
 	$(RT_IS_THERE)

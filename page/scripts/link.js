@@ -1,4 +1,4 @@
-// Finds the IP packet in a frame, as programs/ipcap/link_layer.c does: skips headers one after another, each of which says
+// Finds the IP packet in a frame, as programs/ipcap/capture/link_layer.c does: skips headers one after another, each of which says
 // what follows it. The formats are described at tcpdump.org/linktypes.html.
 "use strict";
 Wolfaren.link = (function () {

@@ -1,4 +1,4 @@
-// The only global variable, and the names of numbers: those of `ipcap` (programs/ipcap/names.c), and in sentences those of
+// The only global variable, and the names of numbers: those of `ipcap` (programs/ipcap/packets/names.c), and in sentences those of
 // the Python package.
 "use strict";
 var Wolfaren = {};

@@ -9,11 +9,11 @@
 #include <string.h>
 #include <unistd.h>
 
-#include "capture.h"
-#include "commands.h"
-#include "options.h"
-#include "report.h"
-#include "stop.h"
+#include "capture/capture.h"
+#include "commands/commands.h"
+#include "commands/options.h"
+#include "commands/report.h"
+#include "commands/stop.h"
 #include "wolfaren.h"
 
 static const char usage[] =

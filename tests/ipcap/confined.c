@@ -2,7 +2,7 @@
  * confined HOW FILE: gives up what ipcap gives up, and prints which calls of the system still succeed. HOW is `none` if no file is
  * needed, `reading` if files are read, and `both` for the one after the other.
  */
-#include "confine.h"
+#include "commands/confine.h"
 
 #include <errno.h>
 #include <fcntl.h>

@@ -6,7 +6,7 @@
 #include <stdlib.h>
 #include <string.h>
 
-#include "link_layer.h"
+#include "capture/link_layer.h"
 
 enum { MAX_FRAME = 4096 };
 

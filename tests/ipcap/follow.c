@@ -6,10 +6,10 @@
 #include <stdlib.h>
 #include <string.h>
 
-#include "chain_key.h"
-#include "parts.h"
-#include "protocol_key.h"
-#include "tunnel.h"
+#include "capture/tunnel.h"
+#include "counts/chain_key.h"
+#include "counts/protocol_key.h"
+#include "packets/parts.h"
 
 enum { MAX_PACKET = 1 << 16 };
 

@@ -1,0 +1,34 @@
+/* What is left of a frame or of a payload while headers are skipped. */
+#ifndef IPCAP_REST_H
+#define IPCAP_REST_H
+
+#include <stdbool.h>
+#include <stddef.h>
+#include <stdint.h>
+
+#include "capture/link_layer.h"
+
+struct rest {
+    const uint8_t *bytes;
+    size_t len;
+    struct protocol protocol; /* the last number that says what is left */
+    unsigned tags;            /* number of VLAN tags that were skipped */
+    uint32_t vlans;           /* the identifiers of the first two, 12 bits each, that of the first one above */
+};
+
+/* Skips `count` bytes, unless there are fewer. */
+static inline bool skip(struct rest *rest, size_t count)
+{
+    if (rest->len < count) return false;
+    rest->bytes += count;
+    rest->len -= count;
+    return true;
+}
+
+/* Returns the number in two bytes, the most significant of which is the first. */
+static inline unsigned number_at(const uint8_t *bytes)
+{
+    return (unsigned)bytes[0] << 8 | bytes[1];
+}
+
+#endif

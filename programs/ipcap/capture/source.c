@@ -1,0 +1,256 @@
+/* for `fopencookie`, which the GNU C library and musl have */
+#define _GNU_SOURCE
+
+#include "capture/source.h"
+
+#include <errno.h>
+#include <fcntl.h>
+#include <stdarg.h>
+#include <stdlib.h>
+#include <string.h>
+#include <sys/stat.h>
+#include <unistd.h>
+
+/* What is asked after a signal, or null. */
+static bool (*is_waiting_stopped)(void);
+
+void stop_waiting_if(bool (*is_stopped)(void))
+{
+    is_waiting_stopped = is_stopped;
+}
+
+/* Whether a call that failed is made again: a signal's handler has run, and doesn't stop the waiting. Keeps `errno`. */
+static bool is_made_again(void)
+{
+    if (errno != EINTR) return false;
+    bool is_stopped = is_waiting_stopped && is_waiting_stopped();
+    errno = EINTR;
+    return !is_stopped;
+}
+
+/* Where the bytes that are read are also written, or -1. */
+static int bytes_copy = -1;
+
+void copy_bytes_to(int descriptor)
+{
+    bytes_copy = descriptor;
+}
+
+/* At most this many bytes are decompressed at once. Libraries count some lengths in 32 bits. */
+enum { MOST_AT_ONCE = 1 << 24 };
+
+bool is_standard_stream(const char *path)
+{
+    return !path || strcmp(path, "-") == 0;
+}
+
+/* Sets the text of the error, formatted as by printf, and returns -1. */
+__attribute__((format(printf, 2, 3))) static ssize_t fail(struct source *source, const char *format, ...)
+{
+    va_list arguments;
+    va_start(arguments, format);
+    vsnprintf(source->error, sizeof source->error, format, arguments);
+    va_end(arguments);
+    return -1;
+}
+
+/* Sets the error to that of the system, which is in `errno`, and returns -1. */
+static ssize_t fail_as_system(struct source *source)
+{
+    source->system_error = errno;
+    return fail(source, "%s", errno ? strerror(errno) : "read error");
+}
+
+/* Writes bytes that were read to the copy, if there is one. Returns false on failure. */
+static bool write_copy(struct source *source, const uint8_t *bytes, size_t len)
+{
+    while (bytes_copy >= 0 && len > 0) {
+        ssize_t count = write(bytes_copy, bytes, len);
+        if (count < 0 && errno == EINTR) continue;
+        if (count <= 0) {
+            source->system_error = errno;
+            fail(source, "temporary file: %s", strerror(errno));
+            return false;
+        }
+        bytes += count;
+        len -= (size_t)count;
+    }
+    return true;
+}
+
+/* Reads bytes of the file, as many as have arrived. Returns their number, 0 at the end of the file, or -1. */
+static ssize_t read_file(struct source *source, void *bytes, size_t len)
+{
+    ssize_t count;
+    if (source->wait && !source->wait(source->descriptor)) return fail(source, "interrupted");
+    do
+        count = read(source->descriptor, bytes, len);
+    while (count < 0 && is_made_again());
+    if (count < 0) return fail_as_system(source);
+    if (!write_copy(source, bytes, (size_t)count)) return -1;
+    source->is_ended = count == 0;
+    source->position += (uint64_t)count;
+    return count;
+}
+
+/* Reads more bytes of the file after those in the buffer. Returns false on failure. */
+static bool fill(struct source *source)
+{
+    ssize_t count = read_file(source, source->bytes + source->end, sizeof source->bytes - source->end);
+    if (count > 0) source->end += (size_t)count;
+    return count >= 0;
+}
+
+/* Copies bytes of the file as they are. Returns their number, 0 at the end, or -1. */
+static ssize_t copy(struct source *source, char *bytes, size_t len)
+{
+    size_t count = source->end - source->start;
+    if (count == 0) return read_file(source, bytes, len);
+    if (count > len) count = len;
+    memcpy(bytes, source->bytes + source->start, count);
+    source->start += count;
+    return (ssize_t)count;
+}
+
+/* Sets the error of a step that failed, or that could do nothing with the rest of a file. */
+static void fail_step(struct source *source, enum step step, const struct chunk *chunk)
+{
+    const char *name = source->compression->name;
+    if (step != STEP_FAILED)
+        fail(source, "%s data is truncated", name);
+    else if (chunk->error)
+        fail(source, "%s data can't be decompressed: %s", name, chunk->error);
+    else
+        fail(source, "out of memory");
+}
+
+/* Decompresses bytes in the buffer. Returns the number of bytes written, also before an error, or else -1. */
+static ssize_t decompress(struct source *source, char *bytes, size_t len)
+{
+    struct chunk chunk = {source->bytes + source->start, source->end - source->start, source->is_ended,
+                          (uint8_t *)bytes, len, NULL};
+    enum step step = source->compression->decode(source->decoder, &chunk);
+    size_t consumed = source->end - source->start - chunk.in_len;
+    bool is_stuck = step == STEP_DONE && consumed == 0 && chunk.out_len == len;
+    source->start += consumed;
+    source->is_complete = step == STEP_ENDED;
+    if (step == STEP_FAILED || (is_stuck && source->is_ended)) fail_step(source, step, &chunk);
+    return *source->error && chunk.out_len == len ? -1 : (ssize_t)(len - chunk.out_len);
+}
+
+/* Whether the last stream is complete and nothing follows it. */
+static bool is_at_end(const struct source *source)
+{
+    return source->is_complete && source->is_ended && source->start == source->end;
+}
+
+/* Returns the number of bytes decompressed, 0 at the end, or -1. */
+static ssize_t read_compressed(struct source *source, char *bytes, size_t len)
+{
+    ssize_t count = 0;
+    if (len > MOST_AT_ONCE) len = MOST_AT_ONCE;
+    while (count == 0 && len > 0 && !is_at_end(source)) {
+        if (source->start == source->end && !source->is_ended) {
+            source->start = source->end = 0;
+            if (!fill(source)) return -1;
+        }
+        if (!is_at_end(source)) count = decompress(source, bytes, len);
+    }
+    return count;
+}
+
+/* Reads for the stream. After an error, every further call fails. */
+static ssize_t read_source(void *cookie, char *bytes, size_t len)
+{
+    struct source *source = cookie;
+    if (*source->error) return -1;
+    return source->compression ? read_compressed(source, bytes, len) : copy(source, bytes, len);
+}
+
+static int close_source(void *cookie)
+{
+    struct source *source = cookie;
+    if (source->decoder) source->compression->end(source->decoder);
+    return source->descriptor == STDIN_FILENO ? 0 : close(source->descriptor);
+}
+
+bool is_live(const struct source *source)
+{
+    struct stat status;
+    return fstat(source->descriptor, &status) != 0 || !S_ISREG(status.st_mode);
+}
+
+/* Determines whether the file is compressed, and makes the decoder. Returns false on failure. */
+static bool begin(struct source *source, const struct memory_source *memory)
+{
+    while (source->end < COMPRESSION_MAGIC && !source->is_ended)
+        if (!fill(source)) return false;
+    source->compression = find_compression(source->bytes, source->end);
+    if (memory) memory->begin(memory->account, source->compression ? source->compression->most_memory : 0);
+    if (!source->compression) return true;
+    if (!source->compression->version) {
+        fail(source, "%s data can't be decompressed: this ipcap was built without %s", source->compression->name,
+             source->compression->library);
+        return false;
+    }
+    source->decoder = source->compression->begin(memory);
+    if (!source->decoder) fail(source, "out of memory");
+    return source->decoder;
+}
+
+/* Whether the first bytes of a file that isn't compressed can be read again. If so, that comes next. */
+static bool rewind_file(struct source *source)
+{
+    if (source->compression || is_live(source)) return false;
+    if (lseek(source->descriptor, -(off_t)source->end, SEEK_CUR) < 0) return false;
+    source->start = source->end = 0;
+    return true;
+}
+
+/* Opens a stream that reads the file itself, which takes less time, or if it can't, one that calls `read_source`. */
+static FILE *open_stream(struct source *source)
+{
+    static const cookie_io_functions_t functions = {.read = read_source, .close = close_source};
+    source->is_plain = rewind_file(source);
+    if (!source->is_plain) return fopencookie(source, "r", functions);
+    bool is_input = source->descriptor == STDIN_FILENO;
+    int descriptor = is_input ? dup(STDIN_FILENO) : source->descriptor;
+    FILE *stream = fdopen(descriptor, "rb");
+    if (!stream && is_input && descriptor >= 0) close(descriptor);
+    return stream;
+}
+
+/* Opens a file, which waits for a writer if the file is a pipe. Returns its descriptor, or -1 on failure. */
+static int open_file(const char *path)
+{
+    int descriptor;
+    do
+        descriptor = open(path, O_RDONLY | O_CLOEXEC);
+    while (descriptor < 0 && is_made_again());
+    return descriptor;
+}
+
+FILE *open_source(struct source *source, const char *path, const struct memory_source *memory)
+{
+    int descriptor = is_standard_stream(path) ? STDIN_FILENO : open_file(path);
+    if (descriptor >= 0) return open_descriptor(source, descriptor, memory);
+    *source = (struct source){.descriptor = descriptor};
+    fail_as_system(source);
+    return NULL;
+}
+
+FILE *open_descriptor(struct source *source, int descriptor, const struct memory_source *memory)
+{
+    *source = (struct source){.descriptor = descriptor};
+    FILE *stream = begin(source, memory) ? open_stream(source) : NULL;
+    if (!stream && !*source->error) fail(source, "out of memory");
+    if (!stream) close_source(source);
+    return stream;
+}
+
+uint64_t source_position(const struct source *source, FILE *stream)
+{
+    if (!source->is_plain) return source->position;
+    off_t position = ftello(stream);
+    return position < 0 ? 0 : (uint64_t)position;
+}

@@ -1,0 +1,321 @@
+#include "conditions/condition.h"
+
+#include <netdb.h>
+#include <netinet/in.h>
+#include <stdio.h>
+#include <stdlib.h>
+#include <string.h>
+
+#include "commands/arguments.h"
+#include "commands/report.h"
+#include "conditions/network.h"
+#include "conditions/ranges.h"
+#include "conditions/words.h"
+#include "output/text.h"
+
+/* The arguments, joined with spaces. */
+struct text {
+    char *bytes;
+    size_t *ends; /* where each argument ends */
+    int count;
+    size_t *origins; /* where each byte comes from, or the byte that it stands for; null for the arguments themselves */
+    const char *stand_in; /* what stands for a term of this program: a term of the library's with a number */
+};
+
+static void free_text(struct text *text)
+{
+    free(text->bytes);
+    free(text->ends);
+    free(text->origins);
+}
+
+/* Whether the text has what it needs. If memory ran out, frees the rest. */
+static bool has_memory(struct text *text, bool needs_origins)
+{
+    if (text->bytes && text->ends && (text->origins || !needs_origins)) return true;
+    free_text(text);
+    return false;
+}
+
+/* Joins the arguments. Returns false if memory runs out. */
+static bool join(struct text *text, int count, char *const *arguments)
+{
+    size_t len = 0;
+    for (int i = 0; i < count; i++) len += strlen(arguments[i]) + 1;
+    *text = (struct text){calloc(len, 1), calloc((unsigned)count, sizeof *text->ends), count, NULL, NULL};
+    if (!has_memory(text, false)) return false;
+    char *end = text->bytes;
+    for (int i = 0; i < count; i++) {
+        size_t size = strlen(arguments[i]);
+        memcpy(end, arguments[i], size);
+        end += size;
+        text->ends[i] = (size_t)(end - text->bytes);
+        *end++ = ' ';
+    }
+    return true;
+}
+
+/* How many digits a port has at most. */
+enum { PORT_DIGITS = 5 };
+
+/* Writes the port of the service with this name. Returns the number of digits, or 0 if there is no such service. */
+static size_t write_port(const char *word, size_t len, char digits[PORT_DIGITS + 1])
+{
+    char name[64];
+    if (len >= sizeof name) return 0;
+    memcpy(name, word, len);
+    name[len] = '\0';
+    const struct servent *service = getservbyname(name, NULL);
+    return service ? (size_t)snprintf(digits, PORT_DIGITS + 1, "%d", ntohs((uint16_t)service->s_port)) : 0;
+}
+
+/* The term that every packet meets, and what it stands for. */
+static const char any[] = "any", any_packet[] = "(ip or not ip)";
+
+/* Appends bytes to a text. They come from the byte at `origin` and those after it, or all stand for it. */
+static void append(struct text *text, size_t *len, const char *bytes, size_t count, size_t origin, bool is_copied)
+{
+    memcpy(text->bytes + *len, bytes, count);
+    for (size_t i = 0; i < count; i++) text->origins[(*len)++] = origin + (is_copied ? i : 0);
+}
+
+/* Copies a word, or if `is_port` is set the port of the service that it names. For `==`, writes `=`. */
+static void copy_word(struct text *text, size_t *len, const char *word, size_t size, size_t origin, bool is_port)
+{
+    char digits[PORT_DIGITS + 1];
+    size_t port = is_port ? write_port(word, size, digits) : 0;
+    if (is_word(word, size, "==")) size = 1;
+    append(text, len, port ? digits : word, port ? port : size, origin, port == 0);
+}
+
+/* Copies the words of the arguments, except those that the library's filters don't know. */
+static void copy_words(struct text *text, const struct text *arguments)
+{
+    size_t end = arguments->ends[arguments->count - 1], len = 0;
+    int argument = 0;
+    bool is_port = false;
+    for (size_t at = 0, size; at < end; at += size) {
+        const char *word = arguments->bytes + at;
+        while (arguments->ends[argument] <= at) text->ends[argument++] = len;
+        size = word_len(word, end - at);
+        if (is_own_term(word, size)) append(text, &len, text->stand_in, strlen(text->stand_in), at, false);
+        else if (is_word(word, size, any)) append(text, &len, any_packet, strlen(any_packet), at, false);
+        else copy_word(text, &len, word, size, at, is_port);
+        if (!is_space(*word)) is_port = is_word(word, size, "port");
+    }
+    while (argument < text->count) text->ends[argument++] = len;
+    text->origins[len] = end;
+}
+
+/* Makes a text for the library's filters, with `stand_in` for each term of this program. Returns false if memory runs out. */
+static bool replace_words(struct text *text, const struct text *arguments, const char *stand_in)
+{
+    size_t len = arguments->ends[arguments->count - 1] + 1, count = (size_t)arguments->count;
+    *text = (struct text){calloc(len, PORT_DIGITS), calloc(count, sizeof *text->ends), arguments->count,
+                          calloc(len, PORT_DIGITS * sizeof *text->origins), stand_in};
+    if (!has_memory(text, true)) return false;
+    copy_words(text, arguments);
+    return true;
+}
+
+/* Writes the condition, and a caret below the byte at an offset. */
+static void show_place(const struct text *text, size_t offset)
+{
+    fputs("  ", stderr);
+    size_t columns = write_columns(stderr, text->bytes, text->ends[text->count - 1], offset);
+    fprintf(stderr, "\n  %*s^\n", (int)columns, "");
+}
+
+/* How long the name of an extension header is at most. */
+enum { MOST_HEADER = 32 };
+
+/* The number of ESP. */
+enum { ESP = 50 };
+
+/* Words of libpcap's expressions, and what is written instead of them. */
+static const struct {
+    const char *word;
+    const char *ours;
+} libpcap_words[] = {
+    {"less", "length <= N"},
+    {"greater", "length >= N"},
+    {"len", "length"},
+    {"portrange", "port A-B"},
+    {"proto", "leads-to PROTOCOL"},
+    {"protochain", "header N, or leads-to N"},
+    {"tcp[tcpflags]", "tcp-flags FLAGS"},
+    {"icmp[icmptype]", "icmp-type TYPE"},
+    {"icmp[icmpcode]", "icmp-code N"},
+    {"icmp6[icmp6type]", "icmp6-type TYPE"},
+    {"icmp6[icmp6code]", "icmp6-code N"},
+};
+
+/* Says what is written instead of libpcap's `proto` if the word after it is an extension header. Returns whether it is. */
+static bool show_header(const char *word, size_t size, size_t left)
+{
+    char name[MOST_HEADER];
+    uint64_t headers = 0;
+    while (size < left && is_space(word[size])) size++;
+    size_t len = size < left ? word_len(word + size, left - size) : 0;
+    if (len == 0 || len >= sizeof name) return false;
+    memcpy(name, word + size, len);
+    name[len] = '\0';
+    if (!read_header_argument(name, &headers)) return false;
+    fprintf(stderr, "  for libpcap's `proto %s`, write `header %s`\n", name, name);
+    return true;
+}
+
+/* Says what is written instead of `header` and a word, if that is a protocol, but no extension header of a packet. */
+static void show_protocol(const char *word, size_t size)
+{
+    char text[MOST_HEADER + sizeof "leads-to "];
+    struct wolfaren_filter filter;
+    struct wolfaren_filter_error error;
+    if (size == 0 || size >= MOST_HEADER) return;
+    int len = snprintf(text, sizeof text, "leads-to %.*s", (int)size, word);
+    if (!wolfaren_parse_filter(text, (size_t)len, &filter, &error)) return;
+    bool is_esp = filter.tests[0].number == ESP;
+    fprintf(stderr, "  `header` asks for an extension header; for %.*s, write `%s`\n", (int)size, word,
+            is_esp ? "esp" : text);
+}
+
+/* Says what is written instead of a word of libpcap's expressions, which is the first of the `left` bytes. */
+static void show_ours(const char *word, size_t size, size_t left)
+{
+    if (is_word(word, size, "proto") && show_header(word, size, left)) return;
+    for (size_t i = 0; i < sizeof libpcap_words / sizeof *libpcap_words; i++)
+        if (strlen(libpcap_words[i].word) == size && memcmp(libpcap_words[i].word, word, size) == 0)
+            fprintf(stderr, "  for libpcap's `%s`, write `%s`\n", libpcap_words[i].word, libpcap_words[i].ours);
+}
+
+/* Reports what the condition needs at a place. */
+static void complain_of_condition(const struct text *text, uint8_t wanted, size_t offset)
+{
+    char expected[WOLFAREN_TEXT_ROOM];
+    wolfaren_expected_text(wanted, expected, sizeof expected);
+    size_t left = text->ends[text->count - 1] - offset;
+    const char *word = text->bytes + offset;
+    size_t size = left > 0 ? word_len(word, left) : 0;
+    if (left == 0)
+        complain("condition: expected %s, found the end", expected);
+    else
+        complain("condition: expected %s, found '%.*s' in column %zu", expected, size > 40 ? 40 : (int)size, word, offset + 1);
+    show_place(text, offset);
+    if (wanted == WOLFAREN_EXPECTED_HEADER)
+        show_protocol(word, size);
+    else
+        show_ours(word, size, left);
+}
+
+/* Reports the networks that have bits set after their prefix, which are likely mistakes. Returns whether there are any. */
+static bool has_host_bits(const struct wolfaren_filter *condition)
+{
+    bool is_any = false;
+    for (size_t i = 0; i < condition->count; i++) {
+        struct wolfaren_filter_test test = condition->tests[i];
+        char given[NETWORK_ROOM], meant[NETWORK_ROOM];
+        if (!is_network(&test)) continue;
+        write_network(&test, given);
+        if (!clear_host_bits(&test)) continue;
+        write_network(&test, meant);
+        complain("condition: the network %s has bits set after its prefix; %s is meant", given, meant);
+        is_any = true;
+    }
+    return is_any;
+}
+
+/*
+ * Parses as many arguments as are a condition, or all if `is_whole` is set, and returns their number. On a syntax error,
+ * stores where the text of all arguments is wrong, and returns 0.
+ */
+static int take_condition(struct wolfaren_filter *condition, const struct text *text, bool is_whole,
+                          struct wolfaren_filter_error *error)
+{
+    struct wolfaren_filter_error later;
+    int taken = text->count;
+    if (wolfaren_parse_filter(text->bytes, text->ends[taken - 1], condition, error)) return taken;
+    if (is_whole) return 0;
+    while (--taken > 0)
+        if (wolfaren_parse_filter(text->bytes, text->ends[taken - 1], condition, &later)) break;
+    /* The other arguments are file names only if the first of them can't go on with the condition. */
+    return taken > 0 && error->offset == text->ends[taken - 1] + 1 ? taken : 0;
+}
+
+/* Takes a test with a stand-in. */
+static void take_own_test(struct condition *condition, size_t test)
+{
+    const struct wolfaren_filter_test *of = &condition->filter.tests[test];
+    condition->own[condition->own_count++] = (struct own_test){test, of->if_met, of->if_not};
+}
+
+/*
+ * Finds the tests for terms of this program in the first `taken` arguments: those whose number is another one with
+ * another stand-in. Returns false if memory runs out.
+ */
+static bool find_own_tests(struct condition *condition, const struct text *joined, int taken)
+{
+    struct text text;
+    struct wolfaren_filter other;
+    struct wolfaren_filter_error error;
+    if (!replace_words(&text, joined, "id 1")) return false;
+    condition->own_count = 0;
+    /* parsed as with the first stand-in */
+    bool is_parsed = wolfaren_parse_filter(text.bytes, text.ends[taken - 1], &other, &error);
+    for (size_t i = 0; is_parsed && i < condition->filter.count; i++)
+        if (condition->filter.tests[i].number != other.tests[i].number) take_own_test(condition, i);
+    free_text(&text);
+    return is_parsed;
+}
+
+/* Reports that memory ran out, and returns the exit status. */
+static int fail_on_memory(void)
+{
+    complain_of_memory();
+    return STATUS_FAILED;
+}
+
+/* Reads the condition in the joined arguments, as `read_condition` does. */
+static int read_joined(struct condition *condition, const struct text *joined, bool is_whole, int *taken)
+{
+    struct text text;
+    struct wolfaren_filter_error error;
+    if (!replace_words(&text, joined, "id 0")) return fail_on_memory();
+    *taken = take_condition(&condition->filter, &text, is_whole, &error);
+    if (*taken == 0) complain_of_condition(joined, error.expected, text.origins[error.offset]);
+    free_text(&text);
+    if (*taken == 0 || has_host_bits(&condition->filter) || has_impossible(&condition->filter)) return STATUS_USAGE;
+    return find_own_tests(condition, joined, *taken) ? -1 : fail_on_memory();
+}
+
+int read_condition(struct condition *condition, int count, char *const *arguments, bool is_whole, int *taken)
+{
+    struct text joined;
+    if (!join(&joined, count, arguments)) return fail_on_memory();
+    int status = read_joined(condition, &joined, is_whole, taken);
+    free_text(&joined);
+    return status;
+}
+
+bool is_condition(int count, char *const *arguments)
+{
+    struct text joined, text;
+    struct wolfaren_filter filter;
+    struct wolfaren_filter_error error;
+    if (!join(&joined, count, arguments)) return false;
+    bool is_made = replace_words(&text, &joined, "id 0");
+    bool is_parsed = is_made && take_condition(&filter, &text, true, &error) > 0;
+    if (is_made) free_text(&text);
+    free_text(&joined);
+    return is_parsed;
+}
+
+const struct wolfaren_filter *filter_for(struct condition *condition, const struct packet *packet)
+{
+    bool is_met = condition->own_count > 0 && meets_own_term(packet);
+    for (size_t i = 0; i < condition->own_count; i++) {
+        const struct own_test *own = &condition->own[i];
+        struct wolfaren_filter_test *test = &condition->filter.tests[own->test];
+        test->if_met = test->if_not = is_met ? own->if_met : own->if_not;
+    }
+    return &condition->filter;
+}

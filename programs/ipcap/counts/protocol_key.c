@@ -1,0 +1,48 @@
+#include "counts/protocol_key.h"
+
+#include <stdio.h>
+#include <stdlib.h>
+#include <string.h>
+
+/* The bytes of a key: the kind, and the number, most significant byte first. */
+enum { KIND_AT, NUMBER_AT, KEY_USED = NUMBER_AT + 4 };
+
+static const struct {
+    const char *format;
+    uint32_t most; /* the largest number of the kind */
+} kinds[] = {
+    [PROTOCOL_ETHERTYPE] = {"EtherType 0x%04x", 0xffff}, [PROTOCOL_LLC] = {"LLC 0x%02x", 0xff},
+    [PROTOCOL_PPP] = {"PPP 0x%04x", 0xffff},             [PROTOCOL_NLPID] = {"NLPID 0x%02x", 0xff},
+    [PROTOCOL_FAMILY] = {"family %u", UINT32_MAX},
+};
+
+bool protocol_key(const struct protocol *protocol, struct key *key)
+{
+    uint32_t number = protocol->number;
+    memset(key, 0, sizeof *key);
+    key->bytes[KIND_AT] = (uint8_t)protocol->kind;
+    for (size_t at = KEY_USED; at > NUMBER_AT; number >>= 8) key->bytes[--at] = (uint8_t)(number & 0xff);
+    return protocol->kind != PROTOCOL_UNKNOWN;
+}
+
+void write_protocol(const struct key *key, char text[CHAIN_TEXT_ROOM])
+{
+    uint32_t number = 0;
+    for (size_t at = NUMBER_AT; at < KEY_USED; at++) number = number << 8 | key->bytes[at];
+    snprintf(text, CHAIN_TEXT_ROOM, kinds[key->bytes[KIND_AT]].format, number);
+}
+
+bool read_protocol(const char *text, struct key *key)
+{
+    char written[CHAIN_TEXT_ROOM];
+    const char *space = strrchr(text, ' ');
+    if (!space) return false;
+    unsigned long number = strtoul(space + 1, NULL, 0);
+    for (enum protocol_kind kind = PROTOCOL_ETHERTYPE; kind <= PROTOCOL_FAMILY; kind++) {
+        if (number > kinds[kind].most) continue;
+        protocol_key(&(struct protocol){kind, (uint32_t)number, 0}, key);
+        write_protocol(key, written);
+        if (strcmp(text, written) == 0) return true;
+    }
+    return false;
+}

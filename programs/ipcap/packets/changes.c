@@ -1,0 +1,303 @@
+#include "packets/changes.h"
+
+#include <stdlib.h>
+#include <string.h>
+
+#include "capture/blocks.h"
+#include "commands/report.h"
+#include "conditions/matching.h"
+#include "packets/levels.h"
+
+/* Where the captured length, the length and the frame of a packet are in its block, and in a simple packet block. */
+enum { CAPTURED_LEN_AT = 20, LEN_AT = 24, FRAME_AT = 28, SIMPLE_LEN_AT = 8, SIMPLE_FRAME_AT = 12, TRAILER_LEN = 4 };
+
+/* The headers in the order in which they are left out: an authentication header covers all others. */
+static const uint8_t order[] = {WOLFAREN_AUTHENTICATION, WOLFAREN_HOP_BY_HOP, WOLFAREN_ROUTING, WOLFAREN_FRAGMENT,
+                                WOLFAREN_DESTINATION_OPTIONS};
+
+/* Bytes of an IP packet. */
+struct span {
+    const uint8_t *bytes;
+    size_t len;
+};
+
+/* A packet that is being changed. Each result is written to one of two places of `room` bytes, which follow each other. */
+struct change {
+    struct span packet;
+    uint8_t *places;
+    size_t room;
+    bool keeps_checksums;
+    bool keeps_check_values;
+};
+
+/* Whether a packet has one of some headers: a bit for each number. */
+static bool has_header(uint64_t headers, struct span packet)
+{
+    const struct wolfaren_filter filter = {
+        1, {{.kind = WOLFAREN_TEST_FLAGS, .number = headers, .if_met = WOLFAREN_FILTER_PASSED}}};
+    return wolfaren_filter_matches(&filter, packet.bytes, packet.len);
+}
+
+/* Whether a reserved bit of a header is 1 (RFC 8200, section 4.5; RFC 4302, section 2.3). */
+static bool is_reserved_set(const uint8_t *header, uint8_t number)
+{
+    if (number == WOLFAREN_FRAGMENT) return header[1] != 0 || (header[3] & 6) != 0;
+    return number == WOLFAREN_AUTHENTICATION && (header[2] != 0 || header[3] != 0);
+}
+
+/* Whether a reserved bit is 1 in the headers of a packet that are there. */
+static bool has_reserved(struct rewriter *rewriter, struct span packet)
+{
+    struct header_walk walk = {0};
+    if (!has_header(UINT64_C(1) << WOLFAREN_FRAGMENT | UINT64_C(1) << WOLFAREN_AUTHENTICATION, packet)) return false;
+    parse_packet(&rewriter->parts, packet.bytes, packet.len, NULL);
+    while (visit_header(&rewriter->parts, &walk))
+        if (is_reserved_set(packet.bytes + walk.header.offset, walk.header.number)) return true;
+    return false;
+}
+
+/* Returns the place of a header in the recommended order. Destination options before a routing header belong to it. */
+static int place_in_order(uint8_t number, bool is_before_routing)
+{
+    switch (number) {
+    case WOLFAREN_HOP_BY_HOP: return 0;
+    case WOLFAREN_ROUTING: return 1;
+    case WOLFAREN_FRAGMENT: return 2;
+    case WOLFAREN_AUTHENTICATION: return 3;
+    default: return is_before_routing ? 1 : 4;
+    }
+}
+
+/* Returns where the last routing header of a packet begins, or 0 if there is none. */
+static size_t last_routing(const struct parts *parts)
+{
+    struct header_walk walk = {0};
+    size_t last = 0;
+    while (visit_header(parts, &walk))
+        if (walk.header.number == WOLFAREN_ROUTING) last = walk.header.offset;
+    return last;
+}
+
+/* Whether the headers of a packet that are there are in another order than RFC 8200, section 4.1, recommends. */
+static bool is_out_of_order(struct rewriter *rewriter, struct span packet)
+{
+    struct header_walk walk = {0};
+    int before = 0;
+    parse_packet(&rewriter->parts, packet.bytes, packet.len, NULL);
+    const size_t routing = last_routing(&rewriter->parts);
+    while (visit_header(&rewriter->parts, &walk)) {
+        const int place = place_in_order(walk.header.number, walk.header.offset < routing);
+        if (place < before) return true;
+        before = place;
+    }
+    return false;
+}
+
+/* Whether there is something to change in a packet. */
+static bool is_concerned(struct rewriter *rewriter, struct span packet)
+{
+    return has_header(rewriter->without, packet) || (rewriter->clears && has_reserved(rewriter, packet))
+        || (rewriter->orders && is_out_of_order(rewriter, packet));
+}
+
+/* Returns the place for the next result. */
+static uint8_t *place_for(const struct change *change)
+{
+    return change->packet.bytes == change->places ? change->places + change->room : change->places;
+}
+
+/* Goes on with the packet that was written there. */
+static void take_result(struct change *change, const struct wolfaren_rewritten *done)
+{
+    change->packet = (struct span){place_for(change), done->len};
+    change->keeps_checksums &= done->keeps_checksums;
+}
+
+/* Leaves out the headers of a number. Returns WOLFAREN_NOT_REFUSED, or why the packet is refused. */
+static uint8_t leave_out_number(const struct rewriter *rewriter, struct change *change, uint8_t number, bool may_be_invalid)
+{
+    struct wolfaren_rewritten done;
+    if (wolfaren_without_number(change->packet.bytes, change->packet.len, number, may_be_invalid, place_for(change), change->room,
+                                &done)) {
+        take_result(change, &done);
+        change->keeps_check_values &= !may_be_invalid;
+    } else if (done.refusal == WOLFAREN_REFUSED_AUTHENTICATED && rewriter->breaks_authentication && !may_be_invalid) {
+        return leave_out_number(rewriter, change, number, true);
+    } else if (done.refusal != WOLFAREN_REFUSED_NO_HEADER) {
+        return done.refusal;
+    }
+    return WOLFAREN_NOT_REFUSED;
+}
+
+/* Leaves out the headers, one number after another. Returns WOLFAREN_NOT_REFUSED, or why the packet is refused. */
+static uint8_t leave_out(const struct rewriter *rewriter, struct change *change)
+{
+    uint8_t refusal = WOLFAREN_NOT_REFUSED;
+    for (size_t i = 0; i < sizeof order && refusal == WOLFAREN_NOT_REFUSED; i++)
+        if (rewriter->without >> order[i] & 1) refusal = leave_out_number(rewriter, change, order[i], false);
+    return refusal;
+}
+
+/* A call of the library that changes all headers of a packet. */
+typedef bool change_call(const uint8_t *bytes, size_t len, bool may_be_invalid, uint8_t *out, size_t room,
+                         struct wolfaren_rewritten *rewritten);
+
+/* Makes such a change. Returns WOLFAREN_NOT_REFUSED, or why the packet is refused. */
+static uint8_t make_change(const struct rewriter *rewriter, struct change *change, change_call *call)
+{
+    struct wolfaren_rewritten done;
+    bool may_be_invalid = false;
+    bool is_done = call(change->packet.bytes, change->packet.len, may_be_invalid, place_for(change), change->room, &done);
+    if (!is_done && done.refusal == WOLFAREN_REFUSED_AUTHENTICATED && rewriter->breaks_authentication) {
+        may_be_invalid = true;
+        is_done = call(change->packet.bytes, change->packet.len, may_be_invalid, place_for(change), change->room, &done);
+    }
+    if (!is_done) return done.refusal;
+    take_result(change, &done);
+    change->keeps_check_values &= !may_be_invalid;
+    return WOLFAREN_NOT_REFUSED;
+}
+
+/* Makes the block of a frame that is at its place in the new block already, from the old one: its options and all else stay. */
+static void make_block(struct packet *packet, uint8_t *block, const struct packet *old)
+{
+    const bool is_little = !old->is_big_endian;
+    const size_t frame_at = (size_t)(old->frame - old->block);
+    const uint8_t *options = old->frame + padded_len(old->header.caplen), *end = old->block + old->block_len - TRAILER_LEN;
+    const uint32_t len = packet->header.caplen;
+    uint8_t *place = block + frame_at + len;
+    memcpy(block, old->block, frame_at);
+    memset(place, 0, padded_len(len) - len);
+    place += padded_len(len) - len;
+    memcpy(place, options, (size_t)(end - options));
+    place += end - options;
+    packet->block_len = (size_t)(place - block) + TRAILER_LEN;
+    put_block_number(place, (uint32_t)packet->block_len, is_little);
+    put_block_number(block + 4, (uint32_t)packet->block_len, is_little);
+    if (frame_at == FRAME_AT) put_block_number(block + CAPTURED_LEN_AT, len, is_little);
+    put_block_number(block + (frame_at == FRAME_AT ? LEN_AT : SIMPLE_LEN_AT), packet->header.len, is_little);
+    packet->block = block;
+}
+
+/* Returns where the frame of a packet is in the buffer once it was changed. */
+static uint8_t *frame_in_buffer(const struct rewriter *rewriter, const struct packet *packet)
+{
+    return rewriter->buffer + (packet->block ? packet->frame - packet->block : 0);
+}
+
+/* Replaces a packet in a frame by one that isn't longer. The bytes before it and after it stay. */
+static void replace(const struct rewriter *rewriter, struct packet *packet, const struct packet *old, struct levels *levels,
+                    size_t index, size_t old_len, struct span new)
+{
+    uint8_t *frame = frame_in_buffer(rewriter, old);
+    const uint32_t removed = (uint32_t)(old_len - new.len);
+    size_t len = packet->header.caplen;
+    if (packet->frame != frame) memcpy(frame, packet->frame, len);
+    replace_packet(levels, index, frame, &len, old_len, new.bytes, new.len);
+    packet->frame = frame;
+    packet->header.caplen = (uint32_t)len;
+    /* a damaged capture may state fewer bytes than it has */
+    packet->header.len = packet->header.len > removed ? packet->header.len - removed : 0;
+}
+
+/* Makes room for the changes of a packet, unless there is as much. If memory or the budget runs out, reports that and returns false. */
+static bool reserve(struct rewriter *rewriter, const struct packet *packet)
+{
+    const size_t len = packet->block ? packet->block_len : packet->header.caplen;
+    if (rewriter->room >= len) return true;
+    const bool is_enough = len <= SIZE_MAX / 3 && ask_for_memory(rewriter->account, 3 * (uint64_t)(len - rewriter->room));
+    free(rewriter->buffer);
+    rewriter->buffer = is_enough ? malloc(3 * len) : NULL;
+    rewriter->room = rewriter->buffer ? len : 0;
+    if (!rewriter->buffer) complain_of_memory();
+    return rewriter->buffer;
+}
+
+/* Whether the block of a packet states a captured length of its own. That of a simple packet depends on its interface. */
+static bool has_captured_len(const struct packet *packet)
+{
+    return !packet->block || packet->frame - packet->block == FRAME_AT || !packet->is_short;
+}
+
+/* Makes all changes of a packet. Returns WOLFAREN_NOT_REFUSED, or why the packet is refused. */
+static uint8_t make_changes(struct rewriter *rewriter, const struct packet *packet, struct change *change)
+{
+    if (!has_captured_len(packet)) return WOLFAREN_REFUSED_MISSING;
+    uint8_t refusal = leave_out(rewriter, change);
+    if (refusal == WOLFAREN_NOT_REFUSED && rewriter->clears && has_reserved(rewriter, change->packet))
+        refusal = make_change(rewriter, change, wolfaren_cleared);
+    if (refusal == WOLFAREN_NOT_REFUSED && rewriter->orders && is_out_of_order(rewriter, change->packet))
+        refusal = make_change(rewriter, change, wolfaren_in_order);
+    return refusal;
+}
+
+/*
+ * Changes the packet with this index in a frame, if there is something to change. If memory or the budget runs out, reports that
+ * and returns false.
+ */
+static bool rewrite_level(struct rewriter *rewriter, struct packet *packet, const struct packet *old, struct levels *levels,
+                          size_t index)
+{
+    const struct span span = {packet->frame + levels->of[index].offset, levels->of[index].len};
+    struct wolfaren_dissection dissection;
+    /* authentication headers of outer packets, after this packet was changed: nothing refuses that before a tunnel */
+    const bool are_left_out = rewriter->without >> WOLFAREN_AUTHENTICATION & 1;
+    if (!is_concerned(rewriter, span)) return true;
+    if (!reserve(rewriter, old)) return false;
+    struct change change = {span, rewriter->buffer + rewriter->room, rewriter->room, true, true};
+    uint8_t refusal = make_changes(rewriter, old, &change);
+    wolfaren_dissect(span.bytes, span.len, NULL, 0, &dissection);
+    const size_t old_len = span.len - dissection.padding;
+    if (refusal == WOLFAREN_NOT_REFUSED)
+        refusal = refuse_growth(levels, index, (ptrdiff_t)change.packet.len - (ptrdiff_t)old_len,
+                                rewriter->breaks_authentication || are_left_out);
+    if (refusal != WOLFAREN_NOT_REFUSED) {
+        rewriter->refused[refusal < REFUSALS ? refusal : WOLFAREN_REFUSED_HEADERS]++;
+        return true;
+    }
+    rewriter->without_checksums += !change.keeps_checksums;
+    rewriter->without_check_values += !change.keeps_check_values || (is_covered(levels, index) && !are_left_out);
+    replace(rewriter, packet, old, levels, index, old_len, change.packet);
+    return true;
+}
+
+/* Finds the packets in a frame, those in tunnels only if they are changed. */
+static void find_levels(struct rewriter *rewriter, const struct packet *packet, struct levels *levels)
+{
+    struct packet inner = *packet;
+    begin_levels(levels, packet);
+    if (!rewriter->has_tunnels) return;
+    do
+        parse_captured(&rewriter->parts, &inner);
+    while (enter_level(levels, &rewriter->parts, &inner));
+}
+
+bool rewrite_packet(struct rewriter *rewriter, struct packet *packet)
+{
+    const struct packet old = *packet;
+    struct levels levels;
+    if (!packet->is_ip || packet->is_left_out) return true;
+    find_levels(rewriter, packet, &levels);
+    for (size_t i = levels.count; i-- > 0;)
+        if (!rewrite_level(rewriter, packet, &old, &levels, i)) return false;
+    if (packet->block && packet->frame != old.frame) make_block(packet, rewriter->buffer, &old);
+    return true;
+}
+
+/* Reports a number of packets, unless it is 0. */
+static void report_packets(const char *name, uint64_t count, const char *what)
+{
+    if (count > 0) complain("%s: %llu %s %s", name, (unsigned long long)count, count == 1 ? "packet" : "packets", what);
+}
+
+void report_rewrites(const struct rewriter *rewriter, const char *name)
+{
+    report_refusals(name, rewriter->refused, "packet", "packets");
+    report_packets(name, rewriter->without_checksums, "with a transport checksum that no longer holds");
+    report_packets(name, rewriter->without_check_values, "with an integrity check value that no longer holds");
+}
+
+void end_rewriter(struct rewriter *rewriter)
+{
+    free(rewriter->buffer);
+}

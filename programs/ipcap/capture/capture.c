@@ -223,6 +223,24 @@ static bool fail_on_packet(struct capture *capture, const char *reason)
                 *capture->source.error ? capture->source.error : reason);
 }
 
+bool has_nanoseconds(const struct capture *capture)
+{
+    return !capture->handle || pcap_get_tstamp_precision(capture->handle) == PCAP_TSTAMP_PRECISION_NANO;
+}
+
+/* A second in nanoseconds. */
+enum { SECOND = 1000000000 };
+
+/* Returns a time that a classic file has. */
+static struct timespec classic_time(const struct capture *capture, const struct timeval *time)
+{
+    /* the format has unsigned numbers of 32 bits, which libpcap reads as signed ones */
+    time_t seconds = time->tv_sec < 0 ? (time_t)(uint32_t)time->tv_sec : time->tv_sec;
+    /* the fraction of a damaged capture may be a second or more */
+    uint64_t fraction = (uint64_t)(uint32_t)time->tv_usec * (has_nanoseconds(capture) ? 1 : 1000);
+    return (struct timespec){seconds + (time_t)(fraction / SECOND), (long)(fraction % SECOND)};
+}
+
 /* Reads the next packet of a classic file. */
 static bool read_from_handle(struct capture *capture, struct packet *packet)
 {
@@ -231,6 +249,7 @@ static bool read_from_handle(struct capture *capture, struct packet *packet)
     if (answer == PCAP_ERROR_BREAK) return false;
     if (answer != 1) return fail_on_packet(capture, pcap_geterr(capture->handle));
     packet->header = *header;
+    packet->time = classic_time(capture, &header->ts);
     packet->link_type = capture->link_type;
     packet->block = NULL;
     packet->is_left_out = false;
@@ -259,7 +278,7 @@ static bool read_from_blocks(struct capture *capture, struct packet *packet)
     if (!find_packet_block(capture) || !read_block_packet(file, &found))
         return *file->error ? fail_on_packet(capture, file->error) : false;
     packet->header = (struct pcap_pkthdr){.caplen = found.captured_len, .len = found.len};
-    packet->header.ts = (struct timeval){found.time.tv_sec, found.time.tv_nsec};
+    packet->time = found.time;
     packet->frame = found.frame;
     packet->link_type = found.interface->link_type;
     packet->block = file->block;
@@ -302,25 +321,6 @@ bool read_packet(struct capture *capture, struct packet *packet)
         if (is_stopped(capture) || !read_next(capture, packet)) return end_reading(capture);
     while (capture->pass && !capture->pass(capture, packet));
     return true;
-}
-
-bool has_nanoseconds(const struct capture *capture)
-{
-    return !capture->handle || pcap_get_tstamp_precision(capture->handle) == PCAP_TSTAMP_PRECISION_NANO;
-}
-
-/* A second in nanoseconds. */
-enum { SECOND = 1000000000 };
-
-struct timespec time_of(const struct capture *capture, const struct packet *packet)
-{
-    const struct timeval *time = &packet->header.ts;
-    if (!capture->handle) return (struct timespec){time->tv_sec, time->tv_usec};
-    /* the format has unsigned numbers of 32 bits, which libpcap reads as signed ones */
-    time_t seconds = time->tv_sec < 0 ? (time_t)(uint32_t)time->tv_sec : time->tv_sec;
-    /* the fraction of a damaged capture may be a second or more */
-    uint64_t fraction = (uint64_t)(uint32_t)time->tv_usec * (has_nanoseconds(capture) ? 1 : 1000);
-    return (struct timespec){seconds + (time_t)(fraction / SECOND), (long)(fraction % SECOND)};
 }
 
 bool is_read_whole(const struct capture *capture)

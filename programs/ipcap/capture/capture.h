@@ -72,7 +72,8 @@ struct capture {
 
 /* A packet of a capture. `frame` is valid until the next packet is read. */
 struct packet {
-    struct pcap_pkthdr header;
+    struct pcap_pkthdr header; /* its time is only set in classic files, as they have it */
+    struct timespec time;      /* if it has one */
     const uint8_t *frame;
     int link_type;        /* one of libpcap's DLT_ values */
     const uint8_t *block; /* of a pcapng file, the block with the packet, otherwise null */
@@ -103,9 +104,6 @@ bool read_packet(struct capture *capture, struct packet *packet);
 
 /* Whether the timestamps of a capture may be in nanoseconds. If not, they are in microseconds. */
 bool has_nanoseconds(const struct capture *capture);
-
-/* Returns the time of a packet that was read, if it has one. */
-struct timespec time_of(const struct capture *capture, const struct packet *packet);
 
 /* Whether the capture was read to its end. */
 bool is_read_whole(const struct capture *capture);

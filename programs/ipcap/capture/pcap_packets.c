@@ -73,7 +73,7 @@ static bool next_ip(struct wolfaren_pcap_reader *reader)
 static struct wolfaren_pcap_packet fields_of(const struct wolfaren_pcap_reader *reader, size_t offset)
 {
     const struct packet *packet = &reader->packet;
-    struct timespec time = time_of(&reader->capture, packet);
+    struct timespec time = packet->time;
     return (struct wolfaren_pcap_packet){
         .number = reader->capture.number,
         .seconds = packet->has_time ? time.tv_sec : 0,

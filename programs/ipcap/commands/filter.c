@@ -171,9 +171,9 @@ static bool has_link_type(const struct target *target, const struct capture *cap
 }
 
 /* Returns why a packet of a pcapng file can't be in an output for several files, or null. */
-static const char *misfit(const struct target *target, const struct capture *capture, const struct packet *packet)
+static const char *misfit(const struct target *target, const struct packet *packet)
 {
-    time_t seconds = time_of(capture, packet).tv_sec;
+    time_t seconds = packet->time.tv_sec;
     bool has_numbers = target->output.has_numbers;
     time_t last = has_numbers ? (time_t)(UINT64_MAX / 1000000000 - 1) : (time_t)UINT32_MAX;
     if (packet->link_type != target->link_type) return "its link layer isn't that of the output";
@@ -187,7 +187,7 @@ static const char *misfit(const struct target *target, const struct capture *cap
 /* Whether a packet can be written. The first one of a file that can't is reported. */
 static bool does_fit(struct target *target, const struct capture *capture, const struct packet *packet)
 {
-    const char *reason = packet->block && target->output.is_joint ? misfit(target, capture, packet) : NULL;
+    const char *reason = packet->block && target->output.is_joint ? misfit(target, packet) : NULL;
     if (reason && !target->has_left_out)
         complain("%s: packet %llu and others like it are left out: %s", capture->name,
                  (unsigned long long)capture->number, reason);
@@ -201,18 +201,17 @@ static bool is_before(const struct timespec *time, const struct timespec *other)
 }
 
 /* Whether the time of a packet is in the range that is asked for. A packet without a time is in no range. */
-static bool is_timely(const struct request *request, const struct capture *capture, const struct packet *packet)
+static bool is_timely(const struct request *request, const struct packet *packet)
 {
-    struct timespec time = time_of(capture, packet);
     if (!packet->has_time) return request->since.tv_sec == INT64_MIN && request->until.tv_sec == INT64_MAX;
-    return !is_before(&time, &request->since) && is_before(&time, &request->until);
+    return !is_before(&packet->time, &request->since) && is_before(&packet->time, &request->until);
 }
 
 /* Whether a packet meets the condition, and has one of the numbers and times that are asked for. */
 static bool is_chosen(const struct request *request, struct matcher *matcher, const struct capture *capture,
                       const struct packet *packet)
 {
-    return capture->number >= request->packets.first && is_timely(request, capture, packet) && decide(matcher, packet);
+    return capture->number >= request->packets.first && is_timely(request, packet) && decide(matcher, packet);
 }
 
 /* Whether packets that aren't read yet may be written. */

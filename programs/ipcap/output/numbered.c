@@ -126,7 +126,7 @@ static bool make_block(struct numbered *numbered, const struct capture *capture,
 
 bool make_numbered(struct numbered *numbered, const struct capture *capture, const struct packet *packet, bool is_fine)
 {
-    return make_block(numbered, capture, packet, units_of(time_of(capture, packet), is_fine), true);
+    return make_block(numbered, capture, packet, units_of(packet->time, is_fine), true);
 }
 
 bool copy_numbered(struct numbered *numbered, const struct capture *capture, const struct packet *packet, bool *is_numbered)

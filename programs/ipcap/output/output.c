@@ -124,7 +124,8 @@ void write_packet(struct output *output, const struct capture *capture, const st
         write_blocks(output, capture, packet->block, packet->block_len);
         return;
     }
-    if (output->is_joint) header.ts.tv_usec = time_of(capture, packet).tv_nsec;
+    /* a file of nanoseconds has them where pcap_dump takes microseconds */
+    if (output->is_joint) header.ts = (struct timeval){packet->time.tv_sec, packet->time.tv_nsec};
     errno = 0;
     pcap_dump((u_char *)output->dumper, &header, packet->frame);
     if (capture->is_live || ferror(output->file)) flush_output(output);

@@ -43,7 +43,7 @@ static void put_seconds(struct writer *writer, int64_t seconds)
 
 void put_time(struct writer *writer, const struct capture *capture, const struct packet *packet)
 {
-    struct timespec time = time_of(capture, packet);
+    struct timespec time = packet->time;
     struct tm date;
     bool is_date = has_date(&time, &date), is_fine = has_nanoseconds(capture);
     if (is_date)

@@ -344,9 +344,9 @@ static bool make_whole(struct defragmenter *defragmenter, struct pending *pendin
 }
 
 /* Updates the time by that of a packet, if it has one after 1970. */
-static void note_time(struct defragmenter *defragmenter, const struct capture *capture, const struct packet *packet)
+static void note_time(struct defragmenter *defragmenter, const struct packet *packet)
 {
-    struct timespec time = time_of(capture, packet);
+    const struct timespec time = packet->time;
     if (!packet->has_time || time.tv_sec < 0) return;
     defragmenter->time = (uint64_t)time.tv_sec * 1000000000 + (uint64_t)time.tv_nsec;
 }
@@ -499,7 +499,7 @@ static bool add_tunnels(struct defragmenter *defragmenter, const struct capture 
 /* Adds a packet that was read. Returns whether it is to be read, changed or not. */
 static bool add_packet(struct defragmenter *defragmenter, const struct capture *capture, struct packet *packet)
 {
-    note_time(defragmenter, capture, packet);
+    note_time(defragmenter, packet);
     const bool is_passed = add_outer(defragmenter, capture, packet)
         && (!defragmenter->has_tunnels || add_tunnels(defragmenter, capture, packet));
     return is_passed || is_kept(defragmenter, capture->number);

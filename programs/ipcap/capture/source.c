@@ -213,10 +213,10 @@ static FILE *open_stream(struct source *source)
     static const cookie_io_functions_t functions = {.read = read_source, .close = close_source};
     source->is_plain = rewind_file(source);
     if (!source->is_plain) return fopencookie(source, "r", functions);
-    bool is_input = source->descriptor == STDIN_FILENO;
-    int descriptor = is_input ? dup(STDIN_FILENO) : source->descriptor;
+    bool is_standard = source->descriptor == STDIN_FILENO;
+    int descriptor = is_standard ? dup(STDIN_FILENO) : source->descriptor;
     FILE *stream = fdopen(descriptor, "rb");
-    if (!stream && is_input && descriptor >= 0) close(descriptor);
+    if (!stream && is_standard && descriptor >= 0) close(descriptor);
     return stream;
 }
 

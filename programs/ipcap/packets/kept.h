@@ -22,7 +22,7 @@ bool keep(struct account *account, struct kept **list, uint64_t number);
 /* Frees a list of fragments. */
 void free_kept(struct account *account, struct kept *list);
 
-/* Sorts a list by the numbers. */
+/* Sorts a list by the numbers. It takes no memory, as an array for qsort would, when the budget may be used up. */
 struct kept *sort_kept(struct kept *list);
 
 /* Takes the memory of a list from an account that was opened again. */

@@ -1,6 +1,6 @@
 # make run            answer the lines of standard input with the proved program ipexts
 # make try            answer sample lines within seconds, with run-time checks instead of proofs
-# make test           compare the documented contracts, errors, terms and figures with the code and the recorded run, run
+# make test           compare the documented words of contracts, errors, terms and figures with the code and the recorded run, run
 #                     the merge gate, check the documents and the spelling, and test the program, the library, ipcap,
 #                     the packages and the page, and 20,000 comparisons with etherparse
 # make quick          run the checks that need no proof: documents, spelling, layout, and all test vectors with run-time
@@ -77,7 +77,7 @@ try:
 test:
 	$(RT_IS_THERE)
 	$(PYTHON_IS_THERE)
-	scripts/check-calling
+	scripts/check-contracts
 	scripts/check-errors
 	scripts/check-terms
 	bench/quote --check

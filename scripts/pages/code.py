@@ -13,7 +13,9 @@ GHOST = re.compile(r"\s*ghost (?P<name>\w+)(?: =|:) \{(?P<text>.*)")
 # an import of definitions, in code or in a file of definitions: a module, and names of it or a name for it
 IMPORT = re.compile(r"^\s*(?:pub )?(?:ghost )?use Rattle\.([\w.']+?)(?:\.\{([^}]*)\})?(?: as (\w+))?;?\s*$", re.M)
 MEMBER = re.compile(r"^ {2,}(?:pub )?([\w']+) :", re.M)
-HEAD = re.compile(r"^ *(?:(?:abbrev|unfoldable) )?pub (?:record |data )?(?!mod |use )(?P<name>[\w'◌]+)", re.M)
+HEAD = re.compile(r"^(?: *(?:abbrev|unfoldable) pub (?:record |data )?| *pub (?:record|data) |pub (?!mod |use ))([\w'◌]+)", re.M)
+# one of several definitions that use one another
+MUTUAL = re.compile(r"^  pub ([\w']+) :", re.M)
 
 
 @dataclass
@@ -234,7 +236,7 @@ def definitions_of(crate):
         blocks = [it for it in re.split(r"\n\n+", text) if it.strip()]
         definitions = []
         for block in blocks:
-            names = [it for it in HEAD.findall(block)]
+            names = HEAD.findall(block) or MUTUAL.findall(block)
             comment = " ".join(it.strip()[3:] for it in block.split("\n") if it.strip().startswith("-- ") and not it.strip("- ") == "")
             code = "\n".join(it for it in block.split("\n") if not it.strip().startswith("--") and not IMPORT.match(it))
             if names and code.strip():

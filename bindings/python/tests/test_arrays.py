@@ -105,6 +105,15 @@ class AsSingleCalls(unittest.TestCase):
         array = dissect_many(*joined([ipv6(44, fragment(17, 0, 1, it) + UDP) for it in [7, 0xffffffff, 5]]))
         self.assertEqual(numpy.diff(array["identification"]).tolist(), [0xffffffff - 7, 5 - 0xffffffff])
 
+    def test_saved(self):
+        """An array can be saved and loaded, and other packages can read its memory."""
+        array = dissect_many(*joined(PACKETS))
+        with tempfile.TemporaryFile() as file:
+            numpy.save(file, array)
+            file.seek(0)
+            self.assertEqual(numpy.load(file).tolist(), array.tolist())
+        self.assertEqual(memoryview(array).nbytes, array.nbytes)
+
     def test_signs(self):
         """No column is unsigned."""
         kinds = dissect_many(b"", [], []).dtype

@@ -43,15 +43,14 @@ def dtype_of(numpy: Any, kind: Any) -> Any:
 
 
 def signed(numpy: Any, kind: Any) -> Any:
-    """Returns numpy's type of a C struct whose numbers have signs. The one that needs 64 bits for that comes after the struct."""
-    size, formats, offsets = kind.itemsize, [], []
-    for name in kind.names:
-        field, offset = kind.fields[name]
-        is_wide = name == _WIDE
-        formats.append("i8" if is_wide else signed(numpy, field) if field.names else field.str.replace("u", "i"))
-        offsets.append(size if is_wide else offset)
-    return numpy.dtype({"names": kind.names, "formats": formats, "offsets": offsets,
-                        "itemsize": size + 8 * (_WIDE in kind.names)})
+    """Returns numpy's type of a C struct whose numbers have signs. The one that needs 64 bits for that is last, after the struct."""
+    names = [it for it in kind.names if it != _WIDE]
+    fields = [kind.fields[it] for it in names]
+    formats = [signed(numpy, it) if it.names else it.str.replace("u", "i") for it, *_ in fields]
+    offsets, size = [offset for _, offset, *_ in fields], kind.itemsize
+    if _WIDE in kind.names:
+        names, formats, offsets, size = [*names, _WIDE], [*formats, "i8"], [*offsets, size], size + 8
+    return numpy.dtype({"names": names, "formats": formats, "offsets": offsets, "itemsize": size})
 
 
 class Packets:
@@ -117,12 +116,12 @@ def dissect_many(buffer: Buffer, offsets: Any, lengths: Any) -> Any:
         fault.layer             i1   the layer that needs the bytes, a `Layer`
         fault.len_source        i1   where `fault.len` comes from, a `LenSource`
         fault.value             i4   the invalid version or internet header length
-        identification          i8   a number that all fragments of a packet share, or 0
         fragment_offset         i4   where the fragment lies in the payload, in bytes
         version                 i2   4 or 6, or 0 if there is no IP header
         payload_number          i2   the protocol number of what follows the headers
         fragment                i2   which fragment the packet is, a `FragmentKind`
         end                     i2   why the headers end, an `End`
+        identification          i8   a number that all fragments of a packet share, or 0
 
     The column of a name with a dot is `array["fault"]["kind"]`. Numbers that don't apply are 0. A packet whose length field is
     0 states no length, and all bytes after its headers are its payload: before you trust a row, test its `stated_len`, which

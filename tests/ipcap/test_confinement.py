@@ -17,10 +17,10 @@ SECCOMP_CALLS = {"x86_64": (157, 317, 444, 445, 446), "aarch64": (167, 277, 444,
 CALLS = ["read", "write", "seek", "memory", "terminal", "threads", "process", "open", "open-to-write", "truncate", "create", "remove", "mode", "code", "socket", "kill",
          "program"]
 ALLOWED = CALLS[:5]
-# what Landlock doesn't refuse
-LEFT = ["threads", "process", "mode", "code", "socket", "kill"]
-# CAP_DAC_OVERRIDE and CAP_DAC_READ_SEARCH
-READS_ALL = 1 << 1 | 1 << 2
+# what Landlock doesn't refuse, nor that root becomes nobody
+LEFT = ["threads", "process", "code", "socket"] + (["mode", "kill"] if os.geteuid() else [])
+OVERRIDES, SEARCHES = 1 << 1, 1 << 2  # CAP_DAC_OVERRIDE and CAP_DAC_READ_SEARCH
+NOBODY = "65534"
 
 
 def has_means():
@@ -77,6 +77,8 @@ def confined_as(harness, arguments, capabilities):
     harness.equal((fields["Seccomp"], fields["NoNewPrivs"]), ("2", "1"), arguments)
     found = [int(fields[name], 16) for name in ("CapEff", "CapPrm", "CapInh")]
     harness.equal(found, [capabilities, capabilities, 0], arguments, "capabilities")
+    if os.geteuid() == 0:
+        harness.equal((fields["Uid"].split(), fields["Gid"].split(), fields["Groups"].split()), ([NOBODY] * 4, [NOBODY] * 4, []), arguments, "root")
 
 
 def several_files(harness):
@@ -86,13 +88,14 @@ def several_files(harness):
         return
     with open("/proc/self/status") as file:
         own = int(re.search(r"^CapEff:\t(\w+)", file.read(), re.M)[1], 16)
+    reads = own & SEARCHES or own & OVERRIDES
     path, empty, absent = harness.file(HEAD), harness.file(file_header()), "/nonexistent"
     for command in (["filter", "any"], ["stat", "--json", "-j1"]):
-        confined_as(harness, command + ["-", path], own & READS_ALL)
-        confined_as(harness, command + ["-", absent], own & READS_ALL)
+        confined_as(harness, command + ["-", path], reads)
+        confined_as(harness, command + ["-", absent], reads)
         confined_as(harness, command + [path, "-"], 0)
         confined_as(harness, command + [path, path, "-"], 0)
-    confined_as(harness, ["stat", "--json", "-j2", path, "-"], own & READS_ALL)
+    confined_as(harness, ["stat", "--json", "-j2", path, "-"], reads)
     for command in (["filter", "any"], ["stat", "--json", "-j1"], ["stat", "--json", "-j2"]):
         found = harness.run(*command, path, absent)
         harness.equal((found[0], found[2]), (1, "ipcap: /nonexistent: No such file or directory\n"), command)

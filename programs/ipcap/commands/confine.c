@@ -30,6 +30,7 @@
 #include <linux/capability.h>
 #include <linux/filter.h>
 #include <linux/seccomp.h>
+#include <stdbool.h>
 #include <stddef.h>
 #include <stdint.h>
 #include <sys/mman.h>
@@ -211,18 +212,34 @@ static void limit_files(enum files_needed needed)
     close(set);
 }
 
-/*
- * Gives up the capabilities that root has, but for those with which further files can be read whatever their mode is. What is
- * open stays usable.
- */
-static void drop_capabilities(enum files_needed needed)
+/* Of some capabilities, returns the one with which files can be read whatever their mode is: if possible, not written too. */
+static uint32_t reading(uint32_t capabilities)
 {
-    enum { READS_ALL = 1 << CAP_DAC_OVERRIDE | 1 << CAP_DAC_READ_SEARCH };
+    uint32_t searches = capabilities & 1 << CAP_DAC_READ_SEARCH;
+    return searches ? searches : capabilities & 1 << CAP_DAC_OVERRIDE;
+}
+
+/* Has root become the user nobody, with the capabilities that it still needs, if any. No other thread may run. */
+static void become_nobody(bool needs_capabilities)
+{
+    enum { NOBODY = 65534 };
+    if (geteuid() != 0 || (needs_capabilities && prctl(PR_SET_KEEPCAPS, 1, 0, 0, 0) != 0)) return;
+    syscall(SYS_setgroups, 0, NULL);
+    syscall(SYS_setresgid, NOBODY, NOBODY, NOBODY);
+    syscall(SYS_setresuid, NOBODY, NOBODY, NOBODY);
+}
+
+/*
+ * Gives up root and its capabilities, but for the one with which further files are read. Root that has no such capability
+ * reads its files by its number, and keeps that. What is open stays usable.
+ */
+static void give_up_root(enum files_needed needed)
+{
     struct __user_cap_header_struct header = {.version = _LINUX_CAPABILITY_VERSION_3};
     struct __user_cap_data_struct had[_LINUX_CAPABILITY_U32S_3] = {{0}}, kept[_LINUX_CAPABILITY_U32S_3] = {{0}};
     if (needed == FILES_READ && syscall(SYS_capget, &header, had) != 0) return;
-    kept[0].effective = had[0].effective & READS_ALL;
-    kept[0].permitted = had[0].permitted & READS_ALL;
+    kept[0].effective = kept[0].permitted = reading(had[0].effective);
+    if (needed == FILES_NONE || kept[0].permitted != 0) become_nobody(kept[0].permitted != 0);
     syscall(SYS_capset, &header, kept);
 }
 
@@ -231,7 +248,7 @@ void confine(enum files_needed needed)
     const char *preloaded = getenv("LD_PRELOAD");
     int error = errno;
     if (preloaded && *preloaded) return;
-    drop_capabilities(needed);
+    give_up_root(needed);
     if (prctl(PR_SET_NO_NEW_PRIVS, 1, 0, 0, 0) == 0) {
         limit_files(needed);
         limit_calls(needed);

@@ -9,10 +9,10 @@ enum files_needed {
 };
 
 /*
- * From now on, the system refuses what isn't needed: opening files otherwise, other programs, sockets and the like. Of root's
- * capabilities, only those for reading files are kept, and none without files. After FILES_READ, a call with FILES_NONE gives up
- * the rest. Does what the system allows, and reports nothing. Does nothing in a build
- * with sanitizers, and if LD_PRELOAD is set, as by valgrind, since these need more. Call it before threads are started.
+ * From now on, the system refuses what isn't needed: opening files otherwise, other programs, sockets and the like. Root becomes
+ * the user nobody, and keeps one capability, for reading files, or none without files. After FILES_READ, a call with FILES_NONE
+ * gives up the rest. Does what the system allows, and reports nothing. Does nothing in a build with sanitizers, and if LD_PRELOAD
+ * is set, as by valgrind, since these need more. Call it before threads are started.
  */
 void confine(enum files_needed needed);
 

@@ -176,7 +176,9 @@ static bool show_capture(const struct request *request)
 {
     struct input input;
     set_budget(request->memory, request->has_whole ? memory_of_slots(slots_within(request->memory), false) : 0);
-    if (is_any_overwritten(&request->path, 1) || !open_input(&input, request->path, false)) return false;
+    if (is_any_overwritten(&request->path, 1)) return false;
+    confine(FILES_READ);
+    if (!open_input(&input, request->path, false)) return false;
     confine(FILES_NONE);
     bool is_shown = (request->has_whole ? show_whole_packets : show_packets)(request, &input.capture);
     bool is_read = close_input(&input);

@@ -115,7 +115,7 @@ def objects(harness):
             stated_len=76, headers=headers((40, 8, 0, "hop-by-hop", 43, "routing"), (48, 8, 43, "routing", 44, "fragment"),
                                            (56, 8, 44, "fragment", 17, "UDP")), chain="IPv6 0,43,44 -> 17", payload_number=17, payload_name="UDP",
             payload_offset=64, payload_len=12, fragment=1, fragment_name="atomic", identification=7, fragment_offset=0)),
-        packet(2, "41.000006", 60, 60, other_protocol="EtherType 0x0806"),
+        packet(2, "41.000006", 60, 60, other_protocol="EtherType 0x0806", other_protocol_name="ARP"),
         packet(3, "42.000007", 46, 46, ip_offset=18, src="192.0.2.1", dst="192.0.2.2", version=4, base_len=20, hop_limit=64, **ports,
                **dissected(stated_len=28, chain="IPv4 -> 17", payload_number=17, payload_name="UDP", payload_offset=20, payload_len=8)),
         packet(4, "40.000005", 78, 62, ip_offset=14, **six, **dissected(
@@ -148,7 +148,8 @@ def rows(harness):
     harness.equal([len(row) for row in found], 6 * [len(names)], "values")
     first, other, four, truncated, _, faulty = [dict(zip(names, row)) for row in found]
     harness.equal({name: text for name, text in other.items() if text},
-                  {"packet": "2", "time": "1970-01-01T00:16:41.000006Z", "frame_len": "60", "captured_len": "60", "other_protocol": "EtherType 0x0806"},
+                  {"packet": "2", "time": "1970-01-01T00:16:41.000006Z", "frame_len": "60", "captured_len": "60", "other_protocol": "EtherType 0x0806",
+                   "other_protocol_name": "ARP"},
                   "not IP")
     harness.equal((first["headers"], first["header_names"], first["src"], first["dst"], first["identification"], first["payload_number"]),
                   ("0 43 44", "hop-by-hop routing fragment", "2001:db8::1", "2001:db8::2", "7", "17"), "headers")

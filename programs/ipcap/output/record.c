@@ -8,15 +8,17 @@
 
 /* What is written of a packet, in this order. Members of the fault are in an object of their own in JSON. */
 enum member {
-    PACKET, TIME, FRAME_LEN, CAPTURED_LEN, OTHER_PROTOCOL, IP_OFFSET, SRC, DST, SRC_PORT, DST_PORT, VERSION, BASE_LEN, STATED_LEN,
-    HOP_LIMIT, HEADERS, HEADER_NAMES, CHAIN, PAYLOAD_NUMBER, PAYLOAD_NAME, PAYLOAD_OFFSET, PAYLOAD_LEN, MISSING, PADDING, FRAGMENT,
-    FRAGMENT_NAME, IDENTIFICATION, FRAGMENT_OFFSET, END, END_NAME, FAULT_NAME, FAULT_TEXT, REQUIRED_LEN, LEN, OFFSET, KIND, KIND_NAME,
-    HEADER, HEADER_NAME, LAYER, LAYER_NAME, LEN_SOURCE, LEN_SOURCE_NAME, VALUE, TUNNELS, MEMBERS
+    PACKET, TIME, FRAME_LEN, CAPTURED_LEN, OTHER_PROTOCOL, OTHER_PROTOCOL_NAME, IP_OFFSET, SRC, DST, SRC_PORT, DST_PORT, VERSION,
+    BASE_LEN, STATED_LEN, HOP_LIMIT, HEADERS, HEADER_NAMES, CHAIN, PAYLOAD_NUMBER, PAYLOAD_NAME, PAYLOAD_OFFSET, PAYLOAD_LEN,
+    MISSING, PADDING, FRAGMENT, FRAGMENT_NAME, IDENTIFICATION, FRAGMENT_OFFSET, END, END_NAME, FAULT_NAME, FAULT_TEXT,
+    REQUIRED_LEN, LEN, OFFSET, KIND, KIND_NAME, HEADER, HEADER_NAME, LAYER, LAYER_NAME, LEN_SOURCE, LEN_SOURCE_NAME, VALUE,
+    TUNNELS, MEMBERS
 };
 
 static const char *const names[MEMBERS] = {
     [PACKET] = "packet", [TIME] = "time", [FRAME_LEN] = "frame_len", [CAPTURED_LEN] = "captured_len",
-    [OTHER_PROTOCOL] = "other_protocol", [IP_OFFSET] = "ip_offset", [SRC] = "src", [DST] = "dst", [SRC_PORT] = "src_port",
+    [OTHER_PROTOCOL] = "other_protocol", [OTHER_PROTOCOL_NAME] = "other_protocol_name", [IP_OFFSET] = "ip_offset",
+    [SRC] = "src", [DST] = "dst", [SRC_PORT] = "src_port",
     [DST_PORT] = "dst_port", [VERSION] = "version", [BASE_LEN] = "base_len", [STATED_LEN] = "stated_len", [HOP_LIMIT] = "hop_limit",
     [HEADERS] = "headers", [HEADER_NAMES] = "header_names", [CHAIN] = "chain", [PAYLOAD_NUMBER] = "payload_number",
     [PAYLOAD_NAME] = "payload_name", [PAYLOAD_OFFSET] = "payload_offset", [PAYLOAD_LEN] = "payload_len", [MISSING] = "missing",
@@ -87,6 +89,8 @@ static void set_frame(struct record *record)
     if (packet->is_ip || !protocol_key(&packet->protocol, &key)) return;
     write_protocol(&key, record->protocol);
     set_text(record, OTHER_PROTOCOL, record->protocol);
+    const char *name = protocol_name(&packet->protocol);
+    if (*name) set_text(record, OTHER_PROTOCOL_NAME, name);
 }
 
 static void set_port(struct record *record, enum member member, bool is_destination)

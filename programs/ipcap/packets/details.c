@@ -159,20 +159,22 @@ static const struct {
     {0xd28b, "Arista Vendor Specific Protocol"}, {0xfefe, "OSI"},
 };
 
-static const char *ethertype_name(uint32_t number)
+const char *protocol_name(const struct protocol *protocol)
 {
+    if (protocol->kind != PROTOCOL_ETHERTYPE) return "";
     for (size_t i = 0; i < sizeof ethertypes / sizeof *ethertypes; i++)
-        if (ethertypes[i].number == number) return ethertypes[i].name;
-    return "Unknown";
+        if (ethertypes[i].number == protocol->number) return ethertypes[i].name;
+    return "";
 }
 
 /* Writes an EtherType by its name and its number. */
-static void put_ethertype(struct writer *writer, uint32_t number)
+static void put_ethertype(struct writer *writer, const struct protocol *protocol)
 {
+    const char *name = protocol_name(protocol);
     put_text(writer, ", ethertype ");
-    put_text(writer, ethertype_name(number));
+    put_text(writer, *name ? name : "Unknown");
     put_text(writer, " (0x");
-    put_hexadecimal(writer, number, 4);
+    put_hexadecimal(writer, protocol->number, 4);
     put_byte(writer, ')');
 }
 
@@ -181,7 +183,7 @@ void put_protocol(struct writer *writer, const struct protocol *protocol)
     struct key key;
     char text[CHAIN_TEXT_ROOM];
     if (protocol->kind == PROTOCOL_ETHERTYPE) {
-        put_ethertype(writer, protocol->number);
+        put_ethertype(writer, protocol);
     } else if (protocol_key(protocol, &key)) {
         write_protocol(&key, text);
         put_text(writer, ", ");

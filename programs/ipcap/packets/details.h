@@ -21,6 +21,9 @@ void put_port(struct writer *writer, const struct parts *parts, bool is_destinat
 /* Writes which fragment the payload is, and the flags of a TCP header or the type of an ICMP message that it begins with. */
 void put_details(struct writer *writer, const struct parts *parts);
 
+/* Returns the name of what a frame carries, as tcpdump has it, or an empty string if it isn't in our list. */
+const char *protocol_name(const struct protocol *protocol);
+
 /* Writes what a frame without an IP packet carries, if its headers say so. */
 void put_protocol(struct writer *writer, const struct protocol *protocol);
 

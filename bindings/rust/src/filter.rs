@@ -60,11 +60,17 @@ impl Filter {
     /// | `option N` | hop-by-hop or destination options have one of this type, and no malformed one before it |
     /// | `src NET`, `dst NET`, `net NET` | the source, the destination or one of them is in this network: an address, or a prefix such as `2001:db8::/32` |
     /// | `host A` | the source or the destination is this address |
-    /// | `src port P`, `dst port P`, `port P` | the source port, the destination port or one of them is in this range: a port, or a range such as `1024-65535` |
+    /// | `src port P`, `dst port P`, `port P`, `portrange P` | the source port, the destination port or one of them is in this range: a port, or a range such as `1024-65535` |
+    /// | `proto N` | as `leads-to N`; of an extension header, `( header N or leads-to N )` |
     /// | `no-transport` | the payload should start with an upper-layer header, but lacks part of it |
     /// | `icmp-type T`, `icmp-code N` | the payload of an IPv4 packet is an ICMP message of this type or with this code; `T` is a number, or a name of libpcap's such as `icmp-echo` |
     /// | `icmp6-type T`, `icmp6-code N` | the payload of an IPv6 packet is a message of ICMP for IPv6 of this type or with this code; `T` may be a name such as `icmp6-echo` |
     /// | `tcp-flags LIST`, `tcp-flags LIST/LIST` | these flags of TCP are set; of those after the slash, exactly these. `LIST` is a flag or several with commas between: `fin`, `syn`, `rst`, `psh`, `ack`, `urg`, `ece`, `cwr` |
+    ///
+    /// As in tcpdump's expressions, `host`, `net`, `port` or `portrange` may follow `src` and `dst`, and `ip`, `ip6` or the
+    /// name of a protocol may precede `src`, `dst` and these: `tcp src port 80` is `( tcp and src port 80 )`, of two terms.
+    /// An address, prefix, port or protocol alone takes the words of the term before it: `tcp port 80 or 443` is
+    /// `tcp port 80 or tcp port 443`.
     ///
     /// TCP, UDP, UDP-Lite, SCTP and DCCP have ports. Ports, types, codes and flags of TCP are read from the payload, so
     /// extension headers may precede them. A later fragment has none, nor has a packet with an error or a truncated

@@ -504,7 +504,14 @@ fn errors_in_arguments(rt: HostRuntime) -> Result<(), Fail> {
         ("spi 4294967296", 4, Expected::Number),
         ("id 0x", 3, Expected::Number),
         ("src 10.0.0.0/33", 4, Expected::NetworkOrPort),
-        ("dst host", 4, Expected::NetworkOrPort),
+        ("dst host", 8, Expected::Address),
+        ("src port or", 9, Expected::Ports),
+        ("dst proto 6", 4, Expected::NetworkOrPort),
+        ("tcp src net", 11, Expected::Network),
+        ("src host 10.0.0.0/8", 9, Expected::Address),
+        ("portrange 2-1", 10, Expected::Ports),
+        ("ip proto", 8, Expected::Protocol),
+        ("proto 256", 6, Expected::Protocol),
         ("src port", 8, Expected::Ports),
         ("dst port 65536", 9, Expected::Ports),
         ("port 2-1", 5, Expected::Ports),
@@ -532,7 +539,11 @@ fn errors_in_arguments(rt: HostRuntime) -> Result<(), Fail> {
         ("tcp-flags syn/syn/syn", 10, Expected::TcpFlags),
         ("tcp-flags syn ack", 14, Expected::OperatorOrEnd),
         ("ttl 1", 4, Expected::Comparison),
-        ("tcp port", 4, Expected::OperatorOrEnd),
+        ("tcp port", 8, Expected::Ports),
+        ("tcp port and udp", 9, Expected::Ports),
+        ("tcp 443", 4, Expected::OperatorOrEnd),
+        ("tcp udp port 443", 4, Expected::OperatorOrEnd),
+        ("tcp port 443 80", 13, Expected::OperatorOrEnd),
         ("net 2001:db8::/129", 4, Expected::Network),
     ];
     for (text, offset, expected) in &rows {
@@ -560,5 +571,128 @@ fn sixty_five_terms(rt: HostRuntime) -> Result<(), Fail> {
     };
     let refused = Filter::parse(text.as_bytes());
     assert_that(&rt, "65 terms", refused == Err(error));
+    Ok(())
+}
+
+#[test]
+fn primitives(rt: HostRuntime) -> Result<(), Fail> {
+    let rows = [
+        ("tcp port 443", "(tcp and port 443)"),
+        ("not udp dst port 53", "not (udp and dst port 53)"),
+        ("ip host 192.0.2.1", "(ip and host 192.0.2.1)"),
+        ("ip6 net 2001:db8::/32", "(ip6 and net 2001:db8::/32)"),
+        ("icmp src 192.0.2.1", "(icmp and src 192.0.2.1)"),
+        ("src host 192.0.2.1", "src 192.0.2.1"),
+        ("dst net 10.0.0.0/8", "dst 10.0.0.0/8"),
+        ("src portrange 1-1023", "src port 1-1023"),
+        ("portrange 1-1023", "port 1-1023"),
+        ("sctp portrange 1-9", "(sctp and port 1-9)"),
+        ("proto 17", "leads-to 17"),
+        ("proto ospf or udp", ""),
+        ("proto gre", "leads-to 47"),
+        ("ip proto 2", "(ip and leads-to 2)"),
+        ("proto 44", "(header 44 or leads-to 44)"),
+        ("ip6 proto 44", "(ip6 and (header 44 or leads-to 44))"),
+        ("proto ah", "(header 51 or leads-to 51)"),
+    ];
+    for (text, longer) in &rows {
+        check_alike(&rt, text, longer);
+    }
+    Ok(())
+}
+
+/// Checks that the filters of two texts are the same one, or that the first text is none if the second is empty.
+fn check_alike(rt: &impl Abort, text: &str, longer: &str) {
+    let parsed = Filter::parse(text.as_bytes());
+    assert_that(rt, text, parsed.is_ok() != longer.is_empty());
+    if let Ok(filter) = parsed {
+        assert_that(rt, longer, Filter::parse(longer.as_bytes()) == Ok(filter));
+    }
+}
+
+#[test]
+fn identifiers_alone(rt: HostRuntime) -> Result<(), Fail> {
+    let rows = [
+        ("port 80 or 443", "port 80 or port 443"),
+        (
+            "tcp port 80 or 443",
+            "(tcp and port 80) or (tcp and port 443)",
+        ),
+        (
+            "src host 192.0.2.1 or 192.0.2.2",
+            "src 192.0.2.1 or src 192.0.2.2",
+        ),
+        (
+            "host 192.0.2.1 and not 192.0.2.2",
+            "host 192.0.2.1 and not host 192.0.2.2",
+        ),
+        (
+            "port 80 and (443 or 22)",
+            "port 80 and (port 443 or port 22)",
+        ),
+        ("(port 80 or fault) or 443", ""),
+        (
+            "(fault or port 80) && 443",
+            "(fault or port 80) and port 443",
+        ),
+        (
+            "dst 10.0.0.0/8 or ::1 or 2001:db8::/32",
+            "dst 10.0.0.0/8 or dst ::1 or dst 2001:db8::/32",
+        ),
+        ("proto 6 or 17", "leads-to 6 or leads-to 17"),
+        (
+            "udp port 53 and src 192.0.2.1 or 192.0.2.2",
+            "(udp and port 53) and src 192.0.2.1 or src 192.0.2.2",
+        ),
+        ("port 80 or tcp or 443", ""),
+        ("port 80 or 10.0.0.1", ""),
+        ("host 10.0.0.1 or 443", ""),
+        ("fault or 443", ""),
+        ("443", ""),
+        ("length > 100 or 200", ""),
+        ("header 44 or 60", ""),
+    ];
+    for (text, longer) in &rows {
+        check_alike(&rt, text, longer);
+    }
+    check_error(&rt, "port 80 or 10.0.0.1", 11, Expected::Operand);
+    check_error(&rt, "port 80 or tcp or 443", 18, Expected::Operand);
+    check_error(&rt, "port 80 or (", 12, Expected::Operand);
+    Ok(())
+}
+
+#[test]
+fn primitives_of_several_terms(rt: HostRuntime) -> Result<(), Fail> {
+    let mut text = String::new(rt.alloc());
+    for _ in 0..62 {
+        text.push_str("id 7 or ")?;
+    }
+    text.push_str("tcp ")?;
+    text.push_str("port 80")?;
+    assert_that(&rt, "64 terms", Filter::parse(text.as_bytes()).is_ok());
+    text.push_str(" or 443")?;
+    check_error(&rt, &text, 508, Expected::FewerTerms);
+    let mut more = String::new(rt.alloc());
+    for _ in 0..63 {
+        more.push_str("id 7 or ")?;
+    }
+    let rows = [
+        ("tcp", 507, true),
+        ("proto 6", 510, true),
+        ("tcp port 80", 508, false),
+        ("proto 44", 510, false),
+    ];
+    for (primitive, offset, fits) in &rows {
+        let mut text = more.clone()?;
+        text.push_str(primitive)?;
+        assert_that(
+            &rt,
+            primitive,
+            Filter::parse(text.as_bytes()).is_ok() == *fits,
+        );
+        if !*fits {
+            check_error(&rt, &text, *offset, Expected::FewerTerms);
+        }
+    }
     Ok(())
 }

@@ -3,10 +3,10 @@ use Rattle.std.proofs.Common.{zero, suc}
 use Rattle.ip_spec.proofs.Common.{◌≡◌, ℕ, ◌+◌, ◌-◌, ◌<◌, ◌≤◌, ◌%◌, List, [], ◌∷◌, ◌++◌, length, take, drop, map, refl, sym, ap, ◌∙◌, subst, arith, common_steps, eqb_tells, inl, inr, cases_eq, Bool, true, false, not, ◌==◌, ◌&&◌, ◌||◌, if◌then◌else◌, Option, None, Some, length-append, length-take-le, length-drop, length-map, take-append_seam, drop-append_seam, take_at, append_assoc, append-nil, take_all, drop_all, slice_set, slice_index_or, take-append-add, length-take, take-take, min}
 use Rattle.std.proofs.lemmas.List.{drop_at, same_from_push, drop-take, take_min}
 use Rattle.std.proofs.Math.Seq.{get_or-append_seam}
-use Rattle.ip_filter.specs.Formula.{Formula, single, negation, both, either, truth, negated}
+use Rattle.ip_filter.specs.Formula.{Formula, single, negation, both, either, truth, negated, terms_of}
 use Rattle.ip_filter.specs.Tests.{frame_meets, meets}
 use Rattle.ip_filter.specs.Program.{led_to, passes, tests_of, frame_holds}
-use Rattle.ip_filter.specs.Compiled.{terms_of, terms_of_all, joined_by, Decide, AreCompiled, HasCompiled, index_moved, redirected, redirected_from}
+use Rattle.ip_filter.specs.Compiled.{terms_of_all, joined_by, Decide, AreCompiled, HasCompiled, index_moved, redirected, redirected_from}
 use Rattle.ip_filter.specs.declared.filter.Test.{Test}
 use Rattle.ip_filter.specs.declared.filter.Filter.{Filter}
 use Rattle.ip_filter.specs.declared.term.Term.{Term}

@@ -4,15 +4,15 @@ use Rattle.std.specs.Prelude.{Option}
 use Rattle.std.specs.Option.{option_map_or}
 use Rattle.ip_spec.proofs.Common.{◌≡◌, ◌+◌, ◌≤◌, List, [], ◌∷◌, refl, arith}
 use Rattle.ip_filter.specs.Words.{Word}
-use Rattle.ip_filter.specs.Formula.{Formula}
-use Rattle.ip_filter.specs.Grammar.{Operand, Conjunction, Disjunction, a_term, a_negation, a_group, an_operand, an_and, a_conjunction, an_or, operand_formula, conjunction_formula, formula_of, operand_terms, conjunction_terms, terms_in}
-use Rattle.ip_filter.specs.Compiled.{terms_of, terms_of_all}
+use Rattle.ip_filter.specs.Formula.{Formula, terms_of}
+use Rattle.ip_filter.specs.Grammar.{Operand, Conjunction, Disjunction, a_primitive, a_negation, a_group, an_operand, an_and, a_conjunction, an_or, operand_formula, conjunction_formula, formula_of, operand_terms, conjunction_terms, terms_in}
+use Rattle.ip_filter.specs.Compiled.{terms_of_all}
 use Rattle.ip_filter.specs.Parsing.{Open, after, group_terms, or_formulas, and_formulas, group_formulas, state_formulas, state_terms}
 use Rattle.ip_filter.proofs.CompileLemmas.{some_terms}
 
 mutual
   pub operand_count : (u : Operand) → terms_of (operand_formula u) ≡ operand_terms u
-  operand_count (a_term w us t) = refl
+  operand_count (a_primitive w us p) = refl
   operand_count (a_negation w u) = operand_count u
   operand_count (a_group d) = filter_count d
 

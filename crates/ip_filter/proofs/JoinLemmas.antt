@@ -4,11 +4,11 @@ use Rattle.ip_spec.proofs.Common.{◌≡◌, ℕ, ◌+◌, ◌-◌, ◌<◌, ◌
 use Rattle.std.proofs.lemmas.List.{drop_at, drop-take}
 use borrow.Rule.Slice.PartMut.{mid_of, put_mid, post_of}
 use Rattle.ip_dissect.specs.Dissection.{dissected}
-use Rattle.ip_filter.specs.Formula.{Formula, truth}
+use Rattle.ip_filter.specs.Formula.{Formula, truth, terms_of}
 use Rattle.ip_filter.specs.Flags.{any_flag}
 use Rattle.ip_filter.specs.Tests.{frame_meets, meets}
 use Rattle.ip_filter.specs.Program.{led_to, frame_holds}
-use Rattle.ip_filter.specs.Compiled.{terms_of, terms_of_all, joined_by, decided, led_by, Decide, AreCompiled, index_moved, redirected, index_shifted, shifted, put_first}
+use Rattle.ip_filter.specs.Compiled.{terms_of_all, joined_by, decided, led_by, Decide, AreCompiled, index_moved, redirected, index_shifted, shifted, put_first}
 use Rattle.ip_filter.specs.declared.filter.Test.{Test}
 use Rattle.std.proofs.Math.Seq.{get_or-append_seam}
 use Rattle.ip_filter.proofs.ProgramLemmas.{past_all}

@@ -9,7 +9,8 @@ mod NetworkTextLemmas
 mod AfterLemmas
 mod PlaceLemmas
 mod TermLemmas
-mod SideLemmas
+mod QualifierLemmas
+mod PrimitiveLemmas
 mod OperandLemmas
 mod CountLemmas
 mod MoveLemmas

@@ -1,28 +1,32 @@
 -- What a word leads to.
 use Rattle.std.proofs.Common.{Some, None, is_some, IsTrue, codes}
+use Rattle.std.specs.Prelude.{Option}
 use Rattle.std.specs.Option.{option_map_or}
 use Rattle.std.specs.Str.{bytes_eq}
-use Rattle.ip_spec.proofs.Common.{◌≡◌, ℕ, ◌+◌, ◌-◌, ◌<◌, ◌≤◌, ◌^◌, min, List, [], ◌∷◌, ◌++◌, length, take, drop, refl, sym, ap, ◌∙◌, subst, arith, true, false, false≢true, append_assoc, length-append}
+use Rattle.ip_spec.proofs.Common.{◌≡◌, ℕ, ◌+◌, ◌-◌, ◌<◌, ◌≤◌, ◌^◌, min, List, [], ◌∷◌, ◌++◌, length, take, drop, refl, sym, ap, ◌∙◌, subst, arith, true, false, inl, inr, false≢true, append_assoc, length-append}
 use Rattle.ip_filter.specs.declared.words.Word.{Word as FirstWord}
 use Rattle.ip_filter.specs.declared.builder.Builder.{Builder}
 use Rattle.ip_filter.specs.declared.parse_error.Expected.{Expected}
 use Rattle.ip_filter.specs.declared.parse_error.Expected.TheVariants as expects
-use Rattle.ip_filter.specs.declared.term.Term.{Term}
 use Rattle.ip_filter.specs.declared.keyword.Keyword.{Keyword}
+use Rattle.ip_filter.specs.declared.qualifiers.Qualifiers.{Qualifiers}
+use Rattle.ip_filter.specs.declared.qualifiers.Primitive.{Primitive}
 use Rattle.ip_filter.specs.Words.{Word, words}
-use Rattle.ip_filter.specs.Grammar.{Operand, Disjunction, Conjunction, a_term, keyword_of, AreArguments, IsTerm, is_not, filter_words, conjunction_words}
-use Rattle.ip_filter.specs.Reading.{IsPlace, IsFirstWord, ReadsTerm, RefusesTerm, ends_term}
-use Rattle.ip_filter.specs.Parsing.{Open, State, before, nothing_open, Moves, by_not, by_open, by_term, may_follow, LeadsTo, with_operand, open_terms, group_terms, group_words, open_words, CountsFit, Holds, HoldsOperand, ReadsOn, RefusesFrom, level_of, levels_of, group_formulas, state_terms}
+use Rattle.ip_filter.specs.Grammar.{Operand, Disjunction, Conjunction, a_primitive, keyword_of, IsPrimitive, is_not, filter_words, conjunction_words}
+use Rattle.ip_filter.specs.Reading.{IsPlace, IsFirstWord, ReadsPrimitive, RefusesPrimitive, IsDueIn, ends_term}
+use Rattle.ip_filter.specs.Parsing.{Open, State, before, nothing_open, Moves, by_not, by_open, by_primitive, may_follow, LeadsTo, with_operand, group_leaves, IsDue, open_terms, group_terms, group_words, open_words, CountsFit, Holds, HoldsOperand, ReadsOn, RefusesFrom, level_of, levels_of, group_formulas, state_terms}
 use Rattle.arrayvec.specs.declared.array_vec.ArrayVec.{ArrayVec}
 use Rattle.ip_filter.specs.declared.builder.Level.{Level}
 use Rattle.ip_filter.specs.declared.compile.Compiler.{Compiler}
-use Rattle.ip_filter.specs.Formula.{Formula, single}
+use Rattle.ip_filter.specs.Formula.{Formula, terms_of}
+use Rattle.ip_filter.specs.Qualifiers.{qualifiers_at, says}
 use Rattle.ip_filter.specs.Compiled.{terms_of_all, HasCompiled}
 use Rattle.ip_filter.proofs.OperandLemmas.{joined_terms}
 use Rattle.ip_filter.proofs.CountLemmas.{group_count}
-use Rattle.ip_filter.proofs.LeadLemmas.{can_end, term_ends, argument_is_due}
+use Rattle.ip_filter.proofs.LeadLemmas.{can_end, primitive_ends}
+use Rattle.ip_filter.proofs.PrimitiveLemmas.{identifier_no_not, identifier_no_open}
 use Rattle.ip_filter.proofs.WordLemmas.{same_word, either_word}
-use Rattle.ip_filter.proofs.PlaceLemmas.{end_of_end, place_in_end, from_place}
+use Rattle.ip_filter.proofs.PlaceLemmas.{place_in_end}
 
 -- no keyword is a word `not` or a parenthesis
 keyword_not : (w : Word) (k : Keyword) → keyword_of w ≡ Some k → is_not w ≡ true → ⊥
@@ -31,6 +35,24 @@ keyword_not w k is n = cc (sym is ∙ either_word (λ x. keyword_of x ≡ None) 
 keyword_open : (w : Word) (k : Keyword) → keyword_of w ≡ Some k → bytes_eq w (codes "(") ≡ true → ⊥
 keyword_open w k is o = cc (sym is ∙ ap keyword_of (same_word w (codes "(") o))
 
+primitive_not : (x : Option Qualifiers) (w : Word) (us : List Word) (p : Primitive) → IsPrimitive x w us p → is_not w ≡ true → ⊥
+primitive_not x w us p is n = elim is [
+  | inl t ↦ keyword_not w t.1.0 t.1.1 n
+  | inr others ↦ elim others [
+    | inl y ↦ let none = either_word (λ v. qualifiers_at (v ∷ us) ≡ None) w (codes "not") (codes "!") n refl refl in cc (sym y.3 ∙ none)
+    | inr c ↦ false≢true (sym (identifier_no_not w c.4) ∙ n)
+  ]
+]
+
+primitive_open : (x : Option Qualifiers) (w : Word) (us : List Word) (p : Primitive) → IsPrimitive x w us p → bytes_eq w (codes "(") ≡ true → ⊥
+primitive_open x w us p is o = elim is [
+  | inl t ↦ keyword_open w t.1.0 t.1.1 o
+  | inr others ↦ elim others [
+    | inl y ↦ let none = ap (λ v. qualifiers_at (v ∷ us)) (same_word w (codes "(") o) in cc (sym y.3 ∙ none)
+    | inr c ↦ false≢true (sym (identifier_no_open w c.4) ∙ o)
+  ]
+]
+
 module _ (fs : List Open) (f : Open) (w : Word) where
   -- ---- what may precede an operand
 
@@ -38,25 +60,22 @@ module _ (fs : List Open) (f : Open) (w : Word) where
       → (t ≡ before fs (record f { nots = f.nots ++ w ∷ [] })) × (vs ≡ w ∷ [])
   only_not t vs ws more n (by_not gs g v p) e = (cc e, cc e)
   only_not t vs ws more n (by_open gs g few) e = let same : codes "(" ≡ w = cc e in absurd (cc (ap is_not same))
-  only_not t vs ws more n (by_term gs g v us u is) e = let same : v ≡ w = cc e in absurd (keyword_not v is.0 is.1 (ap is_not same ∙ n))
+  only_not t vs ws more n (by_primitive gs g v us p is few) e = let same : v ≡ w = cc e in absurd (primitive_not _ v us p is (ap is_not same ∙ n))
 
   only_open : (t : State) (vs ws more : List Word) → bytes_eq w (codes "(") ≡ true → Moves (before fs f) vs t → vs ++ more ≡ w ∷ ws
       → (t ≡ before (f ∷ fs) nothing_open) × (vs ≡ codes "(" ∷ []) × (length fs < 16)
   only_open t vs ws more o (by_not gs g v p) e = absurd (cc (ap is_not (same_word w (codes "(") o)))
   only_open t vs ws more o (by_open gs g few) e = (refl, refl, few)
-  only_open t vs ws more o (by_term gs g v us u is) e = let same : v ≡ w = cc e in absurd (keyword_open v is.0 is.1 (ap (λ x. bytes_eq x (codes "(")) same ∙ o))
+  only_open t vs ws more o (by_primitive gs g v us p is few) e = let same : v ≡ w = cc e in absurd (primitive_open _ v us p is (ap (λ x. bytes_eq x (codes "(")) same ∙ o))
 
-  -- ---- a term
+  -- ---- a primitive
 
-  only_term : (t : State) (vs ws more : List Word) → is_not w ≡ false → bytes_eq w (codes "(") ≡ false → Moves (before fs f) vs t → may_follow t more → vs ++ more ≡ w ∷ ws
-      → (u : Term) × (us : List Word) × (t ≡ with_operand fs f (a_term w us u)) × (vs ≡ w ∷ us) × IsTerm w us u
-      × IsTrue (ends_term more) × (us ++ more ≡ ws)
-  only_term t vs ws more n o (by_not gs g v p) may e = absurd (cc n)
-  only_term t vs ws more n o (by_open gs g few) may e = let same : w ≡ codes "(" = cc e in absurd (cc (ap (λ x. bytes_eq x (codes "(")) same))
-  only_term t vs ws more n o (by_term gs g v us u is) may e =
-      let same : v ≡ w = cc e in
-      let rest : us ++ more ≡ ws = cc e in
-      (u, us, ap (λ x. with_operand fs f (a_term x us u)) same, ap (λ x. x ∷ us) same, subst (λ x. IsTerm x us u) same is, may, rest)
+  only_primitive : (t : State) (vs more tail : List Word) → is_not w ≡ false → bytes_eq w (codes "(") ≡ false → Moves (before fs f) vs t → may_follow t more → vs ++ more ≡ w ∷ tail
+      → (p : Primitive) × (v : Word) × (us : List Word) × (t ≡ with_operand fs f (a_primitive v us p)) × (vs ≡ v ∷ us) × IsPrimitive (group_leaves (f ∷ fs)) v us p
+      × IsTrue (ends_term more) × (state_terms (before fs f) + terms_of (says p) ≤ 64)
+  only_primitive t vs more tail n o (by_not gs g v q) may e = absurd (cc n)
+  only_primitive t vs more tail n o (by_open gs g few) may e = let same : w ≡ codes "(" = cc e in absurd (cc (ap (λ x. bytes_eq x (codes "(")) same))
+  only_primitive t vs more tail n o (by_primitive gs g v us p is few) may e = (p, v, us, refl, refl, is, may, few)
 
 pub level_count : (fs : List Open) → length (levels_of fs) ≡ length fs
 level_count [] = refl
@@ -89,7 +108,7 @@ module _ (text : List ℕ) (w : FirstWord) (is : IsFirstWord text w) where
 module _ (b : Builder) (w : FirstWord) where
   pub not_read : (r : ℕ) → is_not w.bytes.now ≡ true → r ≡ min (b.level.nots + 1) 18446744073709551615 → (text : List ℕ) (fs : List Open) (f : Open) → IsFirstWord text w
       → Holds (before fs f) b → CountsFit (before fs f)
-      → ReadsOn (before fs f) text w.rest.now (record { compiler = b.compiler; terms = b.terms; outer = b.outer; level = record { nots = r; or_waits = b.level.or_waits; and_waits = b.level.and_waits }; has_operand = b.has_operand })
+      → ReadsOn (before fs f) text w.rest.now (record { compiler = b.compiler; terms = b.terms; outer = b.outer; level = record { nots = r; or_waits = b.level.or_waits; and_waits = b.level.and_waits }; has_operand = b.has_operand; leaves = b.leaves })
   not_read r n sum text fs f is h fits =
       let word = w.bytes.now in
       let more : Open = record f { nots = f.nots ++ word ∷ [] } in
@@ -109,6 +128,7 @@ module _ (b : Builder) (w : FirstWord) where
           outer = h.outer;
           level = ap (λ l. record { nots = r; or_waits = l.or_waits; and_waits = l.and_waits }) h.level ∙ ap (λ k. record { nots = k; or_waits = is_some f.or_left; and_waits = is_some f.and_left }) nots;
           operand = h.operand;
+          leaves = h.leaves;
         };
         only = λ t vs ws more m may e next. only_not fs f word t vs ws more n m e;
       }
@@ -116,7 +136,7 @@ module _ (b : Builder) (w : FirstWord) where
   pub open_read : (outer : ArrayVec Level 16 (Unit {0})) (level : Level) → bytes_eq w.bytes.now (codes "(") ≡ true → outer.items ≡ b.outer.items ++ b.level ∷ []
       → level ≡ record { nots = 0; or_waits = false; and_waits = false } → length b.outer.items < 16 → (text : List ℕ) (fs : List Open) (f : Open) → IsFirstWord text w
       → Holds (before fs f) b → CountsFit (before fs f)
-      → ReadsOn (before fs f) text w.rest.now (record { compiler = b.compiler; terms = b.terms; outer = outer; level = level; has_operand = b.has_operand })
+      → ReadsOn (before fs f) text w.rest.now (record { compiler = b.compiler; terms = b.terms; outer = outer; level = level; has_operand = b.has_operand; leaves = b.leaves })
   open_read outer level o pushed empty room text fs f is h fits =
       let same = same_word w.bytes.now (codes "(") o in
       let few : length fs < 16 = omega (arith, room, ap length h.outer, level_count fs) in
@@ -132,6 +152,7 @@ module _ (b : Builder) (w : FirstWord) where
           outer = pushed ∙ ap (λ ls. ls ++ b.level ∷ []) h.outer ∙ ap (λ l. levels_of fs ++ l ∷ []) h.level;
           level = empty;
           operand = h.operand;
+          leaves = h.leaves;
         };
         only = λ t vs ws more m may e next. let found = only_open fs f w.bytes.now t vs ws more o m (e ∙ ap (λ x. x ∷ ws) (sym same)) in (found.0, found.1);
       }
@@ -151,71 +172,79 @@ module _ (b : Builder) (w : FirstWord) where
   }
 
   module _ (n : is_not w.bytes.now ≡ false) (o : bytes_eq w.bytes.now (codes "(") ≡ false) where
-    -- a word is one keyword
-    arguments_of : (k : Keyword) → Some k ≡ keyword_of w.bytes.now → (us : List Word) (u : Term) → IsTerm w.bytes.now us u → AreArguments k us u
-    arguments_of k named us u is = let same : is.0 ≡ k = cc (named ∙ is.1) in subst (λ x. AreArguments x us u) same is.2
+    pub primitive_refused : (left : ℕ) (e : Expected) → ((text : List ℕ) → IsFirstWord text w → bytes_eq w.bytes.now (codes "(") ≡ false → RefusesPrimitive b.leaves b.terms text left e)
+        → (text : List ℕ) (fs : List Open) (f : Open) → IsFirstWord text w → Holds (before fs f) b → RefusesFrom (before fs f) text left e
+    primitive_refused left e refuse text fs f is h =
+        let r : RefusesPrimitive (group_leaves (f ∷ fs)) b.terms text left e = subst (λ x. RefusesPrimitive x b.terms text left e) h.leaves (refuse text is o) in
+        let terms = h.terms in
+        record {
+          front = r.front;
+          place = r.place;
+          begins = λ room.
+              let g = r.begins (omega (arith, room, terms)) in
+              let small = g.5 in
+              let more = primitive_ends fs f g.0 g.1 g.3 g.4 (omega (arith, small, terms)) in
+              (more.0, g.2 ++ more.1, subst (λ ws. LeadsTo (before fs f) ws more.0) (ap (λ ws. ws ++ more.1) g.6 ∙ append_assoc r.front g.2 more.1) more.2);
+          expected = due fs f r.front _ e r.expected;
+          none = λ t vs ws more m may same next.
+              let at : words text ≡ r.front ++ words (drop (length text - left) text) = r.place.words_before in
+              let first : (tail : List Word) × (r.front ++ ws ≡ w.bytes.now ∷ tail) = begin_alike r.front ws (words (drop (length text - left) text)) next w.bytes.now (words w.rest.now) (sym at ∙ is.begins) in
+              let found = only_primitive fs f w.bytes.now t vs more first.0 n o m may (same ∙ first.1) in
+              let small = found.7 in
+              r.none found.0 found.1 found.2 ws more found.5 (omega (arith, small, terms)) found.6 (sym (ap (λ us. us ++ more) found.4) ∙ same) next;
+        } where
+          due : (fs : List Open) (f : Open) (front next : List Word) (e : Expected) → IsDueIn (group_leaves (f ∷ fs)) front next e → IsDue (before fs f) front next e
+          due fs f front next expects.Operand d = (tt, d.0, d.1)
+          due fs f front next expects.FewerTerms d = inr d
+          due fs f front next expects.LessNesting d = absurd d
+          due fs f front next expects.OperatorOrEnd d = absurd d
+          due fs f front next expects.OperatorOrClose d = absurd d
+          due fs f front next e d = d
 
-    pub no_term : None ≡ keyword_of w.bytes.now → (text : List ℕ) (fs : List Open) (f : Open) → IsFirstWord text w → Holds (before fs f) b
-        → RefusesFrom (before fs f) text w.left expects.Operand
-    no_term none text fs f is h = record {
-      front = [];
-      place = is.place;
-      begins = can_end (before fs f);
-      none = λ t vs ws more m may e next.
-          let here = at_word text w is ws vs more next e in
-          let found = only_term fs f w.bytes.now t vs here.0 more n o m may here.1 in
-          let is = found.4 in cc (none ∙ is.1);
-      expected = (tt, refl, λ e. let same : w.bytes.now ≡ codes "(" = cc (sym (next_word text w is) ∙ e) in false≢true (sym o ∙ ap (λ x. bytes_eq x (codes "(")) same));
-    }
+          begin_alike : (us vs ws : List Word) → take 1 vs ≡ take 1 ws → (v : Word) (tail : List Word) → us ++ ws ≡ v ∷ tail → (rest : List Word) × (us ++ vs ≡ v ∷ rest)
+          begin_alike [] [] ws e v tail same = absurd (cc (e ∙ ap (take 1) same))
+          begin_alike [] (u ∷ vs) ws e v tail same = let head : u ≡ v = cc (e ∙ ap (take 1) same) in (vs, ap (λ y. y ∷ vs) head)
+          begin_alike (u ∷ us) vs ws e v tail same = let head : u ≡ v = cc same in (us ++ vs, ap (λ y. y ∷ (us ++ vs)) head)
 
-    pub bad_term : (k : Keyword) → Some k ≡ keyword_of w.bytes.now → (left : ℕ) (e : Expected) → RefusesTerm k w.rest.now left e → (text : List ℕ) (fs : List Open) (f : Open) → IsFirstWord text w → Holds (before fs f) b
-        → RefusesFrom (before fs f) text left e
-    bad_term k named left e r text fs f is h = record {
-      front = w.bytes.now ∷ r.before;
-      place = later_place text w is r.before left r.place;
-      begins =
-          let b = r.begins in
-          let more = term_ends fs f w.bytes.now (r.before ++ b.1) b.0 (k, sym named, b.2) in
-          (more.0, b.1 ++ more.1, subst (λ ws. LeadsTo (before fs f) ws more.0) (ap (λ ws. w.bytes.now ∷ ws) (append_assoc r.before b.1 more.1)) more.2);
-      expected = argument_is_due (before fs f) (w.bytes.now ∷ r.before) _ e (r.expected w.bytes.now (sym named));
-      none = λ t vs ws more m may same next.
-          let found = only_term fs f w.bytes.now t vs (r.before ++ ws) more n o m may same in
-          r.none found.0 found.1 ws more (arguments_of k named found.1 found.0 found.4) found.5 found.6 (next ∙ ap (λ s. take 1 (words s)) (sym (from_place text w.rest.now is.end left r.place.within)));
-    }
-
-    -- the formula of the term is the last one
-    term_holds : (compiler : Compiler) (count : ℕ) (us : List Word) (t : Term) (fs : List Open) (f : Open) → Holds (before fs f) b → count ≡ b.terms + 1
-        → HasCompiled (single t ∷ group_formulas (f ∷ fs)) compiler
-        → HoldsOperand fs f (a_term w.bytes.now us t) (record { compiler = compiler; terms = count; outer = b.outer; level = b.level; has_operand = b.has_operand })
-    term_holds compiler count us t fs f h sum made = record {
-      compiled = made;
-      terms = sum ∙ ap (λ k. k + 1) h.terms;
-      outer = h.outer;
-      level = h.level;
-    }
-
-    pub term_read : (k : Keyword) → Some k ≡ keyword_of w.bytes.now → (compiler : Compiler) (count : ℕ) (t : Term) (rest : List ℕ) (new : Builder) → ReadsTerm k w.rest.now t rest → count ≡ min (b.terms + 1) 18446744073709551615
-        → ((gs : List Formula) → terms_of_all (single t ∷ gs) ≤ 64 → HasCompiled gs b.compiler → HasCompiled (single t ∷ gs) compiler)
-        → ((fs : List Open) (f : Open) (u : Operand) → HoldsOperand fs f u (record { compiler = compiler; terms = count; outer = b.outer; level = b.level; has_operand = b.has_operand })
-        → state_terms (with_operand fs f u) ≤ 64 → Holds (with_operand fs f u) new)
+    pub primitive_read : (p : Primitive) (rest : List ℕ) (added new : Builder) → ((text : List ℕ) → IsFirstWord text w → ReadsPrimitive b.leaves b.terms text p rest)
+        → ((fs : List Open) (f : Open) (v : Word) (us : List Word) → Holds (before fs f) b → state_terms (with_operand fs f (a_primitive v us p)) ≤ 64 → HoldsOperand fs f (a_primitive v us p) added)
+        → ((fs : List Open) (f : Open) (u : Operand) → HoldsOperand fs f u added → state_terms (with_operand fs f u) ≤ 64 → Holds (with_operand fs f u) new)
         → (text : List ℕ) (fs : List Open) (f : Open) → IsFirstWord text w → Holds (before fs f) b → CountsFit (before fs f) → ReadsOn (before fs f) text rest new
-    term_read k named compiler count t rest new r sum add done text fs f is h fits =
-        let u = a_term w.bytes.now r.args t in
+    primitive_read p rest added new read add done text fs f is h fits =
+        let r : ReadsPrimitive (group_leaves (f ∷ fs)) b.terms text p rest = subst (λ x. ReadsPrimitive x b.terms text p rest) h.leaves (read text is) in
+        let u = a_primitive r.word r.args p in
         let terms = h.terms in
         let few = fits.terms in
-        let made = add (group_formulas (f ∷ fs)) (omega (arith, few, group_count (f ∷ fs))) h.compiled in
-        let enough : state_terms (with_operand fs f u) ≤ 64 = omega (arith, few, joined_terms f.nots u f.and_left) in
+        let small = r.few (omega (arith, few, terms)) in
+        let word : r.word ≡ w.bytes.now = cc (sym r.begins ∙ is.begins) in
+        let enough : state_terms (with_operand fs f u) ≤ 64 = omega (arith, small, terms, joined_terms f.nots u f.and_left) in
         record {
           next = with_operand fs f u;
-          us = w.bytes.now ∷ r.args;
-          moves = by_term fs f w.bytes.now r.args t (k, sym named, r.arguments);
-          begins = is.begins ∙ ap (λ ws. w.bytes.now ∷ ws) r.begins;
-          end = end_of_end text w.rest.now is.end rest r.end;
-          holds = done fs f u (term_holds compiler count r.args t fs f h (omega (arith, sum, few, terms)) made) enough;
+          us = r.word ∷ r.args;
+          moves = by_primitive fs f r.word r.args p r.is (omega (arith, small, terms));
+          begins = r.begins;
+          end = r.end;
+          holds = done fs f u (add fs f r.word r.args h enough) enough;
           only = λ s vs ws more m may e next.
-              let found = only_term fs f w.bytes.now s vs (r.args ++ ws) more n o m may e in
-              let same = r.only found.0 found.1 ws more (arguments_of k named found.1 found.0 found.4) found.5 found.6 next in (
-                found.2 ∙ ap (λ x. with_operand fs f (a_term w.bytes.now found.1 x)) same.0 ∙ ap (λ x. with_operand fs f (a_term w.bytes.now x t)) same.1,
-                found.3 ∙ ap (λ x. w.bytes.now ∷ x) same.1,
+              let found = only_primitive fs f w.bytes.now s vs more (r.args ++ ws) n o m may (e ∙ ap (λ y. y ∷ (r.args ++ ws)) word) in
+              let one = r.only found.0 found.1 found.2 ws more found.5 found.6 (sym (ap (λ us. us ++ more) found.4) ∙ e) next in (
+                found.3 ∙ ap (λ y. with_operand fs f (a_primitive y found.2 found.0)) one.0 ∙ ap (λ us. with_operand fs f (a_primitive r.word us found.0)) one.1
+                    ∙ ap (λ q. with_operand fs f (a_primitive r.word r.args q)) one.2,
+                found.4 ∙ ap (λ y. y ∷ found.2) one.0 ∙ ap (λ us. r.word ∷ us) one.1,
               );
         }
+
+pub primitive_added : (b : Builder) (p : Primitive) (compiler : Compiler) (count k : ℕ) → ((gs : List Formula) → terms_of_all (says p ∷ gs) ≤ 64 → HasCompiled gs b.compiler → HasCompiled (says p ∷ gs) compiler)
+    → count ≡ min (b.terms + k) 18446744073709551615 → k ≡ terms_of (says p) → (fs : List Open) (f : Open) (w : Word) (us : List Word) → Holds (before fs f) b
+    → state_terms (with_operand fs f (a_primitive w us p)) ≤ 64
+    → HoldsOperand fs f (a_primitive w us p) (record { compiler = compiler; terms = count; outer = b.outer; level = b.level; has_operand = b.has_operand; leaves = p.leaves })
+primitive_added b p compiler count k add sum terms fs f w us h few =
+    let before_it = h.terms in
+    let all = joined_terms f.nots (a_primitive w us p) f.and_left in
+    record {
+      compiled = add (group_formulas (f ∷ fs)) (omega (arith, few, all, group_count (f ∷ fs))) h.compiled;
+      terms = omega (arith, sum, terms, before_it, few, all);
+      outer = h.outer;
+      level = h.level;
+      leaves = refl;
+    }

@@ -1,17 +1,14 @@
 -- Networks, as text writes them.
-use Rattle.std.proofs.Common.{Some, None, codes, decimal}
-use Rattle.std.proofs.lemmas.Fmt.{decimal_digit, decimal_is_IsNumeral}
+use Rattle.std.proofs.Common.{Some, None, codes}
+use Rattle.std.proofs.lemmas.Fmt.{decimal_digit}
 use Rattle.std.proofs.NetLemmas.Ipv6.{IsDotted-not_colon_hex}
 use Rattle.std.proofs.NetLemmas.Theorems.{IsIpv4Text_unique, IsIpv6Text_unique}
 use Rattle.std.specs.Net.Addr.{ipv4_bits, ipv6_bits}
-use Rattle.std.specs.Prelude.{Option, slice_index}
-use Rattle.std.specs.Char.{digit_value}
-use Rattle.std.specs.Str.Parse.{IsNumeral}
-use Rattle.std.specs.Net.Text.{dotted_text}
-use Rattle.std.specs.Net.Grammar.{IsIpv4Text, IsIpv6Text, IsDotted, IsGroups}
+use Rattle.std.specs.Prelude.{Option}
+use Rattle.std.specs.Net.Grammar.{IsIpv4Text, IsIpv6Text}
 use Rattle.std.specs.declared.net.ipv4_addr.Ipv4Addr.{Ipv4Addr}
 use Rattle.std.specs.declared.net.ipv6_addr.Ipv6Addr.{Ipv6Addr}
-use Rattle.ip_spec.proofs.Common.{◌≡◌, ℕ, ◌≤◌, ◌-◌, List, [], ◌∷◌, ◌++◌, length, take, drop, refl, sym, ap, ◌∙◌, arith, true, inl, inr, take_rest, append_assoc}
+use Rattle.ip_spec.proofs.Common.{◌≡◌, ℕ, ◌≤◌, ◌-◌, List, [], ◌∷◌, ◌++◌, length, take, drop, refl, sym, ap, ◌∙◌, arith, take_rest}
 use Rattle.ip_filter.specs.Numbers.{slash_index, prefix_bits, IsNetworkText, IsHostText}
 use Rattle.ip_filter.specs.declared.network.Network.{Network}
 use Rattle.ip_filter.specs.declared.network.Network.TheVariants as network
@@ -35,7 +32,7 @@ module _ (w : List ℕ) (i : ℕ) (at : i ≡ slash_index w) where
   no_ipv6_len (network.Ipv6 address len) is none4 none = cc (none ∙ bits_after 128 ∙ is.3)
 
 -- some word writes a network
-pub some_network : (w : List ℕ) × (n : Network) × IsNetworkText w n
+unfoldable pub some_network : (w : List ℕ) × (n : Network) × IsNetworkText w n
 some_network =
     let a : Ipv4Addr = record { octets = 0 ∷ 0 ∷ 0 ∷ 0 ∷ [] } in
     let text : IsIpv4Text (codes "0.0.0.0") a = record {
@@ -49,7 +46,7 @@ some_network =
     } in
     (codes "0.0.0.0", network.Ipv4 (ipv4_bits a) 32, (a, text, refl, refl))
 
-pub some_host : (w : List ℕ) × (n : Network) × IsHostText w n
+unfoldable pub some_host : (w : List ℕ) × (n : Network) × IsHostText w n
 unfolding some_network
 some_host =
     let few : length (codes "0.0.0.0") ≤ slash_index (codes "0.0.0.0") = omega arith in
@@ -72,46 +69,3 @@ one_network w (network.Ipv6 a j) (network.Ipv6 b k) p q =
     let address : a ≡ b = p.2 ∙ ap ipv6_bits same ∙ sym q.2 in
     let len : j ≡ k = same_bits _ _ j k refl p.3 q.3 in
     cc
-
--- ---- the word `port` writes no network
-
-none_in_nothing : (h t : List ℕ) → [] ≡ h ++ codes "::" ++ t → ⊥
-none_in_nothing [] t e = omega (arith, ap length e)
-none_in_nothing (a ∷ h) t e = omega (arith, ap length e)
-
-no_colons : (h t : List ℕ) → codes "port" ≡ h ++ codes "::" ++ t → ⊥
-no_colons [] t e = omega (arith, ap (λ s. slice_index s 0) e)
-no_colons (a ∷ []) t e = omega (arith, ap (λ s. slice_index s 1) e)
-no_colons (a ∷ b ∷ []) t e = omega (arith, ap (λ s. slice_index s 2) e)
-no_colons (a ∷ b ∷ c ∷ []) t e = omega (arith, ap (λ s. slice_index s 3) e)
-no_colons (a ∷ b ∷ c ∷ d ∷ h) t e = none_in_nothing h t (ap (drop 4) e)
-
--- it doesn't begin with a digit
-no_numeral : (radix : ℕ) (digits rest : List ℕ) → radix ≤ 16 → codes "port" ≡ digits ++ rest → IsNumeral radix digits → ⊥
-no_numeral radix [] rest few e is = let some = is.0 in omega (arith, some)
-no_numeral radix (c ∷ digits) rest few e is =
-    let p : c ≡ 112 = sym (ap (λ s. slice_index s 0) e) in
-    let small = is.1.0 in
-    let value : digit_value c ≡ 25 = ap digit_value p in
-    omega (arith, few, small, value)
-
-not_dotted : (text octets : List ℕ) → codes "port" ≡ text → IsDotted text octets → ⊥
-not_dotted text octets same is =
-    let fit = is.fit.0 in
-    let rest = codes "." ++ (decimal is.b ++ (codes "." ++ (decimal is.c ++ (codes "." ++ decimal is.d)))) in
-    let regroup : dotted_text is.a is.b is.c is.d ≡ decimal is.a ++ rest = simp append_assoc in
-    no_numeral 10 (decimal is.a) rest (omega arith) (same ∙ is.spelled ∙ regroup) (decimal_is_IsNumeral is.a (omega (arith, fit))).0
-
-not_groups : (segments : List ℕ) → IsGroups true (codes "port") segments → length segments ≡ 8 → ⊥
-not_groups [] is many = omega (arith, many)
-not_groups (s ∷ segments) is many = elim is [
-  | inl group ↦ no_numeral 16 group.0 group.1 (omega arith) group.2 group.3.0.0
-  | inr last ↦ not_dotted last.0 last.1 last.3 last.4
-]
-
-pub port_is_no_network : (n : Network) → IsNetworkText (codes "port") n → ⊥
-port_is_no_network (network.Ipv4 address len) is = not_dotted _ _ refl is.1
-port_is_no_network (network.Ipv6 address len) is = elim is.1 [
-  | inl groups ↦ not_groups _ groups.0 groups.1
-  | inr elided ↦ no_colons elided.head_text elided.tail_text elided.spelled
-]

@@ -6,9 +6,9 @@ use Rattle.ip_spec.proofs.Common.{◌≡◌, ◌+◌, ◌≤◌, List, [], ◌�
 use Rattle.ip_filter.specs.declared.builder.Builder.{Builder}
 use Rattle.ip_filter.specs.declared.compile.Compiler.{Compiler}
 use Rattle.ip_filter.specs.Words.{Word}
-use Rattle.ip_filter.specs.Formula.{Formula, negation, negated, both}
-use Rattle.ip_filter.specs.Grammar.{Operand, Conjunction, operand_terms, conjunction_terms, operand_formula, conjunction_formula}
-use Rattle.ip_filter.specs.Compiled.{terms_of, terms_of_all, HasCompiled}
+use Rattle.ip_filter.specs.Formula.{Formula, negation, negated, both, either, terms_of}
+use Rattle.ip_filter.specs.Grammar.{Operand, Conjunction, operand_terms, conjunction_terms, operand_formula, conjunction_formula, operand_leaves, conjunction_leaves}
+use Rattle.ip_filter.specs.Compiled.{terms_of_all, HasCompiled}
 use Rattle.ip_filter.specs.Parsing.{Open, negate, and_joined, with_operand, or_formulas, and_formulas, group_formulas, state_terms, Holds, HoldsOperand}
 use Rattle.ip_filter.proofs.CountLemmas.{operand_count, group_count, after_count}
 
@@ -21,6 +21,14 @@ negate_formula (w ∷ ws) u = ap negation (negate_formula ws u)
 negate_terms : (ns : List Word) (u : Operand) → operand_terms (negate ns u) ≡ operand_terms u
 negate_terms [] u = refl
 negate_terms (w ∷ ws) u = negate_terms ws u
+
+negate_leaves : (ns : List Word) (u : Operand) → operand_leaves (negate ns u) ≡ operand_leaves u
+negate_leaves [] u = refl
+negate_leaves (w ∷ ws) u = negate_leaves ws u
+
+joined_leaves : (a : Option (Conjunction × Word)) (u : Operand) → conjunction_leaves (and_joined a u) ≡ operand_leaves u
+joined_leaves None u = refl
+joined_leaves (Some p) u = refl
 
 pub joined_terms : (ns : List Word) (u : Operand) (a : Option (Conjunction × Word))
     → option_map_or (λ p. conjunction_terms p.0) a 0 + operand_terms u ≡ conjunction_terms (and_joined a (negate ns u))
@@ -48,7 +56,7 @@ pub operand_ended : (b : Builder) (mid new : Compiler)
     → ((g : Formula) (gs : List Formula) → terms_of g + terms_of_all gs ≤ 64 → HasCompiled (g ∷ gs) b.compiler → HasCompiled (negated b.level.nots g ∷ gs) mid)
     → JoinsAnd b.level.and_waits mid new
     → (fs : List Open) (f : Open) (u : Operand) → HoldsOperand fs f u b → state_terms (with_operand fs f u) ≤ 64
-    → Holds (with_operand fs f u) (record { compiler = new; terms = b.terms; outer = b.outer; level = record { nots = 0; or_waits = b.level.or_waits; and_waits = false }; has_operand = true })
+    → Holds (with_operand fs f u) (record { compiler = new; terms = b.terms; outer = b.outer; level = record { nots = 0; or_waits = b.level.or_waits; and_waits = false }; has_operand = true; leaves = b.leaves })
 operand_ended b mid new negate_it join fs f u h few =
     let all = joined_terms f.nots u f.and_left in
     let terms = h.terms in
@@ -65,4 +73,20 @@ operand_ended b mid new negate_it join fs f u h few =
       outer = h.outer;
       level = ap (λ l. record { nots = 0; or_waits = l.or_waits; and_waits = false }) h.level;
       operand = refl;
+      leaves = h.leaves ∙ sym (joined_leaves f.and_left (negate f.nots u) ∙ negate_leaves f.nots u);
     }
+
+-- ---- the formula of a primitive is appended
+
+abbrev pub Adds : Formula → Compiler → Compiler → Type 0
+Adds f old new = (fs : List Formula) → terms_of_all (f ∷ fs) ≤ 64 → HasCompiled fs old → HasCompiled (f ∷ fs) new
+
+module _ (f g : Formula) (old mid last new : Compiler) (first : Adds f old mid) (second : Adds g mid last) where
+  added : (fs : List Formula) → terms_of_all (g ∷ f ∷ fs) ≤ 64 → HasCompiled fs old → HasCompiled (g ∷ f ∷ fs) last
+  added fs few h = second (f ∷ fs) few (first fs (omega (arith, few)) h)
+
+  pub both_added : ((f g : Formula) (fs : List Formula) → terms_of g + (terms_of f + terms_of_all fs) ≤ 64 → HasCompiled (g ∷ f ∷ fs) last → HasCompiled (both f g ∷ fs) new) → Adds (both f g) old new
+  both_added join fs few h = let small : terms_of_all (g ∷ f ∷ fs) ≤ 64 = omega (arith, few) in join f g fs small (added fs small h)
+
+  pub either_added : ((f g : Formula) (fs : List Formula) → terms_of g + (terms_of f + terms_of_all fs) ≤ 64 → HasCompiled (g ∷ f ∷ fs) last → HasCompiled (either f g ∷ fs) new) → Adds (either f g) old new
+  either_added join fs few h = let small : terms_of_all (g ∷ f ∷ fs) ≤ 64 = omega (arith, few) in join f g fs small (added fs small h)

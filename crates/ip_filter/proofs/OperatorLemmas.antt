@@ -12,9 +12,9 @@ use Rattle.ip_filter.specs.declared.builder.Builder.{Builder}
 use Rattle.ip_filter.specs.declared.builder.Level.{Level}
 use Rattle.ip_filter.specs.declared.compile.Compiler.{Compiler}
 use Rattle.ip_filter.specs.Words.{Word, words}
-use Rattle.ip_filter.specs.Formula.{Formula, either}
-use Rattle.ip_filter.specs.Compiled.{terms_of, terms_of_all, HasCompiled}
-use Rattle.ip_filter.specs.Grammar.{Operand, Conjunction, Disjunction, a_group, conjunction_formula, formula_of, is_and, is_or}
+use Rattle.ip_filter.specs.Formula.{Formula, either, terms_of}
+use Rattle.ip_filter.specs.Compiled.{terms_of_all, HasCompiled}
+use Rattle.ip_filter.specs.Grammar.{Operand, Conjunction, Disjunction, a_group, conjunction_formula, formula_of, conjunction_leaves, leaves_of, is_and, is_or}
 use Rattle.ip_filter.specs.Reading.{IsFirstWord, IsOperator}
 use Rattle.ip_filter.specs.Parsing.{Open, State, before, after, Moves, by_and, by_or, by_close, with_operand, or_joined, or_formulas, group_formulas, state_terms, level_of, levels_of, CountsFit, Holds, HoldsOperand, HoldsGroup, IsFinished, ReadsOn, RefusesFrom, IsWhole, EndsGroup, IsDue}
 use Rattle.ip_filter.proofs.CountLemmas.{filter_count, group_count}
@@ -31,6 +31,10 @@ module _ (w : Word) where
 
   or_no_and : is_or w ≡ true → is_and w ≡ false
   or_no_and o = either_word (λ x. is_and x ≡ false) w (codes "or") (codes "||") o refl refl
+
+joined_leaves : (o : Option (Disjunction × Word)) (c : Conjunction) → leaves_of (or_joined o c) ≡ conjunction_leaves c
+joined_leaves None c = refl
+joined_leaves (Some p) c = refl
 
 -- ---- what the words lead to
 
@@ -107,7 +111,7 @@ may_stop (f ∷ fs) o c = inr tt
 module _ (b : Builder) (w : FirstWord) where
   pub and_read : is_and w.bytes.now ≡ true → b.terms < 64 → (text : List ℕ) (fs : List Open) (o : Option (Disjunction × Word)) (c : Conjunction) → IsFirstWord text w
       → Holds (after fs o c) b → CountsFit (after fs o c)
-      → ReadsOn (after fs o c) text w.rest.now (record { compiler = b.compiler; terms = b.terms; outer = b.outer; level = record { nots = b.level.nots; or_waits = b.level.or_waits; and_waits = true }; has_operand = false })
+      → ReadsOn (after fs o c) text w.rest.now (record { compiler = b.compiler; terms = b.terms; outer = b.outer; level = record { nots = b.level.nots; or_waits = b.level.or_waits; and_waits = true }; has_operand = false; leaves = b.leaves })
   and_read a few text fs o c is h fits =
       let word = w.bytes.now in
       let terms = h.terms in
@@ -123,6 +127,7 @@ module _ (b : Builder) (w : FirstWord) where
           outer = h.outer;
           level = ap (λ l. record { nots = l.nots; or_waits = l.or_waits; and_waits = true }) h.level;
           operand = refl;
+          leaves = h.leaves;
         };
         only = λ t vs ws more m may e next. only_and word fs o c t vs ws more a m e;
       }
@@ -130,7 +135,7 @@ module _ (b : Builder) (w : FirstWord) where
   pub or_read : (compiler : Compiler) → is_or w.bytes.now ≡ true → b.terms < 64 → JoinsOr b.level.or_waits b.compiler compiler
       → (text : List ℕ) (fs : List Open) (o : Option (Disjunction × Word)) (c : Conjunction) → IsFirstWord text w
       → Holds (after fs o c) b → CountsFit (after fs o c)
-      → ReadsOn (after fs o c) text w.rest.now (record { compiler = compiler; terms = b.terms; outer = b.outer; level = record { nots = b.level.nots; or_waits = true; and_waits = b.level.and_waits }; has_operand = false })
+      → ReadsOn (after fs o c) text w.rest.now (record { compiler = compiler; terms = b.terms; outer = b.outer; level = record { nots = b.level.nots; or_waits = true; and_waits = b.level.and_waits }; has_operand = false; leaves = b.leaves })
   or_read compiler a few join text fs o c is h fits =
       let word = w.bytes.now in
       let terms = h.terms in
@@ -148,6 +153,7 @@ module _ (b : Builder) (w : FirstWord) where
           outer = h.outer;
           level = ap (λ l. record { nots = l.nots; or_waits = true; and_waits = l.and_waits }) h.level;
           operand = refl;
+          leaves = h.leaves ∙ sym (joined_leaves o c);
         };
         only = λ t vs ws more m may e next. only_or word fs o c t vs ws more a m e;
       }
@@ -161,7 +167,7 @@ module _ (b : Builder) (w : FirstWord) where
         place = is.place;
         begins = can_end (after fs o c);
         none = λ t vs ws more m may e next. let here = at_word text w is ws vs more next e in joins_nothing w.bytes.now fs o c t vs here.0 more a (omega (arith, full, terms)) m here.1;
-        expected = (may_stop fs o c, refl, (w.bytes.now, next_word text w is, a));
+        expected = inl (may_stop fs o c, refl, (w.bytes.now, next_word text w is, a));
       }
 
   module _ (a : is_and w.bytes.now ≡ false) (r : is_or w.bytes.now ≡ false) where
@@ -193,7 +199,7 @@ module _ (b : Builder) (w : FirstWord) where
 
   pub closed : (outer : ArrayVec Level 16 (Unit {0})) (last : Level) (new : Builder) → bytes_eq w.bytes.now (codes ")") ≡ true → b.outer.items ≡ outer.items ++ last ∷ []
       → ((fs : List Open) (f : Open) (o : Option (Disjunction × Word)) (c : Conjunction)
-      → HoldsGroup fs f o c last (record { compiler = b.compiler; terms = b.terms; outer = outer; level = b.level; has_operand = b.has_operand }) → CountsFit (after (f ∷ fs) o c)
+      → HoldsGroup fs f o c last (record { compiler = b.compiler; terms = b.terms; outer = outer; level = b.level; has_operand = b.has_operand; leaves = b.leaves }) → CountsFit (after (f ∷ fs) o c)
       → Holds (with_operand fs f (a_group (or_joined o c))) new)
       → (text : List ℕ) (fs : List Open) (o : Option (Disjunction × Word)) (c : Conjunction) → IsFirstWord text w
       → Holds (after fs o c) b → CountsFit (after fs o c) → ReadsOn (after fs o c) text w.rest.now new
@@ -213,12 +219,13 @@ module _ (b : Builder) (w : FirstWord) where
           outer = parts.0;
           around = parts.1;
           or_waits = ap (λ l. l.or_waits) h.level;
+          leaves = h.leaves;
         }) fits;
         only = λ t vs ws more m may e next. only_close w.bytes.now fs f o c t vs ws more same m (e ∙ ap (λ x. x ∷ ws) (sym same));
       }
 
 pub group_closed : (b : Builder) (level : Level) (compiler : Compiler) (new : Builder) → JoinsOr b.level.or_waits b.compiler compiler
-    → ((fs : List Open) (f : Open) (u : Operand) → HoldsOperand fs f u (record { compiler = compiler; terms = b.terms; outer = b.outer; level = level; has_operand = b.has_operand })
+    → ((fs : List Open) (f : Open) (u : Operand) → HoldsOperand fs f u (record { compiler = compiler; terms = b.terms; outer = b.outer; level = level; has_operand = b.has_operand; leaves = b.leaves })
     → state_terms (with_operand fs f u) ≤ 64 → Holds (with_operand fs f u) new)
     → (fs : List Open) (f : Open) (o : Option (Disjunction × Word)) (c : Conjunction) → HoldsGroup fs f o c level b → CountsFit (after (f ∷ fs) o c)
     → Holds (with_operand fs f (a_group (or_joined o c))) new
@@ -231,6 +238,7 @@ group_closed b level compiler new join done fs f o c h fits =
       terms = omega (arith, terms, all);
       outer = h.outer;
       level = h.around;
+      leaves = h.leaves ∙ sym (joined_leaves o c);
     })
     (omega (arith, bound, all, joined_terms f.nots u f.and_left))
 

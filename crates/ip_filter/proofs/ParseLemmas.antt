@@ -114,7 +114,7 @@ first_error text rest b w left e g is refuse =
       front = state_words g.state ++ r.front;
       place = subst (IsPlace text (state_words g.state ++ r.front)) back here;
       begins =
-          let more = r.begins in
+          let more = r.begins g.room in
           let whole = lead_filter g.state (r.front ++ more.1) more.0 more.2 g.good g.room in
           (more.0, more.1, whole.0, whole.1 ∙ sym (append_assoc (state_words g.state) r.front more.1));
       none = λ d ws filter same next.
@@ -172,7 +172,7 @@ missing_end text rest b e g none due =
             (sym (no_words (drop (length text - (length text - length text)) text) (ap length (drop_all (length text - (length text - length text)) text (omega arith)))));
         begins = λ some. absurd (omega (arith, some));
       };
-      begins = let more = can_end g.state in let whole = lead_filter g.state more.1 more.0 more.2 g.good g.room in (more.0, more.1, whole.0, whole.1);
+      begins = let more = can_end g.state g.room in let whole = lead_filter g.state more.1 more.0 more.2 g.good g.room in (more.0, more.1, whole.0, whole.1);
       none = λ d ws is same next.
           let led = g.leads d ws is same (next ∙ ap (take 1) nothing_left ∙ ap (take 1) (sym none)) in
           let empty : ws ≡ [] = no_first ws (next ∙ ap (take 1) nothing_left) in

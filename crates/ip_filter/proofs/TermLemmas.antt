@@ -6,29 +6,24 @@ use Rattle.ip_spec.proofs.Common.{◌≡◌, ℕ, List, [], ◌∷◌, ◌++◌,
 use Rattle.ip_filter.specs.declared.term.Comparison.{Comparison}
 use Rattle.ip_filter.specs.declared.term.Comparison.TheVariants as by
 use Rattle.ip_filter.specs.declared.term.Quantity.{Quantity}
-use Rattle.ip_filter.specs.declared.term.Ports.{Ports}
 use Rattle.ip_filter.specs.declared.term.TcpFlags.{TcpFlags}
 use Rattle.ip_filter.specs.declared.term.Term.{Term}
 use Rattle.ip_filter.specs.declared.term.Term.TheVariants as term
 use Rattle.ip_filter.specs.declared.keyword.Keyword.{Keyword}
 use Rattle.ip_filter.specs.declared.keyword.Keyword.TheVariants as keyword
 use Rattle.ip_filter.specs.declared.keyword.NumberKeyword.TheVariants as number
-use Rattle.ip_filter.specs.declared.keyword.AddressKeyword.TheVariants as address
-use Rattle.ip_filter.specs.declared.parse_term.Side.{Side}
 use Rattle.ip_filter.specs.declared.parse_error.Expected.{Expected}
 use Rattle.ip_filter.specs.declared.parse_error.Expected.TheVariants as expects
 use Rattle.ip_base.specs.declared.err.layer.Layer.{Layer}
 use Rattle.ip_filter.specs.declared.term.FaultKind.{FaultKind}
-use Rattle.ip_filter.specs.declared.network.Network.{Network}
 use Rattle.ip_filter.specs.declared.words.Word.{Word as FirstWord}
 use Rattle.ip_filter.specs.declared.layers.LayerError.{LayerError}
 use Rattle.ip_filter.specs.declared.layers.LayerError.TheVariants as error
 use Rattle.ip_filter.specs.Words.{Word, words}
-use Rattle.ip_filter.specs.Numbers.{version_named, header_named, protocol_of, number_up_to, ports_of, tcp_flags_of, names_in, comparison_of, fault_kind_of, IsNetworkText, IsHostText}
+use Rattle.ip_filter.specs.Numbers.{version_named, header_named, protocol_of, number_up_to, tcp_flags_of, names_in, comparison_of, fault_kind_of}
 use Rattle.ip_filter.specs.IcmpTypes.{icmp_type_of, icmp6_type_of}
-use Rattle.ip_filter.specs.Grammar.{AreArguments, IsOne, Finds, Make, AreCompared, AreSide, layer_with, source, destination, is_and, is_or}
-use Rattle.ip_filter.specs.Reading.{IsFirstWord, BeginsOtherwise, ReadsArgument, RefusesArgument, ReadsArguments, RefusesArguments, ReadsTerm, RefusesTerm, WantsArgument, IsKeyword, IsCountKeyword, IsNumberKeyword, IsByteKeyword, IsSideKeyword, ends_term}
-use Rattle.ip_filter.proofs.NetworkTextLemmas.{one_network, some_network, some_host}
+use Rattle.ip_filter.specs.Grammar.{AreArguments, IsOne, Finds, Make, AreCompared, layer_with, is_and, is_or}
+use Rattle.ip_filter.specs.Reading.{IsFirstWord, BeginsOtherwise, ReadsArgument, RefusesArgument, ReadsArguments, RefusesArguments, ReadsTerm, RefusesTerm, WantsArgument, IsKeyword, IsCountKeyword, IsNumberKeyword, IsByteKeyword, ends_term}
 use Rattle.ip_filter.proofs.WordLemmas.{or_cases, either_word, same_word}
 use Rattle.ip_filter.proofs.PlaceLemmas.{whole, end_of_end, from_place, place_in_end}
 
@@ -100,10 +95,6 @@ no_comparison text left e r = record {
   none = λ b us ws more writes same next.
       r.0.none writes.0 b.0 (ap (take 1) r.0.place.words_before ∙ sym next ∙ ap (take 1) (sym same) ∙ ap (λ x. take 1 (x ++ more)) writes.2) writes.3;
 }
-
--- an address is one network
-one_host : (w : Word) (a b : Network) → IsHostText w a → IsHostText w b → a ≡ b
-one_host w a b p q = one_network w a b p.0 q.0
 
 -- some word writes flags
 some_flags : (w : Word) × (f : TcpFlags) × Finds tcp_flags_of w f
@@ -307,7 +298,7 @@ module _ (text : List ℕ) where
   leads_to_read rest a r = is_read (keyword.Number number.LeadsTo) (IsOne (Finds protocol_of)) term.LeadsTo (λ us t m. m) (λ us t m. m) text rest a (one (Finds protocol_of) (found_once protocol_of) text rest a r)
 
   pub leads_to_refused : (left : ℕ) (e : Expected) → RefusesArgument (Finds protocol_of) text left × (e ≡ expects.Protocol) → RefusesTerm (keyword.Number number.LeadsTo) text left e
-  leads_to_refused left e r = is_refused (keyword.Number number.LeadsTo) (IsOne (Finds protocol_of)) term.LeadsTo (λ us t m. m) (λ us t m. m) (IsKeyword (keyword.Number number.LeadsTo)) (λ w i. i) text left e (not_one (Finds protocol_of) (found_once protocol_of) (codes "0", 0, refl) (IsKeyword (keyword.Number number.LeadsTo)) expects.Protocol (λ w i. ([], w, refl, i)) text left e r)
+  leads_to_refused left e r = is_refused (keyword.Number number.LeadsTo) (IsOne (Finds protocol_of)) term.LeadsTo (λ us t m. m) (λ us t m. m) (IsKeyword (keyword.Number number.LeadsTo)) (λ w i. i) text left e (not_one (Finds protocol_of) (found_once protocol_of) (codes "0", 0, refl) (IsKeyword (keyword.Number number.LeadsTo)) expects.Protocol (λ w i. ([], w, refl, inl i)) text left e r)
 
   pub spi_read : (rest : List ℕ) (a : ℕ) → ReadsArgument (Finds (number_up_to 4294967295)) text a rest → ReadsTerm (keyword.Number number.SecurityParameters) text (term.SecurityParameters a) rest
   spi_read rest a r = is_read (keyword.Number number.SecurityParameters) (IsOne (Finds (number_up_to 4294967295))) term.SecurityParameters (λ us t m. m) (λ us t m. m) text rest a (one (Finds (number_up_to 4294967295)) (found_once (number_up_to 4294967295)) text rest a r)
@@ -375,37 +366,5 @@ module _ (text : List ℕ) where
   pub segments_left_refused : (left : ℕ) (e : Expected) → RefusesArguments AreCompared IsCountKeyword text left e → RefusesTerm keyword.SegmentsLeft text left e
   segments_left_refused left e r = is_refused keyword.SegmentsLeft AreCompared (λ a. term.SegmentsLeft a.0 a.1) (λ us t m. m) (λ us t m. m) IsCountKeyword (λ w i. inr i) text left e r
 
-  pub source_read : (rest : List ℕ) (x : Side) → ReadsArguments AreSide text x rest → ReadsTerm (keyword.Address address.Source) text (source x) rest
-  source_read rest x r = is_read (keyword.Address address.Source) AreSide source (λ us t m. m) (λ us t m. m) text rest x r
-
-  pub source_refused : (left : ℕ) (e : Expected) → RefusesArguments AreSide IsSideKeyword text left e → RefusesTerm (keyword.Address address.Source) text left e
-  source_refused left e r = is_refused (keyword.Address address.Source) AreSide source (λ us t m. m) (λ us t m. m) IsSideKeyword (λ w i. inl i) text left e r
-
-  pub destination_read : (rest : List ℕ) (x : Side) → ReadsArguments AreSide text x rest → ReadsTerm (keyword.Address address.Destination) text (destination x) rest
-  destination_read rest x r = is_read (keyword.Address address.Destination) AreSide destination (λ us t m. m) (λ us t m. m) text rest x r
-
-  pub destination_refused : (left : ℕ) (e : Expected) → RefusesArguments AreSide IsSideKeyword text left e → RefusesTerm (keyword.Address address.Destination) text left e
-  destination_refused left e r = is_refused (keyword.Address address.Destination) AreSide destination (λ us t m. m) (λ us t m. m) IsSideKeyword (λ w i. inr i) text left e r
-
-  pub network_read : (rest : List ℕ) (a : Network) → ReadsArgument IsNetworkText text a rest → ReadsTerm (keyword.Address address.Network) text (term.Either a) rest
-  network_read rest a r = is_read (keyword.Address address.Network) (IsOne IsNetworkText) term.Either (λ us t m. m) (λ us t m. m) text rest a (one IsNetworkText one_network text rest a r)
-
-  pub network_refused : (left : ℕ) (e : Expected) → RefusesArgument IsNetworkText text left × (e ≡ expects.Network) → RefusesTerm (keyword.Address address.Network) text left e
-  network_refused left e r = is_refused (keyword.Address address.Network) (IsOne IsNetworkText) term.Either (λ us t m. m) (λ us t m. m) (IsKeyword (keyword.Address address.Network)) (λ w i. i) text left e (not_one IsNetworkText one_network some_network (IsKeyword (keyword.Address address.Network)) expects.Network (λ w i. ([], w, refl, i)) text left e r)
-
-  pub host_read : (rest : List ℕ) (a : Network) → ReadsArgument IsHostText text a rest → ReadsTerm (keyword.Address address.Host) text (term.Either a) rest
-  host_read rest a r = is_read (keyword.Address address.Host) (IsOne IsHostText) term.Either (λ us t m. m) (λ us t m. m) text rest a (one IsHostText one_host text rest a r)
-
-  pub host_refused : (left : ℕ) (e : Expected) → RefusesArgument IsHostText text left × (e ≡ expects.Address) → RefusesTerm (keyword.Address address.Host) text left e
-  host_refused left e r = is_refused (keyword.Address address.Host) (IsOne IsHostText) term.Either (λ us t m. m) (λ us t m. m) (IsKeyword (keyword.Address address.Host)) (λ w i. i) text left e (not_one IsHostText one_host some_host (IsKeyword (keyword.Address address.Host)) expects.Address (λ w i. ([], w, refl, i)) text left e r)
-
-  pub port_read : (rest : List ℕ) (a : Ports) → ReadsArgument (Finds ports_of) text a rest → ReadsTerm (keyword.Address address.Port) text (term.Port a) rest
-  port_read rest a r = is_read (keyword.Address address.Port) (IsOne (Finds ports_of)) term.Port (λ us t m. m) (λ us t m. m) text rest a (one (Finds ports_of) (found_once ports_of) text rest a r)
-
-  pub port_refused : (left : ℕ) (e : Expected) → RefusesArgument (Finds ports_of) text left × (e ≡ expects.Ports) → RefusesTerm (keyword.Address address.Port) text left e
-  port_refused left e r = is_refused (keyword.Address address.Port) (IsOne (Finds ports_of)) term.Port (λ us t m. m) (λ us t m. m) (IsKeyword (keyword.Address address.Port)) (λ w i. i) text left e (not_one (Finds ports_of) (found_once ports_of) (codes "0", record { first = 0; last = 0 }, refl) (IsKeyword (keyword.Address address.Port)) expects.Ports (λ w i. ([], w, refl, i)) text left e r)
-
 -- by what follows the keyword
 pub ruleset number_terms = (version_read, version_refused, header_read, header_refused, leads_to_read, leads_to_refused, spi_read, spi_refused, id_read, id_refused, routing_type_read, routing_type_refused, option_read, option_refused, icmp_type_read, icmp_type_refused, icmp_code_read, icmp_code_refused, icmp6_type_read, icmp6_type_refused, icmp6_code_read, icmp6_code_refused, tcp_flags_read, tcp_flags_refused)
-
-pub ruleset address_terms = (source_read, source_refused, destination_read, destination_refused, network_read, network_refused, host_read, host_refused, port_read, port_refused)

@@ -1,18 +1,12 @@
 -- The tests that formulas are compiled to.
 use Rattle.std.specs.Prelude.{◌≡◌, ◌+◌, ◌<◌, ◌≤◌, ℕ, List, [], ◌∷◌, ◌++◌, length, take, drop, map, ◌==◌, if◌then◌else◌, nat_lt, Bool, Option}
-use Rattle.ip_filter.specs.Formula.{Formula, single, negation, both, either, truth}
+use Rattle.ip_filter.specs.Formula.{Formula, both, either, truth, terms_of}
 use Rattle.ip_filter.specs.Tests.{frame_meets}
 use Rattle.ip_filter.specs.Program.{led_to, tests_of, frame_holds}
 use Rattle.ip_filter.specs.declared.compile.Compiler.{Compiler}
 use Rattle.ip_filter.specs.declared.filter.Test.{Test}
 
--- how many terms a formula has
-abbrev pub terms_of : Formula → ℕ
-terms_of (single t) = 1
-terms_of (negation f) = terms_of f
-terms_of (both f g) = terms_of f + terms_of g
-terms_of (either f g) = terms_of f + terms_of g
-
+-- how many terms formulas have
 abbrev pub terms_of_all : List Formula → ℕ
 terms_of_all [] = 0
 terms_of_all (f ∷ fs) = terms_of f + terms_of_all fs

@@ -1,5 +1,5 @@
 -- The grammar of filters: which words are a term, and how words are joined to formulas.
-use Rattle.std.specs.Prelude.{◌≡◌, ◌≤◌, ◌+◌, ◌⊎◌, ℕ, suc, List, [], ◌∷◌, ◌++◌, max, Bool, ◌||◌, Option, Some, None, IsTrue, codes, if◌then◌else◌}
+use Rattle.std.specs.Prelude.{◌≡◌, ◌≤◌, ◌+◌, ◌⊎◌, ℕ, suc, List, [], ◌∷◌, ◌++◌, max, Bool, not, ◌&&◌, ◌||◌, Option, Some, None, is_some, IsTrue, codes, if◌then◌else◌}
 use Rattle.std.specs.Option.{option_map, option_or, option_and_then}
 use Rattle.std.specs.Str.{bytes_eq}
 use Rattle.ip_base.specs.declared.err.layer.Layer.{Layer}
@@ -13,34 +13,30 @@ use Rattle.ip_filter.specs.declared.keyword.Keyword.{Keyword}
 use Rattle.ip_filter.specs.declared.keyword.Keyword.TheVariants as keyword
 use Rattle.ip_filter.specs.declared.keyword.NumberKeyword.{NumberKeyword}
 use Rattle.ip_filter.specs.declared.keyword.NumberKeyword.TheVariants as number
-use Rattle.ip_filter.specs.declared.keyword.AddressKeyword.{AddressKeyword}
-use Rattle.ip_filter.specs.declared.keyword.AddressKeyword.TheVariants as address
-use Rattle.ip_filter.specs.declared.parse_term.Side.{Side}
-use Rattle.ip_filter.specs.declared.parse_term.Side.TheVariants as side
+use Rattle.ip_filter.specs.declared.qualifiers.Qualifiers.{Qualifiers}
+use Rattle.ip_filter.specs.declared.qualifiers.Named.{Named}
+use Rattle.ip_filter.specs.declared.qualifiers.Primitive.{Primitive}
 use Rattle.ip_filter.specs.declared.layers.LayerError.{LayerError}
 use Rattle.ip_filter.specs.declared.layers.LayerError.TheVariants as error
 use Rattle.ip_filter.specs.Layers.{can_have}
 use Rattle.ip_filter.specs.Words.{Word}
-use Rattle.ip_filter.specs.Numbers.{version_named, header_named, upper_layer_of, protocol_of, number_up_to, ports_of, tcp_flags_of, comparison_of, fault_kind_of, layer_named, IsNetworkText, IsHostText}
+use Rattle.ip_filter.specs.Numbers.{version_named, header_named, protocol_of, number_up_to, tcp_flags_of, comparison_of, fault_kind_of, layer_named}
 use Rattle.ip_filter.specs.IcmpTypes.{icmp_type_of, icmp6_type_of}
-use Rattle.ip_filter.specs.Formula.{Formula, single, negation, both, either}
+use Rattle.ip_filter.specs.Formula.{Formula, negation, both, either, terms_of}
+use Rattle.ip_filter.specs.Qualifiers.{protocol_term, protocol_named, side_or_kind_at, qualifiers_at, Identifies, says, plain, qualified}
 
 -- ---- keywords
 
 -- the term that a word is by itself
 abbrev pub alone : Word → Option Term
 alone w =
-    if bytes_eq w (codes "ip") then Some (term.Version 4)
-    else if bytes_eq w (codes "ip6") then Some (term.Version 6)
-    else if bytes_eq w (codes "fragment") then Some term.Fragment
+    if bytes_eq w (codes "fragment") then Some term.Fragment
     else if bytes_eq w (codes "first-fragment") then Some term.FirstFragment
     else if bytes_eq w (codes "later-fragment") then Some term.LaterFragment
     else if bytes_eq w (codes "incomplete") then Some term.Incomplete
     else if bytes_eq w (codes "no-transport") then Some term.NoTransport
     else if bytes_eq w (codes "no-length") then Some term.NoLength
-    else if bytes_eq w (codes "icmp") then Some term.Icmp
-    else if bytes_eq w (codes "icmp6") then Some term.Icmp6
-    else option_map term.LeadsTo (upper_layer_of w)
+    else option_map protocol_term (protocol_named w)
 
 abbrev pub quantity_named : Word → Option Quantity
 quantity_named w =
@@ -76,24 +72,13 @@ number_keyword_of w =
     else if bytes_eq w (codes "tcp-flags") then Some number.TcpFlags
     else icmp_keyword_of w
 
--- a keyword that an address, a network or ports follow
-abbrev pub address_keyword_of : Word → Option AddressKeyword
-address_keyword_of w =
-    if bytes_eq w (codes "src") then Some address.Source
-    else if bytes_eq w (codes "dst") then Some address.Destination
-    else if bytes_eq w (codes "net") then Some address.Network
-    else if bytes_eq w (codes "host") then Some address.Host
-    else if bytes_eq w (codes "port") then Some address.Port
-    else None
-
 abbrev pub keyword_of : Word → Option Keyword
 keyword_of w =
     if bytes_eq w (codes "fault") then Some keyword.Fault
     else if bytes_eq w (codes "truncated") then Some keyword.Truncated
     else if bytes_eq w (codes "segments-left") then Some keyword.SegmentsLeft
     else option_or (option_map keyword.Alone (alone w))
-    (option_or (option_map keyword.Compared (quantity_named w))
-    (option_or (option_map keyword.Number (number_keyword_of w)) (option_map keyword.Address (address_keyword_of w))))
+    (option_or (option_map keyword.Compared (quantity_named w)) (option_map keyword.Number (number_keyword_of w)))
 
 -- ---- terms
 
@@ -118,19 +103,6 @@ layer_with e w = option_and_then (λ l. if can_have e l then Some l else None) (
 abbrev pub AreFaultAt : List Word → FaultKind × Layer → Type 0
 AreFaultAt args f = (w : Word) × (v : Word) × (args ≡ w ∷ v ∷ []) × (fault_kind_of w ≡ Some f.0) × (layer_with (error.Fault f.0) v ≡ Some f.1)
 
--- a network, or `port` and ports
-abbrev pub AreSide : List Word → Side → Type 0
-AreSide args (side.Network n) = IsOne IsNetworkText args n
-AreSide args (side.Ports r) = (w : Word) × (args ≡ codes "port" ∷ w ∷ []) × Finds ports_of w r
-
-abbrev pub source : Side → Term
-source (side.Network n) = term.Source n
-source (side.Ports r) = term.SourcePort r
-
-abbrev pub destination : Side → Term
-destination (side.Network n) = term.Destination n
-destination (side.Ports r) = term.DestinationPort r
-
 -- the words write a value, of which t is made
 abbrev pub Make : {A : Type 0} → (List Word → A → Type 0) → (A → Term) → List Word → Term → Type 0
 Make {A} Write make args t = (a : A) × Write args a × (t ≡ make a)
@@ -150,13 +122,6 @@ AreNumberArguments number.Icmp6Type args t = Make (IsOne (Finds icmp6_type_of)) 
 AreNumberArguments number.Icmp6Code args t = Make (IsOne (Finds (number_up_to 255))) term.Icmp6Code args t
 AreNumberArguments number.TcpFlags args t = Make (IsOne (Finds tcp_flags_of)) term.TcpFlags args t
 
-abbrev pub AreAddressArguments : AddressKeyword → List Word → Term → Type 0
-AreAddressArguments address.Source args t = Make AreSide source args t
-AreAddressArguments address.Destination args t = Make AreSide destination args t
-AreAddressArguments address.Network args t = Make (IsOne IsNetworkText) term.Either args t
-AreAddressArguments address.Host args t = Make (IsOne IsHostText) term.Either args t
-AreAddressArguments address.Port args t = Make (IsOne (Finds ports_of)) term.Port args t
-
 abbrev pub AreArguments : Keyword → List Word → Term → Type 0
 AreArguments (keyword.Alone u) args t = (args ≡ []) × (t ≡ u)
 AreArguments keyword.Truncated args t = ((args ≡ []) × (t ≡ term.Truncated)) ⊎ Make (IsOne (Finds (layer_with error.Truncated))) term.TruncatedAt args t
@@ -166,13 +131,12 @@ AreArguments keyword.Fault args t =
 AreArguments (keyword.Number k) args t = AreNumberArguments k args t
 AreArguments (keyword.Compared q) args t = Make AreCompared (λ c. term.Compared q c.0 c.1) args t
 AreArguments keyword.SegmentsLeft args t = Make AreCompared (λ c. term.SegmentsLeft c.0 c.1) args t
-AreArguments (keyword.Address k) args t = AreAddressArguments k args t
 
 -- the word w is a keyword, and writes the term t with the words after it
 abbrev pub IsTerm : Word → List Word → Term → Type 0
 IsTerm w args t = (k : Keyword) × (keyword_of w ≡ Some k) × AreArguments k args t
 
--- ---- formulas
+-- ---- words that join
 
 abbrev pub is_not : Word → Bool
 is_not w = bytes_eq w (codes "not") || bytes_eq w (codes "!")
@@ -183,10 +147,35 @@ is_and w = bytes_eq w (codes "and") || bytes_eq w (codes "&&")
 abbrev pub is_or : Word → Bool
 is_or w = bytes_eq w (codes "or") || bytes_eq w (codes "||")
 
+-- ---- primitives
+
+-- a word that neither begins a primitive nor joins or groups operands
+abbrev pub is_identifier : Word → Bool
+is_identifier w =
+    not (is_some (keyword_of w)) && not (is_some (side_or_kind_at (w ∷ [])))
+    && not (is_not w || is_and w || is_or w || bytes_eq w (codes "(") || bytes_eq w (codes ")"))
+
+-- qualifiers and an identifier
+abbrev pub IsQualified : List Word → Primitive → Type 0
+IsQualified ws p =
+    (x : Qualifiers) × (w : Word) × (n : Named) × (qualifiers_at ws ≡ Some (x, w ∷ [])) × Identifies x.kind x.direction w n × (p ≡ qualified x n)
+
+-- an identifier alone, which takes the qualifiers of the primitive before it
+abbrev pub IsCarried : Option Qualifiers → Word → List Word → Primitive → Type 0
+IsCarried before w args p =
+    (x : Qualifiers) × (n : Named) × (before ≡ Some x) × (args ≡ []) × IsTrue (is_identifier w) × Identifies x.kind x.direction w n × (p ≡ qualified x n)
+
+-- After a primitive with the qualifiers `before`, the word w and those after it are the primitive p.
+abbrev pub IsPrimitive : Option Qualifiers → Word → List Word → Primitive → Type 0
+IsPrimitive before w args p =
+    ((t : Term) × IsTerm w args t × (p ≡ plain t)) ⊎ (IsQualified (w ∷ args) p ⊎ IsCarried before w args p)
+
+-- ---- filters
+
 -- A filter is a disjunction of conjunctions of operands, so `not` binds most tightly, then `and`.
 mutual
   pub data Operand : Type 0 where
-    a_term : Word → List Word → Term → Operand
+    a_primitive : Word → List Word → Primitive → Operand
     a_negation : Word → Operand → Operand
     a_group : Disjunction → Operand
 
@@ -201,7 +190,7 @@ mutual
 -- its words
 abbrev mutual
   pub operand_words : Operand → List Word
-  operand_words (a_term w args t) = w ∷ args
+  operand_words (a_primitive w args p) = w ∷ args
   operand_words (a_negation w u) = w ∷ operand_words u
   operand_words (a_group d) = codes "(" ∷ (filter_words d ++ (codes ")" ∷ []))
 
@@ -213,25 +202,40 @@ abbrev mutual
   filter_words (a_conjunction c) = conjunction_words c
   filter_words (an_or d w c) = filter_words d ++ (w ∷ conjunction_words c)
 
--- each word means what it stands for
+-- the qualifiers of the last primitive
 abbrev mutual
-  pub IsOperand : Operand → Type 0
-  IsOperand (a_term w args t) = IsTerm w args t
-  IsOperand (a_negation w u) = IsTrue (is_not w) × IsOperand u
-  IsOperand (a_group d) = IsDisjunction d
+  pub operand_leaves : Operand → Option Qualifiers
+  operand_leaves (a_primitive w args p) = p.leaves
+  operand_leaves (a_negation w u) = operand_leaves u
+  operand_leaves (a_group d) = leaves_of d
 
-  pub IsConjunction : Conjunction → Type 0
-  IsConjunction (an_operand u) = IsOperand u
-  IsConjunction (an_and c w u) = IsConjunction c × IsTrue (is_and w) × IsOperand u
+  pub conjunction_leaves : Conjunction → Option Qualifiers
+  conjunction_leaves (an_operand u) = operand_leaves u
+  conjunction_leaves (an_and c w u) = operand_leaves u
 
-  pub IsDisjunction : Disjunction → Type 0
-  IsDisjunction (a_conjunction c) = IsConjunction c
-  IsDisjunction (an_or d w c) = IsDisjunction d × IsTrue (is_or w) × IsConjunction c
+  pub leaves_of : Disjunction → Option Qualifiers
+  leaves_of (a_conjunction c) = conjunction_leaves c
+  leaves_of (an_or d w c) = conjunction_leaves c
+
+-- After a primitive with the qualifiers `before`, each word means what it stands for.
+abbrev mutual
+  pub IsOperand : Option Qualifiers → Operand → Type 0
+  IsOperand before (a_primitive w args p) = IsPrimitive before w args p
+  IsOperand before (a_negation w u) = IsTrue (is_not w) × IsOperand before u
+  IsOperand before (a_group d) = IsDisjunction before d
+
+  pub IsConjunction : Option Qualifiers → Conjunction → Type 0
+  IsConjunction before (an_operand u) = IsOperand before u
+  IsConjunction before (an_and c w u) = IsConjunction before c × IsTrue (is_and w) × IsOperand (conjunction_leaves c) u
+
+  pub IsDisjunction : Option Qualifiers → Disjunction → Type 0
+  IsDisjunction before (a_conjunction c) = IsConjunction before c
+  IsDisjunction before (an_or d w c) = IsDisjunction before d × IsTrue (is_or w) × IsConjunction (leaves_of d) c
 
 -- the formula that it writes
 abbrev mutual
   pub operand_formula : Operand → Formula
-  operand_formula (a_term w args t) = single t
+  operand_formula (a_primitive w args p) = says p
   operand_formula (a_negation w u) = negation (operand_formula u)
   operand_formula (a_group d) = formula_of d
 
@@ -246,7 +250,7 @@ abbrev mutual
 -- how many terms it has
 abbrev mutual
   pub operand_terms : Operand → ℕ
-  operand_terms (a_term w args t) = 1
+  operand_terms (a_primitive w args p) = terms_of (says p)
   operand_terms (a_negation w u) = operand_terms u
   operand_terms (a_group d) = terms_in d
 
@@ -261,7 +265,7 @@ abbrev mutual
 -- how deeply its parentheses are nested
 abbrev mutual
   pub operand_depth : Operand → ℕ
-  operand_depth (a_term w args t) = 0
+  operand_depth (a_primitive w args p) = 0
   operand_depth (a_negation w u) = operand_depth u
   operand_depth (a_group d) = suc (depth_of d)
 
@@ -275,6 +279,6 @@ abbrev mutual
 
 -- d is a filter: each word means what it stands for, and there are at most 64 terms and 16 levels of parentheses
 pub record IsFilter (d : Disjunction) : Type 0 where
-  pub spelled : IsDisjunction d
+  pub spelled : IsDisjunction None d
   pub terms : terms_in d ≤ 64
   pub depth : depth_of d ≤ 16

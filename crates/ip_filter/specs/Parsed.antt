@@ -1,5 +1,5 @@
 -- What a text is parsed as, and where it is refused.
-use Rattle.std.specs.Prelude.{◌≡◌, ◌≤◌, ◌-◌, ◌⊎◌, ℕ, List, [], ◌∷◌, ◌++◌, length, take, drop, codes, Option}
+use Rattle.std.specs.Prelude.{◌≡◌, ◌≤◌, ◌-◌, ◌⊎◌, ℕ, List, [], ◌∷◌, ◌++◌, length, take, drop, codes, Option, None}
 use Rattle.ip_filter.specs.declared.filter.Filter.{Filter}
 use Rattle.ip_filter.specs.declared.parse_error.Expected.{Expected}
 use Rattle.ip_filter.specs.declared.parse_error.Expected.TheVariants as expects
@@ -7,7 +7,7 @@ use Rattle.ip_filter.specs.Words.{Word, words}
 use Rattle.ip_filter.specs.Formula.{truth}
 use Rattle.ip_filter.specs.Tests.{frame_meets}
 use Rattle.ip_filter.specs.Program.{tests_of, passes, frame_holds}
-use Rattle.ip_filter.specs.Grammar.{Disjunction, filter_words, formula_of, terms_in, IsFilter}
+use Rattle.ip_filter.specs.Grammar.{Disjunction, filter_words, formula_of, terms_in, depth_of, IsDisjunction, IsFilter}
 use Rattle.ip_filter.specs.Reading.{IsPlace, WantsArgument, IsOperator}
 
 -- The words of the text are a filter, in one way, and x lets those frames pass of which its formula holds. It has one test at
@@ -28,14 +28,19 @@ AreFilter ws = (d : Disjunction) × IsFilter d × (filter_words d ≡ ws)
 abbrev pub BeginFilter : List Word → Type 0
 BeginFilter ws = (d : Disjunction) × (rest : List Word) × IsFilter d × (filter_words d ≡ ws ++ rest)
 
+-- some filter begins with the words, however many terms it has
+abbrev pub BeginLongFilter : List Word → Type 0
+BeginLongFilter ws = (d : Disjunction) × (rest : List Word) × IsDisjunction None d × (depth_of d ≤ 16) × (filter_words d ≡ ws ++ rest)
+
 -- What is expected after the words `front` instead of `next`, which is the next word, or nothing at the end of the text.
--- An operator is refused for the number of terms, and a parenthesis for the nesting.
+-- An operator, or a word of a primitive of several terms, is refused for the number of terms, and a parenthesis for the nesting.
 abbrev pub IsExpected : List Word → List Word → Expected → Type 0
 IsExpected front next expects.Operand = BeginFilter (front ++ codes "not" ∷ []) × ¬ (next ≡ codes "(" ∷ [])
 IsExpected front next expects.LessNesting = BeginFilter (front ++ codes "not" ∷ []) × (next ≡ codes "(" ∷ [])
 IsExpected front next expects.OperatorOrEnd = AreFilter front × ¬ IsOperator next
 IsExpected front next expects.OperatorOrClose = BeginFilter (front ++ codes ")" ∷ []) × ¬ IsOperator next
-IsExpected front next expects.FewerTerms = (AreFilter front ⊎ BeginFilter (front ++ codes ")" ∷ [])) × IsOperator next
+IsExpected front next expects.FewerTerms =
+    ((AreFilter front ⊎ BeginFilter (front ++ codes ")" ∷ [])) × IsOperator next) ⊎ BeginLongFilter (front ++ next)
 IsExpected front next e = WantsArgument front e
 
 -- A word begins at this offset, or the text ends there. A filter begins with the words before it, but none with these

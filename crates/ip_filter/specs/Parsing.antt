@@ -6,12 +6,14 @@ use Rattle.ip_filter.specs.declared.builder.Level.{Level}
 use Rattle.ip_filter.specs.declared.builder.Builder.{Builder}
 use Rattle.ip_filter.specs.declared.parse_error.Expected.{Expected}
 use Rattle.ip_filter.specs.declared.parse_error.Expected.TheVariants as expects
-use Rattle.ip_filter.specs.declared.term.Term.{Term}
+use Rattle.ip_filter.specs.declared.qualifiers.Qualifiers.{Qualifiers}
+use Rattle.ip_filter.specs.declared.qualifiers.Primitive.{Primitive}
 use Rattle.ip_filter.specs.Words.{Word, words}
-use Rattle.ip_filter.specs.Formula.{Formula}
+use Rattle.ip_filter.specs.Formula.{Formula, terms_of}
+use Rattle.ip_filter.specs.Qualifiers.{says}
 use Rattle.ip_filter.specs.Compiled.{HasCompiled}
-use Rattle.ip_filter.specs.Grammar.{Operand, Conjunction, Disjunction, a_term, a_negation, a_group, an_operand, an_and, a_conjunction, an_or, IsTerm, is_not, is_and, is_or, conjunction_words, filter_words, operand_terms, conjunction_terms, terms_in, operand_formula, conjunction_formula, formula_of}
-use Rattle.ip_filter.specs.Reading.{ends_term, IsSuffix, IsPlace, WantsArgument, IsOperator}
+use Rattle.ip_filter.specs.Grammar.{Operand, Conjunction, Disjunction, a_primitive, a_negation, a_group, an_operand, an_and, a_conjunction, an_or, IsPrimitive, operand_leaves, conjunction_leaves, leaves_of, is_not, is_and, is_or, conjunction_words, filter_words, operand_terms, conjunction_terms, terms_in, operand_formula, conjunction_formula, formula_of}
+use Rattle.ip_filter.specs.Reading.{ends_term, IsSuffix, IsPlace, WantsArgument, IsOperator, BeginsPrimitive}
 
 -- ---- the parts that are read
 
@@ -44,6 +46,23 @@ or_joined (Some p) c = an_or p.0 p.1 c
 -- an operand was read
 abbrev pub with_operand : List Open → Open → Operand → State
 with_operand fs f u = after fs f.or_left (and_joined f.and_left (negate f.nots u))
+
+-- the qualifiers of the last primitive that was read, after one with the qualifiers x
+abbrev pub or_leaves : Option Qualifiers → Option (Disjunction × Word) → Option Qualifiers
+or_leaves x None = x
+or_leaves x (Some p) = leaves_of p.0
+
+abbrev pub and_leaves : Option Qualifiers → Option (Conjunction × Word) → Option Qualifiers
+and_leaves x None = x
+and_leaves x (Some p) = conjunction_leaves p.0
+
+abbrev pub group_leaves : List Open → Option Qualifiers
+group_leaves [] = None
+group_leaves (f ∷ fs) = and_leaves (or_leaves (group_leaves fs) f.or_left) f.and_left
+
+abbrev pub state_leaves : State → Option Qualifiers
+state_leaves (before fs f) = group_leaves (f ∷ fs)
+state_leaves (after fs o c) = conjunction_leaves c
 
 -- how many terms were read
 abbrev pub open_terms : Open → ℕ
@@ -83,8 +102,8 @@ pub record CountsFit (s : State) : Type 0 where
 pub data Moves : State → List Word → State → Type 0 where
   by_not : (fs : List Open) (f : Open) (w : Word) → IsTrue (is_not w) → Moves (before fs f) (w ∷ []) (before fs (record f { nots = f.nots ++ w ∷ [] }))
   by_open : (fs : List Open) (f : Open) → length fs < 16 → Moves (before fs f) (codes "(" ∷ []) (before (f ∷ fs) nothing_open)
-  by_term : (fs : List Open) (f : Open) (w : Word) (us : List Word) (t : Term) → IsTerm w us t
-      → Moves (before fs f) (w ∷ us) (with_operand fs f (a_term w us t))
+  by_primitive : (fs : List Open) (f : Open) (w : Word) (us : List Word) (p : Primitive) → IsPrimitive (group_leaves (f ∷ fs)) w us p
+      → state_terms (before fs f) + terms_of (says p) ≤ 64 → Moves (before fs f) (w ∷ us) (with_operand fs f (a_primitive w us p))
   by_and : (fs : List Open) (o : Option (Disjunction × Word)) (c : Conjunction) (w : Word) → IsTrue (is_and w) → state_terms (after fs o c) < 64
       → Moves (after fs o c) (w ∷ []) (before fs (record { or_left = o; and_left = Some (c, w); nots = [] }))
   by_or : (fs : List Open) (o : Option (Disjunction × Word)) (c : Conjunction) (w : Word) → IsTrue (is_or w) → state_terms (after fs o c) < 64
@@ -119,13 +138,18 @@ abbrev pub EndsGroup : State → Type 0
 EndsGroup (after (f ∷ fs) o c) = ⊤
 EndsGroup s = ⊥
 
+-- an operand follows, and a primitive begins with these words, however many terms it has
+abbrev pub GoesOnWith : State → List Word → Type 0
+GoesOnWith (before fs f) ws = BeginsPrimitive (group_leaves (f ∷ fs)) ws (λ p. ⊤)
+GoesOnWith (after fs o c) ws = ⊥
+
 -- what is expected after this state and the words `front` instead of `next`
 abbrev pub IsDue : State → List Word → List Word → Expected → Type 0
 IsDue s front next expects.Operand = NeedsOperand s × (front ≡ []) × ¬ (next ≡ codes "(" ∷ [])
 IsDue s front next expects.LessNesting = NeedsOperand s × (front ≡ []) × (next ≡ codes "(" ∷ [])
 IsDue s front next expects.OperatorOrEnd = IsWhole s × (front ≡ []) × ¬ IsOperator next
 IsDue s front next expects.OperatorOrClose = EndsGroup s × (front ≡ []) × ¬ IsOperator next
-IsDue s front next expects.FewerTerms = (IsWhole s ⊎ EndsGroup s) × (front ≡ []) × IsOperator next
+IsDue s front next expects.FewerTerms = ((IsWhole s ⊎ EndsGroup s) × (front ≡ []) × IsOperator next) ⊎ GoesOnWith s (front ++ next)
 IsDue s front next e = WantsArgument front e
 
 -- ---- the formulas of the parts
@@ -174,6 +198,7 @@ pub record HoldsOperand (fs : List Open) (f : Open) (u : Operand) (b : Builder) 
   pub terms : b.terms ≡ group_terms fs + open_terms f + operand_terms u
   pub outer : b.outer.items ≡ levels_of fs
   pub level : b.level ≡ level_of f
+  pub leaves : b.leaves ≡ operand_leaves u
 
 -- b holds what was read in a group before its end, but for the level around the group
 pub record HoldsGroup (fs : List Open) (f : Open) (o : Option (Disjunction × Word)) (c : Conjunction) (level : Level) (b : Builder) : Type 0 where
@@ -182,6 +207,7 @@ pub record HoldsGroup (fs : List Open) (f : Open) (o : Option (Disjunction × Wo
   pub outer : b.outer.items ≡ levels_of fs
   pub around : level ≡ level_of f
   pub or_waits : b.level.or_waits ≡ is_some o
+  pub leaves : b.leaves ≡ conjunction_leaves c
 
 -- b holds what was read in the state s
 pub record Holds (s : State) (b : Builder) : Type 0 where
@@ -190,6 +216,7 @@ pub record Holds (s : State) (b : Builder) : Type 0 where
   pub outer : b.outer.items ≡ outer_of s
   pub level : b.level ≡ last_level s
   pub operand : b.has_operand ≡ has_operand s
+  pub leaves : b.leaves ≡ state_leaves s
 
 -- ---- what is read next
 
@@ -209,7 +236,7 @@ pub record ReadsOn (s : State) (text rest : List ℕ) (b : Builder) : Type 0 whe
 pub record RefusesFrom (s : State) (text : List ℕ) (left : ℕ) (e : Expected) : Type 0 where
   pub front : List Word
   pub place : IsPlace text front left
-  pub begins : (d : Disjunction) × (ws : List Word) × LeadsTo s (front ++ ws) d
+  pub begins : HasRoom s → (d : Disjunction) × (ws : List Word) × LeadsTo s (front ++ ws) d
   pub none : (t : State) (vs ws more : List Word) → Moves s vs t → may_follow t more → vs ++ more ≡ front ++ ws
       → take 1 ws ≡ take 1 (words (drop (length text - left) text)) → ⊥
   pub expected : IsDue s front (take 1 (words (drop (length text - left) text))) e

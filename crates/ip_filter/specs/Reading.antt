@@ -1,5 +1,5 @@
 -- What is read of a text, and where it is refused.
-use Rattle.std.specs.Prelude.{◌≡◌, ◌≤◌, ◌<◌, ◌-◌, ◌⊎◌, ℕ, List, [], ◌∷◌, ◌++◌, length, take, drop, slice_index, Bool, true, false, ◌||◌, Option, Some, None, is_some, IsTrue, codes}
+use Rattle.std.specs.Prelude.{◌≡◌, ◌≤◌, ◌<◌, ◌+◌, ◌-◌, ◌⊎◌, ℕ, List, [], ◌∷◌, ◌++◌, length, take, drop, slice_index, Bool, true, false, not, ◌||◌, Option, Some, None, is_some, IsTrue, codes, ⊤}
 use Rattle.std.specs.Str.{bytes_eq}
 use Rattle.ip_filter.specs.declared.words.Word.{Word as FirstWord}
 use Rattle.ip_filter.specs.declared.term.Quantity.{Quantity}
@@ -7,12 +7,20 @@ use Rattle.ip_filter.specs.declared.term.Term.{Term}
 use Rattle.ip_filter.specs.declared.keyword.Keyword.{Keyword}
 use Rattle.ip_filter.specs.declared.keyword.Keyword.TheVariants as keyword
 use Rattle.ip_filter.specs.declared.keyword.NumberKeyword.TheVariants as number
-use Rattle.ip_filter.specs.declared.keyword.AddressKeyword.TheVariants as address
+use Rattle.ip_filter.specs.declared.qualifiers.Protocol.{Protocol}
+use Rattle.ip_filter.specs.declared.qualifiers.Direction.{Direction}
+use Rattle.ip_filter.specs.declared.qualifiers.Kind.{Kind}
+use Rattle.ip_filter.specs.declared.qualifiers.Kind.TheVariants as kind
+use Rattle.ip_filter.specs.declared.qualifiers.Qualifiers.{Qualifiers}
+use Rattle.ip_filter.specs.declared.qualifiers.Primitive.{Primitive}
+use Rattle.ip_filter.specs.declared.primitive.Head.{Head}
 use Rattle.ip_filter.specs.declared.parse_error.Expected.{Expected}
 use Rattle.ip_filter.specs.declared.parse_error.Expected.TheVariants as expects
 use Rattle.ip_filter.specs.Words.{Word, words, is_white_space}
 use Rattle.ip_filter.specs.Numbers.{comparison_of}
-use Rattle.ip_filter.specs.Grammar.{keyword_of, AreArguments, is_and, is_or}
+use Rattle.ip_filter.specs.Formula.{terms_of}
+use Rattle.ip_filter.specs.Qualifiers.{protocol_named, direction_named, kind_named, kind_of, of_any_protocol, side_at, side_or_kind_at, qualifiers_at, wanted, says}
+use Rattle.ip_filter.specs.Grammar.{keyword_of, AreArguments, IsPrimitive, is_and, is_or}
 
 -- ---- what follows a keyword
 
@@ -37,9 +45,9 @@ IsByteKeyword w =
     IsKeyword (keyword.Number number.RoutingType) w ⊎ (IsKeyword (keyword.Number number.Option) w
     ⊎ IsCodeKeyword w)
 
--- a network or `port` follows
-abbrev pub IsSideKeyword : Word → Type 0
-IsSideKeyword w = IsKeyword (keyword.Address address.Source) w ⊎ IsKeyword (keyword.Address address.Destination) w
+-- the identifier after the word is of this kind
+abbrev pub IsKind : Kind → Word → Type 0
+IsKind k w = kind_of w ≡ Some k
 
 -- the last of the words is one of these
 abbrev pub LastIs : (Word → Type 0) → List Word → Type 0
@@ -49,17 +57,17 @@ LastIs Is ws = (front : List Word) × (w : Word) × (ws ≡ front ++ w ∷ []) �
 abbrev pub WantsArgument : List Word → Expected → Type 0
 WantsArgument ws expects.Version = LastIs (IsKeyword (keyword.Number number.Version)) ws
 WantsArgument ws expects.Header = LastIs (IsKeyword (keyword.Number number.Header)) ws
-WantsArgument ws expects.Protocol = LastIs (IsKeyword (keyword.Number number.LeadsTo)) ws
+WantsArgument ws expects.Protocol = LastIs (λ w. IsKeyword (keyword.Number number.LeadsTo) w ⊎ IsKind kind.Protocol w) ws
 WantsArgument ws expects.Number = LastIs IsNumberKeyword ws
 WantsArgument ws expects.Byte = LastIs IsByteKeyword ws
 WantsArgument ws expects.IcmpType = LastIs (IsKeyword (keyword.Number number.IcmpType)) ws
 WantsArgument ws expects.Icmp6Type = LastIs (IsKeyword (keyword.Number number.Icmp6Type)) ws
 WantsArgument ws expects.Comparison = LastIs IsCountKeyword ws
 WantsArgument ws expects.Count = LastIs (λ w. IsTrue (is_some (comparison_of w))) ws
-WantsArgument ws expects.Network = LastIs (IsKeyword (keyword.Address address.Network)) ws
-WantsArgument ws expects.Address = LastIs (IsKeyword (keyword.Address address.Host)) ws
-WantsArgument ws expects.NetworkOrPort = LastIs IsSideKeyword ws
-WantsArgument ws expects.Ports = LastIs (IsKeyword (keyword.Address address.Port)) ws
+WantsArgument ws expects.Network = LastIs (IsKind kind.Network) ws
+WantsArgument ws expects.Address = LastIs (IsKind kind.Host) ws
+WantsArgument ws expects.NetworkOrPort = LastIs (λ w. IsTrue (is_some (direction_named w))) ws
+WantsArgument ws expects.Ports = LastIs (IsKind kind.Ports) ws
 WantsArgument ws expects.TcpFlags = LastIs (IsKeyword (keyword.Number number.TcpFlags)) ws
 WantsArgument ws e = ⊥
 
@@ -144,3 +152,84 @@ pub record RefusesTerm (k : Keyword) (text : List ℕ) (left : ℕ) (e : Expecte
   pub expected : (w : Word) → IsKeyword k w → WantsArgument (w ∷ before) e
   pub none : (u : Term) (us ws more : List Word) → AreArguments k us u → IsTrue (ends_term more)
       → us ++ more ≡ before ++ ws → take 1 ws ≡ take 1 (words (drop (length text - left) text)) → ⊥
+
+-- ---- primitives
+
+-- no word says here what an identifier is
+abbrev pub begins_no_kind : List Word → Bool
+begins_no_kind [] = true
+begins_no_kind (w ∷ ws) = not (is_some (kind_named w))
+
+-- qualifiers of this kind end before the words
+abbrev pub EndsBefore : Kind → List Word → Type 0
+EndsBefore kind.Side ws = IsTrue (begins_no_kind ws)
+EndsBefore k ws = ⊤
+
+-- The text begins with words after which a side's identifier is of this kind, or with none, and `rest` follows them.
+pub record ReadsKind (text : List ℕ) (k : Kind) (rest : List ℕ) : Type 0 where
+  pub front : List Word
+  pub begins : words text ≡ front ++ words rest
+  pub end : IsSuffix text rest
+  pub at : (d : Direction) (ws : List Word) → EndsBefore k ws → side_at d (front ++ ws) ≡ (of_any_protocol d k, ws)
+  pub ends : EndsBefore k (words rest)
+  pub wants : (w : Word) → IsTrue (is_some (direction_named w)) → WantsArgument (w ∷ front) (wanted k)
+
+-- The text begins with the qualifiers h, of any protocol.
+pub record ReadsSide (text : List ℕ) (h : Head) : Type 0 where
+  pub first : Word
+  pub front : List Word
+  pub begins : words text ≡ first ∷ (front ++ words h.rest.now)
+  pub end : IsSuffix text h.rest.now
+  pub place : IsPlace text [] h.left
+  pub any : h.qualifiers.protocol ≡ None
+  pub some : IsTrue (is_some (side_or_kind_at (first ∷ [])))
+  pub at : (ws : List Word) → EndsBefore h.qualifiers.kind ws → side_or_kind_at (first ∷ (front ++ ws)) ≡ Some (h.qualifiers, ws)
+  pub ends : EndsBefore h.qualifiers.kind (words h.rest.now)
+  pub wants : WantsArgument (first ∷ front) (wanted h.qualifiers.kind)
+
+-- The text begins with the qualifiers h: with a protocol, if they have one, and the others after it.
+pub record ReadsQualifiers (text : List ℕ) (h : Head) : Type 0 where
+  pub word : Word
+  pub front : List Word
+  pub begins : words text ≡ word ∷ (front ++ words h.rest.now)
+  pub end : IsSuffix text h.rest.now
+  pub any : h.qualifiers.protocol ≡ None → IsTrue (is_some (side_or_kind_at (word ∷ [])))
+  pub with : (p : Protocol) → h.qualifiers.protocol ≡ Some p
+      → (first : Word) × (more : List Word) × (front ≡ first ∷ more) × (protocol_named word ≡ Some p) × IsTrue (is_some (side_or_kind_at (first ∷ [])))
+      × IsPlace text (word ∷ []) h.left
+  pub at : (ws : List Word) → EndsBefore h.qualifiers.kind ws → qualifiers_at (word ∷ (front ++ ws)) ≡ Some (h.qualifiers, ws)
+  pub ends : EndsBefore h.qualifiers.kind (words h.rest.now)
+  pub wants : WantsArgument (word ∷ front) (wanted h.qualifiers.kind)
+
+-- After k terms the text begins with the primitive p, and `rest` follows it. No other primitive begins like these words, up
+-- to the word after them.
+pub record ReadsPrimitive (before : Option Qualifiers) (k : ℕ) (text : List ℕ) (p : Primitive) (rest : List ℕ) : Type 0 where
+  pub word : Word
+  pub args : List Word
+  pub begins : words text ≡ word ∷ (args ++ words rest)
+  pub is : IsPrimitive before word args p
+  pub few : k < 64 → k + terms_of (says p) ≤ 64
+  pub end : IsSuffix text rest
+  pub only : (q : Primitive) (v : Word) (vs ws more : List Word) → IsPrimitive before v vs q → IsTrue (ends_term more)
+      → v ∷ (vs ++ more) ≡ word ∷ (args ++ ws) → take 1 ws ≡ take 1 (words rest) → (v ≡ word) × (vs ≡ args) × (q ≡ p)
+
+-- a primitive begins with the words
+abbrev pub BeginsPrimitive : Option Qualifiers → List Word → (Primitive → Type 0) → Type 0
+BeginsPrimitive before ws Is = (w : Word) × (args rest : List Word) × (p : Primitive) × IsPrimitive before w args p × Is p × (w ∷ args ≡ ws ++ rest)
+
+-- What is expected in a primitive after the words `front` instead of `next`. A word is refused for the number of terms if
+-- a primitive begins with these words and that one.
+abbrev pub IsDueIn : Option Qualifiers → List Word → List Word → Expected → Type 0
+IsDueIn before front next expects.Operand = (front ≡ []) × ¬ (next ≡ codes "(" ∷ [])
+IsDueIn before front next expects.FewerTerms = BeginsPrimitive before (front ++ next) (λ p. ⊤)
+IsDueIn before front next e = WantsArgument front e
+
+-- After k terms no primitive with few enough terms begins like the text, up to the word at the place `left`, or ends there.
+-- Some primitive begins with the words before that place, after which e is expected.
+pub record RefusesPrimitive (before : Option Qualifiers) (k : ℕ) (text : List ℕ) (left : ℕ) (e : Expected) : Type 0 where
+  pub front : List Word
+  pub place : IsPlace text front left
+  pub begins : k < 64 → BeginsPrimitive before front (λ p. k + terms_of (says p) ≤ 64)
+  pub none : (q : Primitive) (v : Word) (vs ws more : List Word) → IsPrimitive before v vs q → k + terms_of (says q) ≤ 64 → IsTrue (ends_term more)
+      → v ∷ (vs ++ more) ≡ front ++ ws → take 1 ws ≡ take 1 (words (drop (length text - left) text)) → ⊥
+  pub expected : IsDueIn before front (take 1 (words (drop (length text - left) text))) e

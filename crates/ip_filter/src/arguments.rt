@@ -4,19 +4,16 @@
 ghost use Rattle.std.specs.Prelude.{◌≡◌, [], IfOk, IfErr};
 ghost use Rattle.ip_filter.specs.declared.parse_error.Expected.TheVariants as expects;
 ghost use Rattle.ip_filter.specs.Words.{words};
-ghost use Rattle.ip_filter.specs.Numbers.{number_up_to, version_named, header_named, protocol_of, comparison_of, ports_of, tcp_flags_of, IsNetworkText, IsHostText};
+ghost use Rattle.ip_filter.specs.Numbers.{number_up_to, version_named, header_named, protocol_of, comparison_of, tcp_flags_of};
 ghost use Rattle.ip_filter.specs.IcmpTypes.{icmp_type_of, icmp6_type_of};
 ghost use Rattle.ip_filter.specs.Grammar.{Finds};
 ghost use Rattle.ip_filter.specs.Reading.{IsPlace, IsFirstWord, ReadsArgument, RefusesArgument};
 
 use crate::icmp_types::{parse_icmp_type, parse_icmp6_type};
-use crate::networks::{parse_host, parse_network};
-use crate::numbers::{
-    parse_comparison, parse_header, parse_number, parse_ports, parse_protocol, parse_version,
-};
+use crate::numbers::{parse_comparison, parse_header, parse_number, parse_protocol, parse_version};
 use crate::tcp_flags::parse_tcp_flags;
 use crate::words::{Word, first_word};
-use crate::{Comparison, Expected, Network, Ports, TcpFlags};
+use crate::{Comparison, Expected, TcpFlags};
 
 /// What is wrong in a text.
 #[derive(Clone, Copy)]
@@ -143,45 +140,6 @@ pub(crate) fn read_comparison(text: &[u8]) -> Result<(Comparison, &[u8]), Unexpe
     match parse_comparison(word.bytes) {
         Some(comparison) => Ok((comparison, word.rest)),
         None => Err(word.unexpected(Expected::Comparison)),
-    }
-}
-
-/// Reads a network.
-pub(crate) fn read_network(text: &[u8]) -> Result<(Network, &[u8]), Unexpected>
-    ensures ok { IfOk result (λ r. ReadsArgument IsNetworkText text.now r.0 r.1.now) }
-    ensures err { IfErr result (λ e. RefusesArgument IsNetworkText text.now e.left
-        × (e.expected ≡ expects.Network)) }
-{
-    let word = argument(text, Expected::Network)?;
-    match parse_network(word.bytes) {
-        Some(network) => Ok((network, word.rest)),
-        None => Err(word.unexpected(Expected::Network)),
-    }
-}
-
-/// Reads an address.
-pub(crate) fn read_host(text: &[u8]) -> Result<(Network, &[u8]), Unexpected>
-    ensures ok { IfOk result (λ r. ReadsArgument IsHostText text.now r.0 r.1.now) }
-    ensures err { IfErr result (λ e. RefusesArgument IsHostText text.now e.left
-        × (e.expected ≡ expects.Address)) }
-{
-    let word = argument(text, Expected::Address)?;
-    match parse_host(word.bytes) {
-        Some(network) => Ok((network, word.rest)),
-        None => Err(word.unexpected(Expected::Address)),
-    }
-}
-
-/// Reads a port or a range of ports.
-pub(crate) fn read_ports(text: &[u8]) -> Result<(Ports, &[u8]), Unexpected>
-    ensures ok { IfOk result (λ r. ReadsArgument (Finds ports_of) text.now r.0 r.1.now) }
-    ensures err { IfErr result (λ e. RefusesArgument (Finds ports_of) text.now e.left
-        × (e.expected ≡ expects.Ports)) }
-{
-    let word = argument(text, Expected::Ports)?;
-    match parse_ports(word.bytes) {
-        Some(ports) => Ok((ports, word.rest)),
-        None => Err(word.unexpected(Expected::Ports)),
     }
 }
 

@@ -3,21 +3,20 @@ ghost use Rattle.std.specs.Prelude.{◌≡◌, ◌≤◌, ◌+◌, ℕ, Option, 
 ghost use Rattle.arrayvec.specs.ArrayVec.{array_vec_len};
 ghost use Rattle.ip_filter.specs.Formula.{Formula};
 ghost use Rattle.ip_filter.specs.Compiled.{terms_of_all, HasCompiled};
-ghost use Rattle.ip_filter.specs.Grammar.{Operand, Conjunction, Disjunction, a_group, operand_formula, conjunction_formula, formula_of, is_not, is_and, is_or};
+ghost use Rattle.ip_filter.specs.Qualifiers.{says, says_named};
+ghost use Rattle.ip_filter.specs.Grammar.{Operand, Conjunction, Disjunction, a_primitive, a_group, operand_formula, conjunction_formula, formula_of};
 ghost use Rattle.ip_filter.specs.Words.{Word as Text};
 ghost use Rattle.ip_filter.specs.Reading.{IsFirstWord};
 ghost use Rattle.ip_filter.specs.Parsing.{Open, State, before, after, nothing_open, with_operand, and_joined, or_joined, or_formulas, and_formulas, state_terms, CountsFit, Holds, HoldsOperand, HoldsGroup, IsFinished, ReadsOn, RefusesFrom, IsDue, IsWhole};
 
-use crate::Expected;
 use crate::arguments::Unexpected;
 use crate::compile::Compiler;
-use crate::keyword::keyword_of;
-use crate::parse_term::read_term;
+use crate::operators::{is_and, is_not, is_or};
+use crate::primitive::{MAX_TERMS, read_primitive};
+use crate::qualifiers::{Named, Primitive, Qualifiers};
 use crate::words::Word;
+use crate::{Expected, Term};
 use arrayvec::ArrayVec;
-
-/// The most terms of a filter.
-const MAX_TERMS: usize = 64;
 
 /// The text or an open group: what waits for the next operand there.
 #[derive(Clone, Copy, Default)]
@@ -43,6 +42,8 @@ pub(crate) struct Builder {
     pub level: Level,
     /// Whether an operand was just read.
     pub has_operand: bool,
+    /// The qualifiers of the last primitive, if an identifier can take them.
+    pub leaves: Option<Qualifiers>,
 }
 
 impl Builder {
@@ -56,6 +57,7 @@ impl Builder {
             outer: ArrayVec::new(),
             level: Level::default(),
             has_operand: false,
+            leaves: None,
         }
     }
 
@@ -94,18 +96,25 @@ impl Builder {
             self.level = Level::default();
             return Ok(word.rest);
         }
-        let Some(keyword) = keyword_of(word.bytes) else {
-            return Err(word.unexpected(Expected::Operand));
-        };
-        match read_term(keyword, word.rest) {
-            Ok((term, rest)) => {
-                self.compiler.add(term);
-                self.terms = self.terms.saturating_add(1);
+        match read_primitive(self.leaves, self.terms, word) {
+            Ok((primitive, rest)) => {
+                self.add(primitive);
                 self.end_operand();
                 Ok(rest)
             }
             Err(unexpected) => Err(unexpected),
         }
+    }
+
+    /// Adds a primitive.
+    fn add(&mut self, primitive: Primitive)
+        ensures { (fs : List Open) (f : Open) (w : Text) (us : List Text) → Holds (before fs f) self.old
+            → state_terms (with_operand fs f (a_primitive w us primitive)) ≤ 64
+            → HoldsOperand fs f (a_primitive w us primitive) self.new }
+    {
+        add_primitive(&mut self.compiler, primitive);
+        self.terms = self.terms.saturating_add(primitive.terms());
+        self.leaves = primitive.leaves;
     }
 
     /// Reads an operator, or the end of a group.
@@ -192,6 +201,36 @@ impl Builder {
     }
 }
 
+/// Appends the formula of a primitive.
+fn add_primitive(compiler: &mut Compiler, primitive: Primitive)
+    ensures { (fs : List Formula) → terms_of_all (says primitive ∷ fs) ≤ 64
+        → HasCompiled fs compiler.old → HasCompiled (says primitive ∷ fs) compiler.new }
+{
+    match primitive.protocol {
+        Some(protocol) => {
+            compiler.add(protocol.term());
+            add_named(compiler, primitive.named);
+            compiler.join(true);
+        }
+        None => add_named(compiler, primitive.named),
+    }
+}
+
+/// Appends what an identifier says.
+fn add_named(compiler: &mut Compiler, named: Named)
+    ensures { (fs : List Formula) → terms_of_all (says_named named ∷ fs) ≤ 64
+        → HasCompiled fs compiler.old → HasCompiled (says_named named ∷ fs) compiler.new }
+{
+    match named {
+        Named::Term(term) => compiler.add(term),
+        Named::Header(number) => {
+            compiler.add(Term::Header(number));
+            compiler.add(Term::LeadsTo(number));
+            compiler.join(false);
+        }
+    }
+}
+
 /// Joins the last operand to the conjunction before it, if one waits.
 fn join_and(to: &mut Compiler, waits: bool)
     ensures { (a : Option (Conjunction × Text)) (u : Operand) (fs : List Formula) → waits ≡ is_some a
@@ -214,25 +253,4 @@ fn join_or(to: &mut Compiler, waits: bool)
     if waits {
         to.join(false);
     }
-}
-
-/// Returns whether the word is `not`.
-fn is_not(word: &[u8]) -> bool
-    ensures { result ≡ is_not word.now }
-{
-    word == b"not".as_slice() || word == b"!".as_slice()
-}
-
-/// Returns whether the word is `and`.
-fn is_and(word: &[u8]) -> bool
-    ensures { result ≡ is_and word.now }
-{
-    word == b"and".as_slice() || word == b"&&".as_slice()
-}
-
-/// Returns whether the word is `or`.
-fn is_or(word: &[u8]) -> bool
-    ensures { result ≡ is_or word.now }
-{
-    word == b"or".as_slice() || word == b"||".as_slice()
 }

@@ -1,8 +1,8 @@
 //! Keywords: the words that terms begin with.
 ghost use Rattle.std.specs.Prelude.{◌≡◌};
-ghost use Rattle.ip_filter.specs.Grammar.{alone, quantity_named, icmp_keyword_of, number_keyword_of, address_keyword_of, keyword_of};
+ghost use Rattle.ip_filter.specs.Grammar.{alone, quantity_named, icmp_keyword_of, number_keyword_of, keyword_of};
 
-use crate::numbers::parse_upper_layer;
+use crate::qualifiers::protocol_named;
 use crate::{Quantity, Term};
 
 /// What a keyword is: a term, or the beginning of one.
@@ -20,8 +20,6 @@ pub(crate) enum Keyword {
     Compared(Quantity),
     /// The segments left of a routing header, which a comparison and a number follow.
     SegmentsLeft,
-    /// An address, a network or ports follow.
-    Address(AddressKeyword),
 }
 
 /// A keyword that a number or a name follows.
@@ -53,21 +51,6 @@ pub(crate) enum NumberKeyword {
     TcpFlags,
 }
 
-/// A keyword that an address, a network or ports follow.
-#[derive(Clone, Copy)]
-pub(crate) enum AddressKeyword {
-    /// The source: a network, or `port` and ports.
-    Source,
-    /// The destination: a network, or `port` and ports.
-    Destination,
-    /// Either address: a network.
-    Network,
-    /// Either address: one address.
-    Host,
-    /// Either port: ports.
-    Port,
-}
-
 /// Returns what the word is, if it is a keyword.
 pub(crate) fn keyword_of(word: &[u8]) -> Option<Keyword>
     ensures { result ≡ keyword_of word.now }
@@ -87,11 +70,8 @@ pub(crate) fn keyword_of(word: &[u8]) -> Option<Keyword>
     if let Some(quantity) = quantity_named(word) {
         return Some(Keyword::Compared(quantity));
     }
-    if let Some(keyword) = number_keyword_of(word) {
-        return Some(Keyword::Number(keyword));
-    }
-    match address_keyword_of(word) {
-        Some(keyword) => Some(Keyword::Address(keyword)),
+    match number_keyword_of(word) {
+        Some(keyword) => Some(Keyword::Number(keyword)),
         None => None,
     }
 }
@@ -100,12 +80,6 @@ pub(crate) fn keyword_of(word: &[u8]) -> Option<Keyword>
 fn alone(word: &[u8]) -> Option<Term>
     ensures { result ≡ alone word.now }
 {
-    if word == b"ip".as_slice() {
-        return Some(Term::Version(4));
-    }
-    if word == b"ip6".as_slice() {
-        return Some(Term::Version(6));
-    }
     if word == b"fragment".as_slice() {
         return Some(Term::Fragment);
     }
@@ -124,14 +98,8 @@ fn alone(word: &[u8]) -> Option<Term>
     if word == b"no-length".as_slice() {
         return Some(Term::NoLength);
     }
-    if word == b"icmp".as_slice() {
-        return Some(Term::Icmp);
-    }
-    if word == b"icmp6".as_slice() {
-        return Some(Term::Icmp6);
-    }
-    match parse_upper_layer(word) {
-        Some(number) => Some(Term::LeadsTo(number)),
+    match protocol_named(word) {
+        Some(protocol) => Some(protocol.term()),
         None => None,
     }
 }
@@ -213,28 +181,6 @@ fn icmp_keyword_of(word: &[u8]) -> Option<NumberKeyword>
     }
     if word == b"icmp6-code".as_slice() {
         return Some(NumberKeyword::Icmp6Code);
-    }
-    None
-}
-
-/// Returns the keyword that the word is, if an address, a network or ports follow it.
-fn address_keyword_of(word: &[u8]) -> Option<AddressKeyword>
-    ensures { result ≡ address_keyword_of word.now }
-{
-    if word == b"src".as_slice() {
-        return Some(AddressKeyword::Source);
-    }
-    if word == b"dst".as_slice() {
-        return Some(AddressKeyword::Destination);
-    }
-    if word == b"net".as_slice() {
-        return Some(AddressKeyword::Network);
-    }
-    if word == b"host".as_slice() {
-        return Some(AddressKeyword::Host);
-    }
-    if word == b"port".as_slice() {
-        return Some(AddressKeyword::Port);
     }
     None
 }

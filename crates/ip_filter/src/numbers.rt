@@ -61,7 +61,7 @@ pub(crate) fn parse_header(word: &[u8]) -> Option<u8>
 }
 
 /// Returns the number, if an extension header of a packet can have it.
-fn header_numbered(number: u8) -> Option<u8>
+pub(crate) fn header_numbered(number: u8) -> Option<u8>
     ensures { result ≡ header_numbered number }
 {
     match IpNumber(number) {

@@ -1,19 +1,18 @@
 //! Terms, as a filter's text writes them.
 ghost use Rattle.std.specs.Prelude.{◌≡◌, IfOk, IfErr, IfSome, IfNone};
 ghost use Rattle.ip_filter.specs.declared.keyword.Keyword.TheVariants as is;
-ghost use Rattle.ip_filter.specs.Grammar.{Finds, AreCompared, AreSide, layer_with, source, destination};
-ghost use Rattle.ip_filter.specs.Reading.{IsCountKeyword, IsSideKeyword, BeginsOtherwise, ReadsTerm, RefusesTerm, ReadsArgument, ReadsArguments, RefusesArguments};
+ghost use Rattle.ip_filter.specs.Grammar.{Finds, AreCompared, layer_with};
+ghost use Rattle.ip_filter.specs.Reading.{IsCountKeyword, BeginsOtherwise, ReadsTerm, RefusesTerm, ReadsArgument, ReadsArguments, RefusesArguments};
 
 use crate::arguments::{
-    Unexpected, argument, read_comparison, read_header, read_host, read_icmp_type, read_icmp6_type,
-    read_network, read_number, read_ports, read_protocol, read_tcp_flags, read_version,
+    Unexpected, read_comparison, read_header, read_icmp_type, read_icmp6_type, read_number,
+    read_protocol, read_tcp_flags, read_version,
 };
-use crate::keyword::{AddressKeyword, Keyword, NumberKeyword};
+use crate::keyword::{Keyword, NumberKeyword};
 use crate::layers::{LayerError, parse_layer_with};
-use crate::networks::parse_network;
 use crate::numbers::parse_fault_kind;
 use crate::words::first_word;
-use crate::{Comparison, Expected, Network, Ports, Term};
+use crate::{Comparison, Expected, Term};
 use ip_base::err::Layer;
 
 /// The largest security parameters index or identification.
@@ -43,7 +42,6 @@ pub(crate) fn read_term(keyword: Keyword, text: &[u8]) -> ReadTerm<'_>
             Ok(((comparison, number), rest)) => Ok((Term::SegmentsLeft(comparison, number), rest)),
             Err(error) => Err(error),
         },
-        Keyword::Address(keyword) => read_address_term(keyword, text),
     }
 }
 
@@ -161,82 +159,5 @@ fn read_count(text: &[u8]) -> Result<((Comparison, u64), &[u8]), Unexpected>
             Err(error) => Err(error),
         },
         Err(error) => Err(error),
-    }
-}
-
-/// Reads the address, the network or the ports that follow a keyword.
-#[tactic(auto, using(crate::proofs::TermLemmas::address_terms))]
-fn read_address_term(keyword: AddressKeyword, text: &[u8]) -> ReadTerm<'_>
-    ensures ok { IfOk result (λ r. ReadsTerm (is.Address keyword) text.now r.0 r.1.now) }
-    ensures err { IfErr result (λ e. RefusesTerm (is.Address keyword) text.now e.left e.expected) }
-{
-    match keyword {
-        AddressKeyword::Source => {
-            let (side, rest) = read_side(text)?;
-            Ok((source(side), rest))
-        }
-        AddressKeyword::Destination => {
-            let (side, rest) = read_side(text)?;
-            Ok((destination(side), rest))
-        }
-        AddressKeyword::Network => {
-            let (network, rest) = read_network(text)?;
-            Ok((Term::Either(network), rest))
-        }
-        AddressKeyword::Host => {
-            let (network, rest) = read_host(text)?;
-            Ok((Term::Either(network), rest))
-        }
-        AddressKeyword::Port => {
-            let (ports, rest) = read_ports(text)?;
-            Ok((Term::Port(ports), rest))
-        }
-    }
-}
-
-/// What is asked of the source or the destination.
-#[derive(Clone, Copy)]
-pub(crate) enum Side {
-    /// Its address lies in the network.
-    Network(Network),
-    /// Its port is one of these.
-    Ports(Ports),
-}
-
-/// Returns the term that asks this of the source.
-fn source(side: Side) -> Term
-    ensures { result ≡ source side }
-{
-    match side {
-        Side::Network(network) => Term::Source(network),
-        Side::Ports(ports) => Term::SourcePort(ports),
-    }
-}
-
-/// Returns the term that asks this of the destination.
-fn destination(side: Side) -> Term
-    ensures { result ≡ destination side }
-{
-    match side {
-        Side::Network(network) => Term::Destination(network),
-        Side::Ports(ports) => Term::DestinationPort(ports),
-    }
-}
-
-/// Reads a network, or `port` and ports.
-#[tactic(auto, using(crate::proofs::SideLemmas::network_read, crate::proofs::SideLemmas::ports_read, crate::proofs::SideLemmas::no_ports, crate::proofs::SideLemmas::no_side))]
-fn read_side(text: &[u8]) -> Result<(Side, &[u8]), Unexpected>
-    ensures ok { IfOk result (λ r. ReadsArguments AreSide text.now r.0 r.1.now) }
-    ensures err { IfErr result (λ e. RefusesArguments AreSide IsSideKeyword text.now e.left
-        e.expected) }
-{
-    let word = argument(text, Expected::NetworkOrPort)?;
-    if word.bytes == b"port".as_slice() {
-        let (ports, rest) = read_ports(word.rest)?;
-        return Ok((Side::Ports(ports), rest));
-    }
-    match parse_network(word.bytes) {
-        Some(network) => Ok((Side::Network(network), word.rest)),
-        None => Err(word.unexpected(Expected::NetworkOrPort)),
     }
 }

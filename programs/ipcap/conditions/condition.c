@@ -88,20 +88,58 @@ static void copy_word(struct text *text, size_t *len, const char *word, size_t s
     append(text, len, port ? digits : word, port ? port : size, origin, port == 0);
 }
 
+/* Whether the word is one of these. */
+static bool is_one_of(const char *word, size_t size, const char *const words[], size_t count)
+{
+    for (size_t i = 0; i < count; i++)
+        if (is_word(word, size, words[i])) return true;
+    return false;
+}
+
+/* The words after which an identifier is a port, and those after which one takes the qualifiers of the primitive before it. */
+static const char *const port_words[] = {"port", "portrange"};
+static const char *const joining_words[] = {"and", "or", "not", "(", "&&", "||", "!"};
+
+/* Whether the word begins nothing in the library's filters, so it can only be an identifier. */
+static bool is_identifier(const char *word, size_t size)
+{
+    struct wolfaren_filter filter;
+    struct wolfaren_filter_error error;
+    return !wolfaren_parse_filter(word, size, &filter, &error) && error.offset == 0;
+}
+
+/* What the words so far say of the next one. */
+struct port_place {
+    bool is_next;   /* it is a port */
+    bool is_joined; /* it is one if it is an identifier */
+    bool is_left;   /* the last qualifiers are those of a port */
+};
+
+/* Goes past a word, which is a port if `is_port` is set. */
+static void pass_word(struct port_place *place, const char *word, size_t size, bool is_port)
+{
+    bool joins = is_one_of(word, size, joining_words, sizeof joining_words / sizeof *joining_words);
+    place->is_next = is_one_of(word, size, port_words, sizeof port_words / sizeof *port_words);
+    if (!is_port && !joins && !is_word(word, size, ")")) place->is_left = place->is_next;
+    place->is_joined = joins && place->is_left;
+}
+
 /* Copies the words of the arguments, except those that the library's filters don't know. */
 static void copy_words(struct text *text, const struct text *arguments)
 {
     size_t end = arguments->ends[arguments->count - 1], len = 0;
     int argument = 0;
-    bool is_port = false;
+    struct port_place place = {false, false, false};
     for (size_t at = 0, size; at < end; at += size) {
         const char *word = arguments->bytes + at;
         while (arguments->ends[argument] <= at) text->ends[argument++] = len;
         size = word_len(word, end - at);
-        if (is_own_term(word, size)) append(text, &len, text->stand_in, strlen(text->stand_in), at, false);
-        else if (is_word(word, size, any)) append(text, &len, any_packet, strlen(any_packet), at, false);
+        bool is_own = is_own_term(word, size), is_any = is_word(word, size, any);
+        bool is_port = place.is_next || (place.is_joined && !is_own && !is_any && is_identifier(word, size));
+        if (is_own) append(text, &len, text->stand_in, strlen(text->stand_in), at, false);
+        else if (is_any) append(text, &len, any_packet, strlen(any_packet), at, false);
         else copy_word(text, &len, word, size, at, is_port);
-        if (!is_space(*word)) is_port = is_word(word, size, "port");
+        if (!is_space(*word)) pass_word(&place, word, size, is_port);
     }
     while (argument < text->count) text->ends[argument++] = len;
     text->origins[len] = end;
@@ -140,8 +178,8 @@ static const struct {
     {"less", "length <= N"},
     {"greater", "length >= N"},
     {"len", "length"},
-    {"portrange", "port A-B"},
-    {"proto", "leads-to PROTOCOL"},
+    {"mask", "net ADDRESS/BITS"},
+    {"multicast", "dst NETWORK"},
     {"protochain", "header N, or leads-to N"},
     {"tcp[tcpflags]", "tcp-flags FLAGS"},
     {"icmp[icmptype]", "icmp-type TYPE"},
@@ -149,21 +187,6 @@ static const struct {
     {"icmp6[icmp6type]", "icmp6-type TYPE"},
     {"icmp6[icmp6code]", "icmp6-code N"},
 };
-
-/* Says what is written instead of libpcap's `proto` if the word after it is an extension header. Returns whether it is. */
-static bool show_header(const char *word, size_t size, size_t left)
-{
-    char name[MOST_HEADER];
-    uint64_t headers = 0;
-    while (size < left && is_space(word[size])) size++;
-    size_t len = size < left ? word_len(word + size, left - size) : 0;
-    if (len == 0 || len >= sizeof name) return false;
-    memcpy(name, word + size, len);
-    name[len] = '\0';
-    if (!read_header_argument(name, &headers)) return false;
-    fprintf(stderr, "  for libpcap's `proto %s`, write `header %s`\n", name, name);
-    return true;
-}
 
 /* Says what is written instead of `header` and a word, if that is a protocol, but no extension header of a packet. */
 static void show_protocol(const char *word, size_t size)
@@ -179,10 +202,9 @@ static void show_protocol(const char *word, size_t size)
             is_esp ? "esp" : text);
 }
 
-/* Says what is written instead of a word of libpcap's expressions, which is the first of the `left` bytes. */
-static void show_ours(const char *word, size_t size, size_t left)
+/* Says what is written instead of a word of libpcap's expressions. */
+static void show_ours(const char *word, size_t size)
 {
-    if (is_word(word, size, "proto") && show_header(word, size, left)) return;
     for (size_t i = 0; i < sizeof libpcap_words / sizeof *libpcap_words; i++)
         if (strlen(libpcap_words[i].word) == size && memcmp(libpcap_words[i].word, word, size) == 0)
             fprintf(stderr, "  for libpcap's `%s`, write `%s`\n", libpcap_words[i].word, libpcap_words[i].ours);
@@ -204,7 +226,7 @@ static void complain_of_condition(const struct text *text, uint8_t wanted, size_
     if (wanted == WOLFAREN_EXPECTED_HEADER)
         show_protocol(word, size);
     else
-        show_ours(word, size, left);
+        show_ours(word, size);
 }
 
 /* Reports the networks that have bits set after their prefix, which are likely mistakes. Returns whether there are any. */

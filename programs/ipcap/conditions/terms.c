@@ -48,6 +48,8 @@ static const struct {
     {"src port PORTS", "the source port is one of these", "src port 1024-65535"},
     {"dst port PORTS", "the destination port is one of these", "dst port 443"},
     {"port PORTS", "either port is one of these", "port 53"},
+    {"portrange PORTS", "as port", "portrange 1-1023"},
+    {"proto PROTOCOL", "as leads-to, or the chain has the header", "proto 44"},
     {"no-transport", "the upper-layer header is not all there", "no-transport"},
     {"icmp-type TYPE", "the type of an ICMP message of IPv4", "icmp-type icmp-echo"},
     {"icmp-code N", "the code of an ICMP message of IPv4", "icmp-code 0"},
@@ -74,6 +76,8 @@ static const char arguments[] =
     "FLAGS     fin, syn, rst, psh, ack, urg, ece, cwr, or several with commas between; all that count after a slash\n"
     "After leads-to, icmp and icmp6 are numbers of either version.\n"
     "TCP, UDP, UDP-Lite, SCTP and DCCP have ports. A later fragment has none.\n"
+    "host, net, port or portrange may follow src and dst. ip, ip6 or a NAME may precede src, dst and these: `tcp port 443`\n"
+    "is `( tcp and port 443 )`. An identifier alone takes the words before it: `port 80 or 443` is `port 80 or port 443`.\n"
     "Terms are combined with `not`, `and` and `or`, or `!`, `&&` and `||`, and parentheses.\n";
 
 void print_terms(void)

@@ -66,12 +66,18 @@ class Filter:
                                              before it
         src NET, dst NET, net NET            NET is an IPv4 or IPv6 address, alone or with a slash and a number of bits
         host A                               A is an IPv4 or IPv6 address
-        src port P, dst port P, port P       P is a port or a range such as 1024-65535
+        src port P, dst port P, port P, portrange P       P is a port or a range such as 1024-65535
+        proto N                              as `leads-to N`; of an extension header, `( header N or leads-to N )`
         no-transport                         the payload should start with an upper-layer header, but lacks part of it
         icmp-type T, icmp-code N             the type and the code of an ICMP message of an IPv4 packet; T is a number or a name
         icmp6-type T, icmp6-code N           those of an ICMPv6 message of an IPv6 packet
         tcp-flags LIST, tcp-flags LIST/LIST  these flags of TCP are set; of those after the slash, exactly these. LIST is a
                                              flag or several with commas between: fin, syn, rst, psh, ack, urg, ece, cwr
+
+    As in tcpdump's expressions, `host`, `net`, `port` or `portrange` may follow `src` and `dst`, and `ip`, `ip6` or the name
+    of a protocol may precede `src`, `dst` and these: `tcp src port 80` is `( tcp and src port 80 )`, of two terms. An
+    address, prefix, port or protocol alone takes the words of the term before it: `tcp port 80 or 443` is
+    `tcp port 80 or tcp port 443`.
 
     TCP, UDP, UDP-Lite, SCTP and DCCP have ports. Ports, types, codes and flags of TCP are read from the payload, so
     extension headers may precede them. A later fragment has none, nor has a packet with an error or a truncated header. The

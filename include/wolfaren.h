@@ -852,8 +852,9 @@ enum wolfaren_refusal {
     WOLFAREN_REFUSED_FRAGMENTED = 8,      /* the change is in the part of the packet that is fragmented */
     WOLFAREN_REFUSED_AUTHENTICATED = 9,   /* an authentication header covers the change (RFC 4302, section 3.3.3) */
     WOLFAREN_REFUSED_HEADER_FOLLOWS = 10, /* the payload would be read as an extension header, in IPv4 an authentication header */
-    WOLFAREN_REFUSED_NO_LENGTH = 11,      /* its length would change, and its length field is 0, as in a jumbogram (RFC 2675) */
-    WOLFAREN_REFUSED_TOO_LONG = 12,       /* its length field can't state the length */
+    WOLFAREN_REFUSED_NO_LENGTH = 11,      /* its length would change, its length field is 0, and it is no jumbogram (RFC 2675) */
+    WOLFAREN_REFUSED_NOT_A_JUMBOGRAM = 14, /* it is a jumbogram, and would no longer be one */
+    WOLFAREN_REFUSED_TOO_LONG = 12,       /* its length field, or the option of a jumbogram, can't state the length */
     WOLFAREN_REFUSED_NO_ROOM = 13         /* `room` is less than the length */
 };
 

@@ -1,23 +1,26 @@
 -- The header that was inserted into a packet can be left out again.
-use Rattle.ip_spec.proofs.Common.{zero, suc, ◌≡◌, ℕ, ◌+◌, ◌≤◌, ◌<◌, List, [], ◌∷◌, length, take, inl, inr, refl, sym, ◌∙◌, ap, arith, common_steps, Bool, true, false, false≢true, cases_Bool, eq-eqb, ne_eqb, if◌then◌else◌, or-false, or_assoc, ◌&&◌, ◌||◌, ◌==◌, not, nat_lt, list_any, slice_set, slice_index, get_or-set_other, Option, None, Some, is_some, is_empty, ExtHeader, bytes_of}
+use Rattle.ip_spec.proofs.Common.{zero, suc, ◌≡◌, ℕ, ◌+◌, ◌≤◌, ◌<◌, List, [], ◌∷◌, length, take, inl, inr, refl, sym, ◌∙◌, ap, arith, common_steps, Bool, true, false, false≢true, cases_Bool, cond-true, cond-false, subst, option_or, eqb-true, eq-eqb, ne_eqb, if◌then◌else◌, or-false, or_assoc, ◌&&◌, ◌||◌, ◌==◌, not, nat_lt, list_any, slice_set, slice_index, get_or-set_other, Option, None, Some, is_some, is_empty, ExtHeader, bytes_of}
 use Rattle.ip_dissect.specs.Fragment.{fragments, ipv6_fragment}
 use Rattle.ip_dissect.specs.declared.fragment.Fragment.{Fragment}
 use Rattle.ip_dissect.specs.Dissection.{DissectedParts, dissected}
 use Rattle.ip_dissect.specs.Outline.{is_later_end}
-use Rattle.ip_rewrite.specs.Headers.{number_of_first, leading_to, linked_headers}
+use Rattle.ip_rewrite.specs.Headers.{number_of_first, leading_to, linked_headers, is_options}
 use Rattle.ip_rewrite.specs.Base.{length_field}
-use Rattle.ip_rewrite.specs.Rewritten.{is_unstated, changes_unstated, rewritten_len, rewritten_field, rewritten_parts, room_fault}
-use Rattle.ip_rewrite.specs.Selection.{any_selected, selects_fragmented}
+use Rattle.ip_rewrite.specs.Jumbogram.{following_len, is_unstated, jumbo_offset, is_jumbogram, stating_at}
+use Rattle.ip_rewrite.specs.Rewritten.{rewritten_len, rewritten_field, rewritten_parts, unstated_fault, jumbo_fault, room_fault}
+use Rattle.ip_rewrite.specs.Selection.{selects_first, any_selected, selects_fragmented}
 use Rattle.ip_rewrite.specs.Without.{is_authentication, has_authentication, selects_covered, packet_fault, is_ipv4_fragment, may_be_invalid, selection_fault, without_fault}
-use Rattle.ip_rewrite.specs.Insertion.{inserted, is_header, is_options, is_misplaced, header_fault, insertion_fault}
+use Rattle.ip_rewrite.specs.Insertion.{inserted, is_header, is_misplaced, header_fault, insertion_fault}
+use Rattle.ip_rewrite.specs.Writing.{HasOption}
 use Rattle.ip_rewrite.specs.declared.err.RewriteError.{RewriteError}
-use Rattle.ip_rewrite.specs.declared.err.RewriteError.TheVariants.{NoLength, TooLong, NoRoom}
+use Rattle.ip_rewrite.specs.declared.err.RewriteError.TheVariants.{NoLength, NotAJumbogram, TooLong, NoRoom}
 use Rattle.ip_rewrite.specs.declared.which.Which.TheVariants.{Index}
 use Rattle.ip_rewrite.specs.declared.which.Authentication.{Authentication}
 use Rattle.ip_rewrite.proofs.DissectLemmas.{none_first, IsWholeChain}
-use Rattle.ip_rewrite.proofs.FrontLemmas.{joined_len}
 use Rattle.ip_rewrite.proofs.InsertionLemmas.{inserted_len, index_within}
-use Rattle.ip_rewrite.proofs.RestoringLemmas.{Alike, new, left, alike, size, base_size, field, known}
+use Rattle.ip_rewrite.proofs.StatingLemmas.{any_stating}
+use Rattle.ip_rewrite.proofs.JumbogramLemmas.{has_option, IsJumbogram, jumbogram_is}
+use Rattle.ip_rewrite.proofs.RestoringLemmas.{Alike, new, left, old, longer, headers_are, inside, alike, size, base_size, field, IsInsertable, must_state, known}
 
 -- what linking leaves unchanged
 fragments_leading : (h : ExtHeader) (m : ℕ) → fragments (leading_to m h) ≡ fragments h
@@ -129,43 +132,76 @@ field_less v false b n k less = elim (cases_Bool (v == 4)) [
   | inr s ↦ rw s less
 ]
 
-room_less : (u w : Bool) (f g k l room : ℕ) → f ≤ g → k ≤ l → (w ≡ false → u ≡ false) → (let o : Option RewriteError = if w then Some NoLength else if nat_lt 65535 g then Some TooLong else if nat_lt room l then Some NoRoom else None in o) ≡ None
-    → (if u then Some NoLength else if nat_lt 65535 f then Some TooLong else if nat_lt room k then Some NoRoom else None) ≡ None
-room_less u true f g k l room less shorter same e = absurd (cc)
-room_less u false f g k l room less shorter same e = rw (same refl) (grind (arith, common_steps))
+room_less : (f g k l room : ℕ) → f ≤ g → k ≤ l → (let o : Option RewriteError = if nat_lt 65535 g then Some TooLong else if nat_lt room l then Some NoRoom else None in o) ≡ None
+    → (if nat_lt 65535 f then Some TooLong else if nat_lt room k then Some NoRoom else None) ≡ None
+room_less f g k l room less shorter e = grind (arith, common_steps)
 
--- a length that doesn't change is restored
-unchanged_back : (u w : Bool) (a b d e : ℕ) → u ≡ w → a ≡ e → d ≡ b → (w && not (d == a)) ≡ false → (u && not (e == b)) ≡ false
-unchanged_back true true a b d e same p q off = rw (sym p, sym q) (back a d off)
-  where
-    back : (a d : ℕ) → not (d == a) ≡ false → not (a == d) ≡ false
-    back a d off = grind (arith, common_steps)
-unchanged_back true false a b d e same p q off = absurd (false≢true (sym same))
-unchanged_back false w a b d e same p q off = refl
+-- the length of a jumbogram, restored
+no_unstated : (jumbo same long fits : Bool) → jumbo ≡ true → long ≡ true → fits ≡ true → (let o : Option RewriteError = if not jumbo then (if same then None else Some NoLength) else if not long then Some NotAJumbogram else if not fits then Some TooLong else None in o) ≡ None
+no_unstated jumbo same long fits is p q = rw (is, p, q) refl
 
-module _ (a : Authentication) (i : ℕ) (h : ExtHeader) (room : ℕ) (p : DissectedParts) (chain : IsWholeChain p) (within : i ≤ length p.headers) (states : is_unstated (new i h p chain within) ≡ is_unstated p) where
+neither_fault : (a b : Option RewriteError) → a ≡ None → b ≡ None → option_or a b ≡ None
+neither_fault a b p q = rw (p, q) refl
+
+-- the first header of a jumbogram isn't the new one
+later_index : (i k : ℕ) (c : List ExtHeader) → HasOption (Some k) c → (i ≡ 0 → list_any is_options (take 1 c) ≡ false) → (0 == i) ≡ false
+later_index i k [] a first = absurd a
+later_index i k (g ∷ c) a first = ne_eqb 0 i (λ z. false≢true (sym (first (sym z)) ∙ (or-false (is_options g) ∙ a.0)))
+
+not_first : (i : ℕ) (c : List ExtHeader) → (0 == i) ≡ false → selects_first (Index i) c ≡ false
+not_first i [] e = refl
+not_first i (h ∷ c) e = e
+
+no_jumbo_fault : (b : Bool) (p : DissectedParts) → is_some (jumbo_offset p) ≡ false → jumbo_fault b p ≡ None
+no_jumbo_fault true p e = rw e refl
+no_jumbo_fault false p e = refl
+
+-- the headers before an index
+before_stating : (o : Option ℕ) (n i : ℕ) (c : List ExtHeader) → HasOption o c → list_any fragments (take i (stating_at o n c)) ≡ list_any fragments (take i c)
+before_stating None n i c a = refl
+before_stating (Some k) n i [] a = refl
+before_stating (Some k) n zero (h ∷ c) a = refl
+before_stating (Some k) n (suc i) (h ∷ c) a = rw (eqb-true h.number 0 a.0) refl
+
+module _ (a : Authentication) (i : ℕ) (h : ExtHeader) (room : ℕ) (p : DissectedParts) (chain : IsWholeChain p) (within : i ≤ length p.headers) (y : IsInsertable a i h p room) (states : is_unstated (new i h p chain within y.first) ≡ is_unstated p)
+    (jumbo : jumbo_offset (new i h p chain within y.first) ≡ jumbo_offset p) where
   abbrev changed : DissectedParts
-  changed = new i h p chain within
+  changed = new i h p chain within y.first
 
   abbrev rest : List ExtHeader
-  rest = left i h p chain within
+  rest = left i h p chain within y.first
+
+  abbrev before : List ExtHeader
+  before = old i h p chain within y.first
+
+  abbrev joined : List ExtHeader
+  joined = linked_headers p.number (inserted i h before)
+
+  headers : changed.headers ≡ joined
+  headers = headers_are i h p chain within y.first
+
+  inner : i ≤ length before
+  inner = inside i h p chain within y.first
 
   some : any_selected (λ g. true) (Index i) 0 changed.headers ≡ true
-  some = any_linked (λ g. true) i 0 p.number (inserted i h p.headers) (λ g n. refl) ∙ any_at (λ g. true) i 0 i h p.headers (omega arith) within
+  some = ap (any_selected (λ g. true) (Index i) 0) headers ∙ (any_linked (λ g. true) i 0 p.number (inserted i h before) (λ g n. refl) ∙ any_at (λ g. true) i 0 i h before (omega arith) inner)
 
   module _ (x : IsAllowed a i h p) where
     alone : any_selected fragments (Index i) 0 changed.headers ≡ false
-    alone = any_linked fragments i 0 p.number (inserted i h p.headers) fragments_leading ∙ (any_at fragments i 0 i h p.headers (omega arith) within ∙ x.alone)
+    alone = ap (any_selected fragments (Index i) 0) headers ∙ (any_linked fragments i 0 p.number (inserted i h before) fragments_leading ∙ (any_at fragments i 0 i h before (omega arith) inner ∙ x.alone))
 
     unfragmented : (is_ipv4_fragment changed || selects_fragmented (Index i) 0 false changed.headers) ≡ false
     unfragmented =
         ap (λ b. b || selects_fragmented (Index i) 0 false changed.headers) (still_whole (p.version == 4) p.fragment (ipv6_fragment changed.headers) x.whole)
-        ∙ (fragmented_linked i 0 p.number false (inserted i h p.headers) ∙ (fragmented_at i 0 i false h p.headers (omega arith) within ∙ x.before))
+        ∙ (ap (selects_fragmented (Index i) 0 false) headers
+        ∙ (fragmented_linked i 0 p.number false (inserted i h before) ∙ (fragmented_at i 0 i false h before (omega arith) inner
+        ∙ (before_stating (jumbo_offset p) (longer i h p chain within y.first) i p.headers (has_option p) ∙ x.before))))
 
     authentication : (has_authentication changed rest && selects_covered (Index i) 0 false changed.headers && not (may_be_invalid a)) ≡ false
     authentication =
         without_middle (has_authentication changed rest) (selects_covered (Index i) 0 false changed.headers) (not (may_be_invalid a))
-        (ap (λ b. (b || is_later_end p.end && (p.number == 51)) && not (may_be_invalid a)) (alike_authentication rest p.headers (alike i h p chain within)) ∙ x.authentication)
+        (ap (λ b. (b || is_later_end p.end && (p.number == 51)) && not (may_be_invalid a))
+        (alike_authentication rest before (alike i h p chain within y.first) ∙ any_stating is_authentication (jumbo_offset p) (longer i h p chain within y.first) p.headers (λ _ _. refl)) ∙ x.authentication)
       where
         without_middle : (b d e : Bool) → (b && e) ≡ false → (b && d && e) ≡ false
         without_middle true true e off = off
@@ -189,20 +225,41 @@ module _ (a : Authentication) (i : ℕ) (h : ExtHeader) (room : ℕ) (p : Dissec
     selection : selection_fault (Index i) a changed ≡ None
     selection = no_fault _ _ _ _ _ _ _ _ _ _ some alone unfragmented authentication other
 
-  room_left : room_fault p (inserted i h p.headers) p.payload room ≡ None → room_fault changed rest p.payload room ≡ None
-  room_left e =
-      room_less (changes_unstated changed rest p.payload) (changes_unstated p (inserted i h p.headers) p.payload) (rewritten_field changed rest p.payload) (rewritten_field p (inserted i h p.headers) p.payload) (rewritten_len changed rest p.payload) (rewritten_len p (inserted i h p.headers) p.payload) room
-      (omega (arith, field i h p chain within states, field_less p.version (is_unstated p) p.base (length (bytes_of p.headers) + length p.payload) (length (bytes_of (inserted i h p.headers)) + length p.payload) (omega (arith, inserted_len i p.headers h))))
-      (omega (arith, size i h p chain within, base_size i h p chain within, inserted_len i p.headers h))
-      (unchanged_back (is_unstated changed) (is_unstated p) (length (bytes_of p.headers) + length p.payload) (length (bytes_of changed.headers) + length p.payload) (length (bytes_of (inserted i h p.headers)) + length p.payload) (length (bytes_of rest) + length p.payload)
-      states (omega (arith, size i h p chain within)) (omega (arith, joined_len (inserted i h p.headers) p.number))) e
+  still_jumbo : (o : Option ℕ) → jumbo_offset p ≡ o → jumbo_fault (selects_first (Index i) changed.headers) changed ≡ None
+  still_jumbo None e = no_jumbo_fault (selects_first (Index i) changed.headers) changed (ap is_some (jumbo ∙ e))
+  still_jumbo (Some k) e =
+      let later : (0 == i) ≡ false = later_index i k p.headers (subst (λ o. HasOption o p.headers) e (has_option p)) y.first in
+      ap (λ b. jumbo_fault b changed) (not_first i changed.headers later)
+
+  states_again : (o : Option ℕ) → jumbo_offset p ≡ o → is_unstated p ≡ true → unstated_fault changed (length (bytes_of rest) + length p.payload) ≡ None
+  states_again None e u = absurd (must_state a i h room p chain within y u (ap is_some e))
+  states_again (Some k) e u =
+      let n : ℕ = length (bytes_of rest) + length p.payload in
+      let same : n ≡ following_len p = omega (arith, size i h p chain within y.first) in
+      let j : IsJumbogram p k = jumbogram_is p k e in
+      no_unstated (is_jumbogram changed) (n == following_len changed) (nat_lt 0xffff n) (nat_lt n 0x1_0000_0000) (ap is_some (jumbo ∙ e)) (ap (nat_lt 0xffff) same ∙ j.long) (ap (λ m. nat_lt m 0x1_0000_0000) same ∙ j.fits)
+
+  room_left : room_fault changed rest p.payload room ≡ None
+  room_left =
+      let n : ℕ = length (bytes_of rest) + length p.payload in
+      let fits = none_first (if is_unstated p then unstated_fault p (length (bytes_of (inserted i h p.headers)) + length p.payload) else None) _ y.fits in
+      neither_fault (if is_unstated changed then unstated_fault changed n else None) _
+      (elim (cases_Bool (is_unstated p)) [
+        | inl u ↦ cond-true (is_unstated changed) (unstated_fault changed n) None (states ∙ u) ∙ states_again (jumbo_offset p) refl u
+        | inr s ↦ cond-false (is_unstated changed) (unstated_fault changed n) None (states ∙ s)
+      ])
+      (room_less (rewritten_field changed rest p.payload) (rewritten_field p (inserted i h p.headers) p.payload) (rewritten_len changed rest p.payload) (rewritten_len p (inserted i h p.headers) p.payload) room
+      (omega (arith, field i h p chain within y.first states, field_less p.version (is_unstated p) p.base (length (bytes_of p.headers) + length p.payload) (length (bytes_of (inserted i h p.headers)) + length p.payload) (omega (arith, inserted_len i p.headers h))))
+      (omega (arith, size i h p chain within y.first, base_size i h p chain within y.first, inserted_len i p.headers h)) fits.1)
 
   pub accepted : insertion_fault a i h p room ≡ None → without_fault (Index i) a changed room ≡ None
   accepted e =
       let first = none_first (packet_fault p) _ e in
       let second = none_first (header_fault a i h p) _ first.1 in
-      rw (first.0, selection (allowed a i h p second.0), room_left second.1) refl
+      rw (first.0, selection (allowed a i h p second.0), still_jumbo (jumbo_offset p) refl, room_left) refl
 
 pub accepts : (a : Authentication) (i : ℕ) (h : ExtHeader) (room : ℕ) (s : List ℕ) → insertion_fault a i h (dissected s) room ≡ None
     → without_fault (Index i) a (rewritten_parts (dissected s) (inserted i h (dissected s).headers) (dissected s).number (dissected s).payload) room ≡ None
-accepts a i h room s e = let k = known a i h room s e in accepted a i h room (dissected s) k.chain (index_within a i h (dissected s) room e) k.states e
+accepts a i h room s e =
+    let k = known a i h room s e in
+    accepted a i h room (dissected s) k.chain (index_within a i h (dissected s) room e) k.insertable k.states k.jumbo e

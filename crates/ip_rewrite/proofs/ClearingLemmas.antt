@@ -1,5 +1,5 @@
 -- A packet with cleared reserved bits.
-use Rattle.ip_spec.proofs.Common.{◌≡◌, ℕ, ◌≤◌, List, [], ◌∷◌, ◌++◌, length, inl, inr, refl, sym, ◌∙◌, ap, arith, and_assoc, Bool, cases_Bool, or-false, or_assoc, ◌&&◌, ◌||◌, ◌==◌, list_any, slice_set, slice_index, length-append, length-set, get_or-set_other, get_or-set_same, get_or_append_left, append_assoc, append-nil, AllByRecursion, bit_and, Option, None, IsHeader, cleared_header, cleared_chain, unreserved_bits, ExtHeader, bytes_of}
+use Rattle.ip_spec.proofs.Common.{◌≡◌, ℕ, ◌≤◌, List, [], ◌∷◌, ◌++◌, length, inl, inr, refl, sym, ◌∙◌, ap, arith, and_assoc, Bool, cases_Bool, eqb-true, or-false, or_assoc, ◌&&◌, ◌||◌, ◌==◌, list_any, slice_set, slice_index, length-append, length-set, get_or-set_other, get_or-set_same, get_or_append_left, append_assoc, append-nil, AllByRecursion, bit_and, Option, None, Some, IsHeader, cleared_header, cleared_chain, unreserved_bits, ExtHeader, bytes_of}
 use Rattle.std.proofs.lemmas.List.{set-append_left}
 use Rattle.ip_spec.proofs.ClearedLemmas.{cleared_is_chain}
 use Rattle.ip_spec.proofs.HeaderLemmas.{header-least}
@@ -10,12 +10,14 @@ use Rattle.ip_dissect.specs.Dissection.{DissectedParts, dissected}
 use Rattle.ip_dissect.specs.Outline.{IsBaseOf}
 use Rattle.ip_dissect.specs.declared.dissection.BaseHeader.{BaseHeader}
 use Rattle.ip_rewrite.specs.Base.{number_offset}
+use Rattle.ip_rewrite.specs.Jumbogram.{jumbo_offset}
 use Rattle.ip_rewrite.specs.Rewritten.{rewritten, rewritten_parts}
 use Rattle.ip_rewrite.specs.Without.{is_authentication, packet_fault}
 use Rattle.ip_rewrite.specs.Clearing.{has_reserved, reserved_fragmented, reserved_covered, reserved_fault, clearing_fault}
-use Rattle.ip_rewrite.specs.Writing.{link_of}
+use Rattle.ip_rewrite.specs.Writing.{HasOption, link_of}
 use Rattle.ip_rewrite.specs.declared.which.Authentication.{Authentication}
 use Rattle.ip_rewrite.proofs.ChainLemmas.{AreHeaders}
+use Rattle.ip_rewrite.proofs.JumbogramLemmas.{has_option}
 use Rattle.ip_rewrite.proofs.DissectLemmas.{none_first, IsWholeChain, whole_chain, changed}
 
 -- one more header
@@ -116,6 +118,11 @@ cleared_numbers : (k : ℕ) (c : List ExtHeader) → AllByRecursion (λ h. h.num
 cleared_numbers k [] a = tt
 cleared_numbers k (h ∷ c) a = (a.0, cleared_numbers k c a.1)
 
+pub has_cleared : (o : Option ℕ) (c : List ExtHeader) → HasOption o c → HasOption o (cleared_chain c)
+has_cleared None c a = tt
+has_cleared (Some k) [] a = a
+has_cleared (Some k) (h ∷ c) a = (a.0, a.1, rw (eqb-true h.number 0 a.0) a.2)
+
 pub clearing_dissects : (a : Authentication) (room : ℕ) (s : List ℕ) (o : Option BaseHeader) → IsBaseOf s o → clearing_fault a (dissected s) room ≡ None
     → dissected (rewritten (dissected s) (cleared_chain (dissected s).headers) (dissected s).number (dissected s).payload) ≡ rewritten_parts (dissected s) (cleared_chain (dissected s).headers) (dissected s).number (dissected s).payload
 clearing_dissects a room s o is e =
@@ -132,4 +139,4 @@ clearing_dissects a room s o is e =
       ipv6 = chain.ipv6;
       ipv4 = λ v. record { one = omega (arith, (chain.ipv4 v).one, cleared_count p.headers); number = cleared_numbers 51 p.headers (chain.ipv4 v).number };
       last = λ v n. omega (arith, chain.last v n, cleared_count p.headers);
-    }) second.1
+    }) (has_cleared (jumbo_offset p) p.headers (has_option p)) second.1

@@ -32,16 +32,21 @@ use Rattle.ip_dissect.proofs.OutlineLemmas.{auth_end_fails, end_with}
 use Rattle.ip_dissect.proofs.DissectedLemmas.{BeginIpv4, begins4, BeginIpv6, begins6, BeginNone, begins_none, base_error}
 use Rattle.ip_rewrite.specs.Headers.{number_of_first, linked_headers}
 use Rattle.ip_rewrite.specs.Base.{number_offset, without_checksum, ipv4_stating, length_field, base_stating}
-use Rattle.ip_rewrite.specs.Rewritten.{is_unstated, base_for, rewritten, rewritten_len, rewritten_field, rewritten_parts, room_fault}
-use Rattle.ip_rewrite.specs.Selection.{selects, kept, any_selected}
+use Rattle.ip_rewrite.specs.Jumbogram.{is_unstated, jumbo_offset, stating_at}
+use Rattle.ip_rewrite.specs.Rewritten.{base_for, joined, joined_parts, stating, rewritten, rewritten_len, rewritten_field, rewritten_parts, jumbo_fault, room_fault}
+use Rattle.ip_rewrite.specs.Selection.{selects, selects_first, kept_from, kept, any_selected}
 use Rattle.ip_rewrite.specs.Without.{packet_fault, selection_fault, without, parts_without, without_fault}
+use Rattle.ip_rewrite.specs.Writing.{HasOption}
 use Rattle.ip_rewrite.specs.declared.err.RewriteError.{RewriteError}
+use Rattle.ip_rewrite.specs.declared.err.RewriteError.TheVariants.{NotAJumbogram}
 use Rattle.ip_rewrite.specs.declared.which.Which.{Which}
 use Rattle.ip_rewrite.specs.declared.which.Authentication.{Authentication}
 use Rattle.ip_base.specs.Checksum.{checksum_of, with_word}
 use Rattle.ip_base.proofs.ChecksumLemmas.{word_len}
 use Rattle.ip_rewrite.proofs.FrontLemmas.{joined_len}
 use Rattle.ip_rewrite.proofs.ChainLemmas.{AreHeaders, NoZero, all_kept, zero_kept, later_kept, demand_kept}
+use Rattle.ip_rewrite.proofs.StatingLemmas.{has_others, stating_len, stating_count, stating_others, stating_numbers, stating_headers}
+use Rattle.ip_rewrite.proofs.JumbogramLemmas.{has_option, later_stating, demand_stating}
 use Rattle.ip_rewrite.proofs.Ipv6Lemmas.{same_parts, end_after, sent6_dissected}
 use Rattle.ip_rewrite.proofs.Ipv4Lemmas.{sent4_dissected}
 
@@ -241,13 +246,13 @@ whole_chain s (Some (Ipv6 h)) is = whole_chain6 s (ipv6_header.bytes h) (begins6
 whole_chain s (Some (Ipv4 h)) is = whole_chain4 s (ipv4_header.bytes h) (begins4 s (Some (Ipv4 h)) (ipv4_header.bytes h) is refl refl)
 
 -- The packet with other headers, or with another payload, dissects as the old one with this change.
-module _ (c : List ExtHeader) (m : ℕ) (q : List ℕ) (room : ℕ) where
+module _ (c : List ExtHeader) (m : ℕ) (q : List ℕ) where
   abbrev Dissects : DissectedParts → Type 0
-  Dissects p = packet_fault p ≡ None → CanFollow p.version (is_later_end p.end) c m → room_fault p c q room ≡ None → dissected (rewritten p c m q) ≡ rewritten_parts p c m q
+  Dissects p = packet_fault p ≡ None → CanFollow p.version (is_later_end p.end) c m → rewritten_field p c q < 65536 → dissected (joined p c m q) ≡ joined_parts p c m q
 
-  pub changed : (s : List ℕ) (o : Option BaseHeader) → IsBaseOf s o → Dissects (dissected s)
-  changed s None is = λ e f r. absurd (no_base s is e)
-  changed s (Some (Ipv6 h)) is =
+  joined_dissects : (s : List ℕ) (o : Option BaseHeader) → IsBaseOf s o → Dissects (dissected s)
+  joined_dissects s None is = λ e f r. absurd (no_base s is e)
+  joined_dissects s (Some (Ipv6 h)) is =
       let b : List ℕ = ipv6_header.bytes h in
       let v : BeginIpv6 s b = begins6 s (Some (Ipv6 h)) b is refl refl in
       subst Dissects (sym v.is) (λ e f r.
@@ -255,9 +260,9 @@ module _ (c : List ExtHeader) (m : ℕ) (q : List ℕ) (room : ℕ) where
       let whole : IsWhole p = whole_packet p e in
       let t : ℕ = rewritten_field p c q in
       let end : p.end ≡ end_after (is_later_end p.end) = later_end p.end whole.no_error in
-      sent6_dissected b v.header c m t q (is_later_end p.end) f.headers f.zero f.later f.demand (f.ipv6 refl) (field_fits p c q room r) (field6 (is_unstated p) b (length (bytes_of c) + length q))
-      ∙ same_parts _ (rewritten_parts p c m q) refl refl refl refl refl refl refl (sym whole.all_here) refl (sym end))
-  changed s (Some (Ipv4 h)) is =
+      sent6_dissected b v.header c m t q (is_later_end p.end) f.headers f.zero f.later f.demand (f.ipv6 refl) r (field6 (is_unstated p) b (length (bytes_of c) + length q))
+      ∙ same_parts _ (joined_parts p c m q) refl refl refl refl refl refl refl (sym whole.all_here) refl (sym end))
+  joined_dissects s (Some (Ipv4 h)) is =
       let b : List ℕ = ipv4_header.bytes h in
       let v : BeginIpv4 s b = begins4 s (Some (Ipv4 h)) b is refl refl in
       subst Dissects (sym v.is) (λ e f r.
@@ -265,8 +270,48 @@ module _ (c : List ExtHeader) (m : ℕ) (q : List ℕ) (room : ℕ) where
       let whole : IsWhole p = whole_packet p e in
       let t : ℕ = rewritten_field p c q in
       let end : p.end ≡ Payload = payload_end p.end whole.no_error whole.not_later in
-      sent4_dissected b v.header c m t q (offset4 b s whole) f.headers (f.ipv4 refl) (f.last refl) (field_fits p c q room r) (field4 (is_unstated p) b (length (bytes_of c) + length q))
-      ∙ same_parts _ (rewritten_parts p c m q) refl refl refl refl refl refl refl (sym whole.all_here) refl (sym end))
+      sent4_dissected b v.header c m t q (offset4 b s whole) f.headers (f.ipv4 refl) (f.last refl) r (field4 (is_unstated p) b (length (bytes_of c) + length q))
+      ∙ same_parts _ (joined_parts p c m q) refl refl refl refl refl refl refl (sym whole.all_here) refl (sym end))
+
+-- The length that a jumbogram's first header states changes nothing else.
+follow_stating : (o : Option ℕ) (n v : ℕ) (l : Bool) (c : List ExtHeader) (m : ℕ) → HasOption o c → CanFollow v l c m → CanFollow v l (stating_at o n c) m
+follow_stating o n v l c m a f = record {
+  headers = stating_headers o n c a f.headers;
+  zero = subst NoZero (sym (stating_others o n c)) f.zero;
+  later = later_stating o n c a ∙ f.later;
+  demand = demand_stating o n c a f.demand;
+  ipv6 = f.ipv6;
+  ipv4 = λ four. record { one = omega (arith, (f.ipv4 four).one, stating_count o n c); number = stating_numbers 51 o n c (f.ipv4 four).number };
+  last = λ four auth. omega (arith, f.last four auth, stating_count o n c);
+}
+
+pub field_stating : (p : DissectedParts) (c : List ExtHeader) (q : List ℕ) → HasOption (jumbo_offset p) c → rewritten_field p (stating p c q) q ≡ rewritten_field p c q
+field_stating p c q a = ap (λ n. length_field p.version (is_unstated p) p.base (n + length q)) (stating_len (jumbo_offset p) (length (bytes_of c) + length q) c a)
+
+pub changed : (c : List ExtHeader) (m : ℕ) (q : List ℕ) (room : ℕ) (s : List ℕ) (o : Option BaseHeader) → IsBaseOf s o → packet_fault (dissected s) ≡ None
+    → CanFollow (dissected s).version (is_later_end (dissected s).end) c m → HasOption (jumbo_offset (dissected s)) c → room_fault (dissected s) c q room ≡ None
+    → dissected (rewritten (dissected s) c m q) ≡ rewritten_parts (dissected s) c m q
+changed c m q room s o is e f a r =
+    let p : DissectedParts = dissected s in
+    joined_dissects (stating p c q) m q s o is e (follow_stating (jumbo_offset p) (length (bytes_of c) + length q) p.version (is_later_end p.end) c m a f)
+    (omega (arith, field_fits p c q room r, field_stating p c q a))
+
+-- The first header of a jumbogram is kept.
+kept_option : (b : Bool) (o : Option ℕ) (h : ExtHeader) (c d : List ExtHeader) → (let x : Option RewriteError = if b && is_some o then Some NotAJumbogram else None in x) ≡ None → HasOption o (h ∷ c) → HasOption o (if b then d else h ∷ d)
+kept_option true None h c d e a = tt
+kept_option true (Some k) h c d e a = absurd (cc)
+kept_option false o h c d e a = has_others o h c d a
+
+has_kept : (w : Which) (o : Option ℕ) (c : List ExtHeader) → (let x : Option RewriteError = if selects_first w c && is_some o then Some NotAJumbogram else None in x) ≡ None → HasOption o c → HasOption o (kept w c)
+has_kept w o [] e a = a
+has_kept w o (h ∷ c) e a = kept_option (selects w 0 h) o h c (kept_from w (0 + 1) c) e a
+
+pub without_option : (w : Which) (a : Authentication) (p : DissectedParts) (room : ℕ) → without_fault w a p room ≡ None → HasOption (jumbo_offset p) (kept w p.headers)
+without_option w a p room e =
+    let first = none_first (packet_fault p) _ e in
+    let second = none_first (selection_fault w a p) _ first.1 in
+    let third = none_first (jumbo_fault (selects_first w p.headers) p) _ second.1 in
+    has_kept w (jumbo_offset p) p.headers third.0 (has_option p)
 
 -- without some headers
 pub dissects : (w : Which) (a : Authentication) (room : ℕ) (s : List ℕ) (o : Option BaseHeader) → IsBaseOf s o → without_fault w a (dissected s) room ≡ None → dissected (without w (dissected s)) ≡ parts_without w (dissected s)
@@ -274,6 +319,7 @@ dissects w a room s o is e =
     let p : DissectedParts = dissected s in
     let first = none_first (packet_fault p) _ e in
     let second = none_first (selection_fault w a p) _ first.1 in
+    let third = none_first (jumbo_fault (selects_first w p.headers) p) _ second.1 in
     let chain : IsWholeChain p = whole_chain s o is first.0 in
     let here : IsSelected w p = selected w a p second.0 in
     changed (kept w p.headers) p.number p.payload room s o is first.0 (record {
@@ -284,23 +330,26 @@ dissects w a room s o is e =
       ipv6 = chain.ipv6;
       ipv4 = λ v. subst (λ (c : List ExtHeader). AtMostOneOf 51 c) (sym (one_kept w p.headers (chain.ipv4 v).one here.some)) (record { one = omega arith; number = tt });
       last = λ v n. absurd (false≢true (sym here.no_header ∙ both (p.version == 4) (p.number == 51) (eq-eqb p.version 4 v) (eq-eqb p.number 51 n)));
-    }) second.1
+    }) (without_option w a p room e) third.1
   where
     both : (x y : Bool) → x ≡ true → y ≡ true → (x && y) ≡ true
     both x y first second = rw (first, second) refl
 
 -- the bytes that are written
-pub stating_len : (v : ℕ) (b : List ℕ) (t : ℕ) → length (base_stating v b t) ≡ length b
-stating_len v b t = elim (cases_Bool (v == 4)) [
+pub stating_size : (v : ℕ) (b : List ℕ) (t : ℕ) → length (base_stating v b t) ≡ length b
+stating_size v b t = elim (cases_Bool (v == 4)) [
   | inl s ↦ ap length (cond-true (v == 4) (ipv4_stating b t) (with_word b 4 t) s) ∙ (word_len (without_checksum b t) 10 (checksum_of (without_checksum b t)) ∙ (word_len (with_word b 2 t) 10 0 ∙ word_len b 2 t))
   | inr s ↦ ap length (cond-false (v == 4) (ipv4_stating b t) (with_word b 4 t) s) ∙ word_len b 4 t
 ]
 
-pub rewritten_size : (p : DissectedParts) (c : List ExtHeader) (m : ℕ) (q : List ℕ) → length (rewritten p c m q) ≡ rewritten_len p c q
-rewritten_size p c m q =
+pub joined_size : (p : DissectedParts) (c : List ExtHeader) (m : ℕ) (q : List ℕ) → length (joined p c m q) ≡ rewritten_len p c q
+joined_size p c m q =
     let base : List ℕ = base_for p c m q in
-    let size : length base ≡ length p.base = stating_len p.version (slice_set p.base (number_offset p.version) (number_of_first c m)) (rewritten_field p c q) ∙ length-set p.base (number_offset p.version) (number_of_first c m) in
+    let size : length base ≡ length p.base = stating_size p.version (slice_set p.base (number_offset p.version) (number_of_first c m)) (rewritten_field p c q) ∙ length-set p.base (number_offset p.version) (number_of_first c m) in
     omega (arith, size, joined_len c m, length-append (base ++ bytes_of (linked_headers m c)) q, length-append base (bytes_of (linked_headers m c)))
 
-pub written_front : (p : DissectedParts) (c : List ExtHeader) (m : ℕ) (q r out : List ℕ) (n : ℕ) → out ≡ rewritten p c m q ++ r → n ≡ rewritten_len p c q → take n out ≡ rewritten p c m q
-written_front p c m q r out n is size = ap (take n) is ∙ (ap (λ k. take k (rewritten p c m q ++ r)) (size ∙ sym (rewritten_size p c m q)) ∙ take-append_seam (rewritten p c m q) r)
+pub rewritten_size : (p : DissectedParts) (c : List ExtHeader) (m : ℕ) (q : List ℕ) → HasOption (jumbo_offset p) c → length (rewritten p c m q) ≡ rewritten_len p c q
+rewritten_size p c m q a = omega (arith, joined_size p (stating p c q) m q, stating_len (jumbo_offset p) (length (bytes_of c) + length q) c a)
+
+pub written_front : (p : DissectedParts) (c : List ExtHeader) (m : ℕ) (q r out : List ℕ) (n : ℕ) → HasOption (jumbo_offset p) c → out ≡ rewritten p c m q ++ r → n ≡ rewritten_len p c q → take n out ≡ rewritten p c m q
+written_front p c m q r out n a is size = ap (take n) is ∙ (ap (λ k. take k (rewritten p c m q ++ r)) (size ∙ sym (rewritten_size p c m q a)) ∙ take-append_seam (rewritten p c m q) r)

@@ -1,17 +1,20 @@
 -- A packet with one more header.
-use Rattle.ip_spec.proofs.Common.{zero, suc, ◌≡◌, ◌≢◌, ℕ, ◌+◌, ◌≤◌, ◌<◌, List, [], ◌∷◌, ◌++◌, length, take, drop, inl, inr, subst, refl, sym, ◌∙◌, ap, arith, common_steps, Bool, true, false, false≢true, cases_Bool, eqb-true, eq-eqb, cond-true, cond-false, if◌then◌else◌, or-false, ◌&&◌, ◌||◌, ◌==◌, not, nat_lt, list_any, length-append, append_assoc, take-append_seam, drop-append_seam, take-append-le, drop-append-le, take-append-drop, take_all, drop_all, AllByRecursion, Option, None, IsHeader, fragment, auth, ExtHeader, AtMostOneOf, is_empty, bytes_of}
+use Rattle.ip_spec.proofs.Common.{zero, suc, ◌≡◌, ◌≢◌, ℕ, ◌+◌, ◌≤◌, ◌<◌, List, [], ◌∷◌, ◌++◌, length, take, drop, inl, inr, subst, refl, sym, ◌∙◌, ap, arith, common_steps, Bool, true, false, false≢true, cases_Bool, eqb-true, eq-eqb, cond-true, cond-false, if◌then◌else◌, or-false, ◌&&◌, ◌||◌, ◌==◌, not, nat_lt, list_any, length-append, append_assoc, take-append_seam, drop-append_seam, take-append-le, drop-append-le, take-append-drop, take_all, drop_all, AllByRecursion, Option, None, Some, IsHeader, fragment, auth, ExtHeader, AtMostOneOf, is_empty, bytes_of}
 use Rattle.ip_dissect.specs.LaterDemand.{is_later, has_later, NothingAfterLater}
-use Rattle.ip_dissect.specs.Fragment.{fragments}
+use Rattle.ip_dissect.specs.Fragment.{fragments, is_fragment_header}
 use Rattle.ip_dissect.specs.Dissection.{DissectedParts, dissected}
 use Rattle.ip_dissect.specs.Outline.{IsBaseOf}
 use Rattle.ip_dissect.specs.declared.dissection.BaseHeader.{BaseHeader}
-use Rattle.ip_rewrite.specs.Rewritten.{rewritten, rewritten_parts}
+use Rattle.ip_rewrite.specs.Jumbogram.{jumbo_offset}
+use Rattle.ip_rewrite.specs.Rewritten.{rewritten, rewritten_parts, jumbo_fault}
 use Rattle.ip_rewrite.specs.Without.{packet_fault}
-use Rattle.ip_rewrite.specs.Insertion.{inserted, is_options, is_header, is_misplaced, header_fault, insertion_fault}
-use Rattle.ip_rewrite.specs.Writing.{inserted_so_far}
+use Rattle.ip_rewrite.specs.Headers.{is_options}
+use Rattle.ip_rewrite.specs.Insertion.{inserted, is_header, is_misplaced, header_fault, insertion_fault}
+use Rattle.ip_rewrite.specs.Writing.{HasOption, inserted_so_far}
 use Rattle.ip_rewrite.specs.declared.which.Authentication.{Authentication}
 use Rattle.ip_rewrite.proofs.ChainLemmas.{NoZero, not_later}
 use Rattle.ip_rewrite.proofs.SurveyLemmas.{any_last}
+use Rattle.ip_rewrite.proofs.JumbogramLemmas.{has_option}
 use Rattle.ip_rewrite.proofs.DissectLemmas.{none_first, IsWholeChain, whole_chain, changed}
 
 less : (i n : ℕ) → i < n → nat_lt i n ≡ true
@@ -177,6 +180,23 @@ after_first a b i x y e later = grind (arith, common_steps)
 other_number : (n : ℕ) → (n == 0) ≡ false → n ≢ 0
 other_number n e is = false≢true (sym e ∙ eq-eqb n 0 is)
 
+pub has_inserted : (o : Option ℕ) (i : ℕ) (h : ExtHeader) (c : List ExtHeader) → HasOption o c → (i ≡ 0 → list_any is_options (take 1 c) ≡ false) → HasOption o (inserted i h c)
+has_inserted None i h c a first = tt
+has_inserted (Some k) i h [] a first = absurd a
+has_inserted (Some k) zero h (g ∷ c) a first = absurd (false≢true (sym (first refl) ∙ (or-false (is_options g) ∙ a.0)))
+has_inserted (Some k) (suc i) h (g ∷ c) a first = a
+
+pub insertion_first : (a : Authentication) (i : ℕ) (h : ExtHeader) (p : DissectedParts) → header_fault a i h p ≡ None → i ≡ 0 → list_any is_options (take 1 p.headers) ≡ false
+insertion_first a i h p e z =
+    at_first (nat_lt (length p.headers) i) ((p.version == 4) && not (is_empty p.headers)) i (list_any is_options (take 1 p.headers)) (is_options h) (insertable a i h p e).misplaced z
+
+pub inserted_option : (a : Authentication) (i : ℕ) (h : ExtHeader) (p : DissectedParts) (room : ℕ) → insertion_fault a i h p room ≡ None → HasOption (jumbo_offset p) (inserted i h p.headers)
+inserted_option a i h p room e =
+    let c : List ExtHeader = p.headers in
+    let first = none_first (packet_fault p) _ e in
+    let second = none_first (header_fault a i h p) _ first.1 in
+    has_inserted (jumbo_offset p) i h c (has_option p) (insertion_first a i h p second.0)
+
 pub insertion_dissects : (a : Authentication) (i : ℕ) (h : ExtHeader) (room : ℕ) (s : List ℕ) (o : Option BaseHeader) → IsBaseOf s o → insertion_fault a i h (dissected s) room ≡ None
     → dissected (rewritten (dissected s) (inserted i h (dissected s).headers) (dissected s).number (dissected s).payload) ≡ rewritten_parts (dissected s) (inserted i h (dissected s).headers) (dissected s).number (dissected s).payload
 insertion_dissects a i h room s o is e =
@@ -184,6 +204,7 @@ insertion_dissects a i h room s o is e =
     let c : List ExtHeader = p.headers in
     let first = none_first (packet_fault p) _ e in
     let second = none_first (header_fault a i h p) _ first.1 in
+    let third = none_first (jumbo_fault (is_fragment_header h) p) _ second.1 in
     let chain : IsWholeChain p = whole_chain s o is first.0 in
     let new : IsInserted i h p = insertable a i h p second.0 in
     changed (inserted i h c) p.number p.payload room s o is first.0 (record {
@@ -194,7 +215,7 @@ insertion_dissects a i h room s o is e =
       ipv6 = chain.ipv6;
       ipv4 = λ v. one_inserted i c h (none_there c (alone (nat_lt (length c) i) p.version (is_empty c) (if i == 0 then list_any is_options (take 1 c) else is_options h) new.misplaced v)) (auth_only p.version h.number new.other v);
       last = λ v n. omega (arith, inserted_count i c h);
-    }) second.1
+    }) (inserted_option a i h p room e) third.1
 
 pub same_header : (a b : ℕ) (x y : List ℕ) → a ≡ b → x ≡ y → (let h : ExtHeader = record { number = a; bytes = x } in h) ≡ record { number = b; bytes = y }
 same_header a b x y e f = rw (e, f) refl

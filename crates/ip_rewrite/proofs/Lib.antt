@@ -1,3 +1,5 @@
+pub mod OptionLemmas
+pub mod StatingLemmas
 pub mod FrontLemmas
 pub mod SurveyLemmas
 pub mod BaseLemmas
@@ -6,7 +8,9 @@ pub mod ChainLemmas
 pub mod FieldLemmas
 pub mod Ipv6Lemmas
 pub mod Ipv4Lemmas
+pub mod JumbogramLemmas
 pub mod DissectLemmas
+pub mod WrittenLemmas
 pub mod FirstHeaderLemmas
 pub mod PayloadLemmas
 pub mod ClearingLemmas

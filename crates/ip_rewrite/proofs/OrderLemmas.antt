@@ -6,7 +6,7 @@ use Rattle.std.proofs.Math.Bool.{or-true}
 use Rattle.std.proofs.lemmas.List.Concat.{length-flat_map}
 use Rattle.std.proofs.lemmas.List.Sorted.{IsPermutation-refl, IsPermutation-sym, IsPermutation-trans, IsPermutation-cons, IsPermutation-middle, IsPermutation-append_left, length_permutation, All-permutation, sum_by-IsPermutation}
 use Rattle.ip_rewrite.specs.Order.{is_routing, rank_of, rank, of_rank, in_order, rises_from, is_in_order, recommended_index}
-use Rattle.ip_rewrite.specs.Writing.{routing_index, rank_at, of_rank_from, below_rank, last_rank, rises_at, first_above}
+use Rattle.ip_rewrite.specs.Writing.{HasOption, routing_index, rank_at, of_rank_from, below_rank, last_rank, rises_at, first_above}
 use Rattle.ip_rewrite.proofs.ChainLemmas.{NoZero}
 use Rattle.ip_rewrite.proofs.SurveyLemmas.{any_last}
 
@@ -282,3 +282,11 @@ pub index_is : (n : ℕ) (c : List ExtHeader) → unwrap_or (first_above (rank_o
 index_is n c =
     let size : length c ≡ 0 + length c = omega arith in
     ap (unwrap_or (first_above (rank_of n false) (routing_index c) 0 c)) size ∙ (above_is n (routing_index c) 0 c (agreed c) ∙ omega arith)
+
+-- Hop-by-hop options stay the first header.
+pub has_ordered : (o : Option ℕ) (c : List ExtHeader) → HasOption o c → HasOption o (in_order c)
+has_ordered None c a = tt
+has_ordered (Some k) [] a = a
+has_ordered (Some k) (h ∷ c) a =
+    let first : (rank h c == 0) ≡ true = rw (eqb-true h.number 0 a.0) refl in
+    subst (HasOption (Some k)) (sym (split (h ∷ c) ∙ ap (λ x. x ++ rest (h ∷ c)) (cond-true (rank h c == 0) (h ∷ of_rank 0 c) (of_rank 0 c) first))) a

@@ -12,8 +12,10 @@ use Rattle.ip_rewrite.specs.Without.{packet_fault}
 use Rattle.ip_rewrite.specs.Order.{in_order, is_in_order, order_fault, ordering_fault}
 use Rattle.ip_rewrite.specs.declared.which.Authentication.{Authentication}
 use Rattle.ip_rewrite.proofs.ChainLemmas.{not_later}
+use Rattle.ip_rewrite.specs.Jumbogram.{jumbo_offset}
+use Rattle.ip_rewrite.proofs.JumbogramLemmas.{has_option}
 use Rattle.ip_rewrite.proofs.DissectLemmas.{none_first, IsWholeChain, whole_chain, CanFollow, as_is, changed}
-use Rattle.ip_rewrite.proofs.OrderLemmas.{all_ordered, ordered_count, zero_first}
+use Rattle.ip_rewrite.proofs.OrderLemmas.{all_ordered, ordered_count, has_ordered, zero_first}
 use Rattle.ip_rewrite.proofs.OrderLawLemmas.{in_order_same}
 
 -- no header is that of a later fragment
@@ -61,4 +63,4 @@ ordering_dissects a room s o is e =
     let p : DissectedParts = dissected s in
     let first = none_first (packet_fault p) _ e in
     let rest = none_first (order_fault a p) _ first.1 in
-    changed (in_order p.headers) p.number p.payload room s o is first.0 (follows a p (whole_chain s o is first.0) rest.0) rest.1
+    changed (in_order p.headers) p.number p.payload room s o is first.0 (follows a p (whole_chain s o is first.0) rest.0) (has_ordered (jumbo_offset p) p.headers (has_option p)) rest.1

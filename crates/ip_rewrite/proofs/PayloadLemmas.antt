@@ -7,6 +7,7 @@ use Rattle.ip_rewrite.specs.Rewritten.{is_extension, is_read_on, rewritten, rewr
 use Rattle.ip_rewrite.specs.Without.{packet_fault}
 use Rattle.ip_rewrite.specs.Payload.{replacement_fault, payload_fault}
 use Rattle.ip_rewrite.specs.declared.which.Authentication.{Authentication}
+use Rattle.ip_rewrite.proofs.JumbogramLemmas.{has_option}
 use Rattle.ip_rewrite.proofs.DissectLemmas.{none_first, IsWholeChain, whole_chain, changed}
 
 pub empty_count : (c : List ExtHeader) → (length c == 0) ≡ is_empty c
@@ -66,4 +67,4 @@ payload_dissects a m q room s o is e =
       ipv6 = λ v none. not_extension p.version p.headers m v other;
       ipv4 = chain.ipv4;
       last = λ v n. some_before p.version p.headers m v n other;
-    }) second.1
+    }) (has_option p) second.1

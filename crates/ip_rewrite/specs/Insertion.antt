@@ -2,11 +2,12 @@
 use Rattle.std.specs.Prelude.{ℕ, ◌+◌, ◌*◌, ◌++◌, Bool, false, ◌==◌, ◌&&◌, ◌||◌, not, List, ◌∷◌, length, take, drop, slice_index, nat_lt, Option, Some, None, if◌then◌else◌}
 use Rattle.std.specs.List.{list_any}
 use Rattle.std.specs.Option.{option_or}
-use Rattle.ip_spec.specs.Numbers.{HOP_BY_HOP, FRAGMENT, AUTHENTICATION}
+use Rattle.ip_spec.specs.Numbers.{FRAGMENT, AUTHENTICATION}
 use Rattle.ip_spec.specs.Chain.{ExtHeader, is_empty}
-use Rattle.ip_dissect.specs.Fragment.{fragments}
+use Rattle.ip_dissect.specs.Fragment.{fragments, is_fragment_header}
 use Rattle.ip_dissect.specs.Dissection.{DissectedParts}
-use Rattle.ip_rewrite.specs.Rewritten.{is_extension, room_fault}
+use Rattle.ip_rewrite.specs.Headers.{is_options}
+use Rattle.ip_rewrite.specs.Rewritten.{is_extension, jumbo_fault, room_fault}
 use Rattle.ip_rewrite.specs.Without.{is_authentication, has_authentication, packet_fault, is_ipv4_fragment, may_be_invalid}
 use Rattle.ip_rewrite.specs.declared.which.Authentication.{Authentication}
 use Rattle.ip_rewrite.specs.declared.err.RewriteError.{RewriteError}
@@ -15,10 +16,6 @@ use Rattle.ip_rewrite.specs.declared.err.RewriteError.TheVariants as err
 -- the headers c with h before the one with the index i, or after all i of them
 abbrev pub inserted : ℕ → ExtHeader → List ExtHeader → List ExtHeader
 inserted i h c = take i c ++ h ∷ drop i c
-
--- a header with hop-by-hop options
-abbrev pub is_options : ExtHeader → Bool
-is_options h = h.number == HOP_BY_HOP
 
 -- bytes b are exactly one header of number n (RFC 8200, section 4; RFC 4302, section 2.2)
 abbrev pub is_header : ℕ → List ℕ → Bool
@@ -47,6 +44,8 @@ header_fault a i h p =
     else if has_authentication p p.headers && not (may_be_invalid a) then Some err.Authenticated
     else None
 
--- why the packet can't be written with the header into so many bytes
+-- why the packet can't be written with the header into so many bytes; a jumbogram has no fragment header
 abbrev pub insertion_fault : Authentication → ℕ → ExtHeader → DissectedParts → ℕ → Option RewriteError
-insertion_fault a i h p room = option_or (packet_fault p) (option_or (header_fault a i h p) (room_fault p (inserted i h p.headers) p.payload room))
+insertion_fault a i h p room =
+    option_or (packet_fault p) (option_or (header_fault a i h p)
+    (option_or (jumbo_fault (is_fragment_header h) p) (room_fault p (inserted i h p.headers) p.payload room)))

@@ -1,5 +1,6 @@
 pub mod Headers
 pub mod Base
+pub mod Jumbogram
 pub mod Rewritten
 pub mod Selection
 pub mod Writing

@@ -25,6 +25,11 @@ abbrev pub selects_fragmented : Which → ℕ → Bool → List ExtHeader → Bo
 selects_fragmented w i after [] = false
 selects_fragmented w i after (h ∷ c) = after && selects w i h || selects_fragmented w (i + 1) (after || fragments h) c
 
+-- the first header is selected
+abbrev pub selects_first : Which → List ExtHeader → Bool
+selects_first w [] = false
+selects_first w (h ∷ c) = selects w 0 h
+
 -- the headers that are not selected
 abbrev pub kept : Which → List ExtHeader → List ExtHeader
 kept w c = kept_from w 0 c

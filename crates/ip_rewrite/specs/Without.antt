@@ -8,8 +8,8 @@ use Rattle.ip_dissect.specs.Fragment.{fragments}
 use Rattle.ip_dissect.specs.End.{has_error}
 use Rattle.ip_dissect.specs.Outline.{is_later_end}
 use Rattle.ip_dissect.specs.Dissection.{DissectedParts}
-use Rattle.ip_rewrite.specs.Rewritten.{rewritten, rewritten_len, rewritten_parts, room_fault}
-use Rattle.ip_rewrite.specs.Selection.{selects, kept, any_selected, selects_fragmented}
+use Rattle.ip_rewrite.specs.Rewritten.{rewritten, rewritten_len, rewritten_parts, jumbo_fault, room_fault}
+use Rattle.ip_rewrite.specs.Selection.{selects, selects_first, kept, any_selected, selects_fragmented}
 use Rattle.ip_rewrite.specs.declared.which.Which.{Which}
 use Rattle.ip_rewrite.specs.declared.which.Authentication.{Authentication}
 use Rattle.ip_rewrite.specs.declared.which.Authentication.TheVariants.{Valid, Invalid}
@@ -81,9 +81,11 @@ len_without w p = rewritten_len p (kept w p.headers) p.payload
 abbrev pub parts_without : Which → DissectedParts → DissectedParts
 parts_without w p = rewritten_parts p (kept w p.headers) p.number p.payload
 
--- why the packet can't be written without these headers into so many bytes
+-- why the packet can't be written without these headers into so many bytes; the first header of a jumbogram states its length
 abbrev pub without_fault : Which → Authentication → DissectedParts → ℕ → Option RewriteError
-without_fault w a p room = option_or (packet_fault p) (option_or (selection_fault w a p) (room_fault p (kept w p.headers) p.payload room))
+without_fault w a p room =
+    option_or (packet_fault p) (option_or (selection_fault w a p)
+    (option_or (jumbo_fault (selects_first w p.headers) p) (room_fault p (kept w p.headers) p.payload room)))
 
 -- a transport checksum holds as before
 abbrev pub keeps_checksums : Which → DissectedParts → Bool

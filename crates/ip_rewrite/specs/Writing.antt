@@ -1,11 +1,13 @@
 -- What is known while a packet is written.
-use Rattle.std.specs.Prelude.{◌≡◌, ◌<◌, nat_lt, nat_le, ℕ, zero, suc, ◌+◌, Bool, ◌==◌, true, false, ◌||◌, ◌&&◌, not, ◌++◌, List, [], ◌∷◌, length, drop, slice_set, slice_index, Option, Some, None, if◌then◌else◌}
+use Rattle.std.specs.Prelude.{◌≡◌, ◌<◌, ◌≤◌, nat_lt, nat_le, ℕ, zero, suc, ◌+◌, Bool, ◌==◌, true, false, ◌||◌, ◌&&◌, not, ◌++◌, List, [], ◌∷◌, length, drop, slice_set, slice_index, Option, Some, None, if◌then◌else◌}
 use Rattle.std.specs.List.{list_any, AllByRecursion}
 use Rattle.ip_spec.specs.Numbers.{FRAGMENT}
 use Rattle.ip_spec.specs.Header.{IsHeader}
 use Rattle.ip_spec.specs.Chain.{ExtHeader, bytes_of, leads_to}
 use Rattle.ip_dissect.specs.Fragment.{fragments}
-use Rattle.ip_rewrite.specs.Headers.{number_of_first, linked_headers}
+use Rattle.ip_header_contents.specs.Options.{OptionFields}
+use Rattle.ip_rewrite.specs.Headers.{number_of_first, linked_headers, is_options}
+use Rattle.ip_rewrite.specs.Jumbogram.{is_jumbo_payload, only_jumbo_payload}
 use Rattle.ip_rewrite.specs.Selection.{selects, kept, any_selected, selects_fragmented}
 use Rattle.ip_rewrite.specs.Without.{is_authentication, has_segments, selects_covered}
 use Rattle.ip_rewrite.specs.Insertion.{inserted}
@@ -131,3 +133,15 @@ pub record SelectsFirst (w : Which) (c : List ExtHeader) (len : ℕ) : Type 0 wh
   pub all : c ≡ first ∷ others
   pub kept : kept w c ≡ others
   pub size : len ≡ length first.bytes
+
+-- The option at this offset is within the first of the headers c, which has hop-by-hop options.
+abbrev pub HasOption : Option ℕ → List ExtHeader → Type 0
+HasOption None c = Unit {0}
+HasOption (Some k) [] = ⊥
+HasOption (Some k) (h ∷ c) = (is_options h ≡ true) × (2 ≤ k) × (k + 6 ≤ length h.bytes)
+
+-- of options of which the first has the offset k, the offset of the only jumbo payload option, if one with this offset precedes
+-- them
+abbrev pub found_or : Option ℕ → ℕ → List OptionFields → Option ℕ
+found_or None k xs = only_jumbo_payload k xs
+found_or (Some j) k xs = if list_any is_jumbo_payload xs then None else Some j

@@ -169,7 +169,7 @@ fn test(
     let outline = &packet.outline;
     test_packet(outline)?;
     test_reserved(outline, reserved, authentication)?;
-    test_room(outline, outline.extensions_len, outline.payload_len, room)
+    test_room(packet, outline.extensions_len, outline.payload_len, room)
 }
 
 /// Writes the base header and the extension headers of a packet, with their reserved bits cleared.
@@ -211,7 +211,7 @@ fn write_cleared(packet: &Packet<'_>, last: usize, field: u16, out: &mut [u8])
     let payload = packet.payload();
     write_headers(packet, out);
     finish(
-        outline,
+        packet,
         outline.extensions_len,
         link,
         outline.next_header,

@@ -35,10 +35,15 @@ pub enum RewriteError {
     /// The payload would be read as an extension header.
     #[error("the payload would be read as an extension header")]
     HeaderFollows,
-    /// The length would change, and the length field doesn't state it: it is 0 as in a jumbogram (RFC 2675).
+    /// The length would change, and the packet states none: its length field is 0, and it is no jumbogram (RFC 2675).
     #[error("the packet states no length")]
     NoLength,
-    /// The length field can't state the length of the packet (RFC 791, section 3.1; RFC 8200, section 3).
+    /// The packet would no longer be a jumbogram: without the header that states its length, with a fragment header, or with
+    /// 65,535 bytes or fewer after its base header (RFC 2675, sections 2 and 3).
+    #[error("the packet would no longer be a jumbogram")]
+    NotAJumbogram,
+    /// The length field, or the option of a jumbogram, can't state the length of the packet (RFC 791, section 3.1; RFC 8200,
+    /// section 3; RFC 2675, section 2).
     #[error("the packet is too long for its length field")]
     TooLong,
     /// The buffer is too short.

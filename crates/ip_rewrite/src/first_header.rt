@@ -6,7 +6,8 @@ ghost use Rattle.ip_dissect.specs.Dissection.{dissected};
 ghost use Rattle.ip_rewrite.specs.Rewritten.{rewritten_field};
 ghost use Rattle.ip_rewrite.specs.Selection.{kept};
 ghost use Rattle.ip_rewrite.specs.Without.{packet_fault, without, len_without};
-ghost use Rattle.ip_rewrite.specs.Writing.{SelectsFirst};
+ghost use Rattle.ip_rewrite.specs.Jumbogram.{jumbo_offset};
+ghost use Rattle.ip_rewrite.specs.Writing.{SelectsFirst, HasOption};
 
 use crate::Which;
 use crate::keeper::{put, set};
@@ -99,6 +100,8 @@ pub(crate) fn write_after_first(
     requires first { SelectsFirst which (dissected packet.now.bytes.now).headers len }
     requires field { field ≡ rewritten_field (dissected packet.now.bytes.now)
         (kept which (dissected packet.now.bytes.now).headers) (dissected packet.now.bytes.now).payload }
+    requires option { HasOption (jumbo_offset (dissected packet.now.bytes.now))
+        (kept which (dissected packet.now.bytes.now).headers) }
     requires fits { len_without which (dissected packet.now.bytes.now) ≤ length out.old }
     ensures { out.new ≡ without which (dissected packet.now.bytes.now)
         ++ drop (len_without which (dissected packet.now.bytes.now)) out.old }
@@ -131,6 +134,8 @@ pub(crate) fn write_without(
     requires kept { kept_len ≡ length (bytes_of (kept which (dissected packet.now.bytes.now).headers)) }
     requires field { field ≡ rewritten_field (dissected packet.now.bytes.now)
         (kept which (dissected packet.now.bytes.now).headers) (dissected packet.now.bytes.now).payload }
+    requires option { HasOption (jumbo_offset (dissected packet.now.bytes.now))
+        (kept which (dissected packet.now.bytes.now).headers) }
     requires fits { len_without which (dissected packet.now.bytes.now) ≤ length out.old }
     ensures { out.new ≡ without which (dissected packet.now.bytes.now)
         ++ drop (len_without which (dissected packet.now.bytes.now)) out.old }

@@ -10,9 +10,12 @@ ghost use Rattle.ip_dissect.specs.Fragment.{fragments};
 ghost use Rattle.ip_dissect.specs.Outline.{outline_of};
 ghost use Rattle.ip_rewrite.specs.Rewritten.{rewritten, rewritten_len, rewritten_field, rewritten_parts};
 ghost use Rattle.ip_rewrite.specs.Without.{is_authentication, has_segments, packet_fault};
-ghost use Rattle.ip_rewrite.specs.Insertion.{inserted, is_options, is_header, is_misplaced, header_fault, insertion_fault};
-ghost use Rattle.ip_rewrite.specs.Writing.{AreWritten, inserted_so_far};
+ghost use Rattle.ip_rewrite.specs.Headers.{is_options};
+ghost use Rattle.ip_rewrite.specs.Jumbogram.{jumbo_offset};
+ghost use Rattle.ip_rewrite.specs.Insertion.{inserted, is_header, is_misplaced, header_fault, insertion_fault};
+ghost use Rattle.ip_rewrite.specs.Writing.{AreWritten, HasOption, inserted_so_far};
 
+use crate::jumbogram::test_jumbogram;
 use crate::keeper::{append, put_at};
 use crate::payload::is_extension_number;
 use crate::removal::{authentication_follows, test_packet};
@@ -221,8 +224,9 @@ fn test(
     let outline = &packet.outline;
     test_packet(outline)?;
     test_header(outline, around, number, header, authentication)?;
+    test_jumbogram(packet, number == ip_number::IPV6_FRAG)?;
     let exts_len = outline.extensions_len + header.len();
-    test_room(outline, exts_len, outline.payload_len, room)
+    test_room(packet, exts_len, outline.payload_len, room)
 }
 
 /// How far the headers are written.
@@ -320,6 +324,9 @@ fn write_inserted(
     requires field { (h : ExtHeader) → h ≡ record { number = number.0; bytes = header.now }
         → field ≡ rewritten_field (dissected packet.now.bytes.now)
         (inserted index h (dissected packet.now.bytes.now).headers) (dissected packet.now.bytes.now).payload }
+    requires option { (h : ExtHeader) → h ≡ record { number = number.0; bytes = header.now }
+        → HasOption (jumbo_offset (dissected packet.now.bytes.now))
+        (inserted index h (dissected packet.now.bytes.now).headers) }
     requires fits { length (dissected packet.now.bytes.now).base
         + (length (bytes_of (dissected packet.now.bytes.now).headers) + length header.now)
         + length (dissected packet.now.bytes.now).payload ≤ length out.old }
@@ -336,7 +343,7 @@ fn write_inserted(
     let payload = packet.payload();
     let exts_len = outline.extensions_len + header.len();
     finish(
-        outline,
+        packet,
         exts_len,
         link,
         outline.next_header,

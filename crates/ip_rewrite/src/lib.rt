@@ -9,6 +9,7 @@ mod first_header;
 mod first_survey;
 mod insertion;
 mod insertion_laws;
+mod jumbogram;
 mod keeper;
 mod order;
 mod order_laws;

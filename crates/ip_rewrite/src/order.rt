@@ -256,7 +256,7 @@ fn test(
     test_packet(outline)?;
     let ordered = is_in_order(packet, contents.last_routing);
     test_order(contents, ordered, authentication)?;
-    test_room(outline, outline.extensions_len, outline.payload_len, room)
+    test_room(packet, outline.extensions_len, outline.payload_len, room)
 }
 
 /// Writes the packet with its headers in the recommended order.
@@ -282,7 +282,7 @@ fn write_ordered(packet: &Packet<'_>, last_routing: usize, field: u16, out: &mut
     let link = write_headers(packet, last_routing, offset, out);
     let payload = packet.payload();
     finish(
-        outline,
+        packet,
         outline.extensions_len,
         link,
         outline.next_header,

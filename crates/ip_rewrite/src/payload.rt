@@ -121,7 +121,7 @@ fn test(
     let outline = &packet.outline;
     test_packet(outline)?;
     test_replacement(outline, has_authentication, authentication, number)?;
-    test_room(outline, outline.extensions_len, payload.len(), room)
+    test_room(packet, outline.extensions_len, payload.len(), room)
 }
 
 /// Writes the headers of a packet and this payload, to which `last`, the offset of the last header, leads.
@@ -152,7 +152,7 @@ fn write_payload(
     let link = link_after(outline, last);
     copy_headers(packet, out);
     finish(
-        outline,
+        packet,
         outline.extensions_len,
         link,
         number,

@@ -12,6 +12,7 @@ ghost use Rattle.ip_rewrite.specs.declared.which.Which.TheVariants.{Index};
 
 use crate::first_header::{selected_first, write_without};
 use crate::first_survey::{Later, first_len, survey_first};
+use crate::jumbogram::test_jumbogram;
 use crate::survey::Survey;
 use crate::write::test_room;
 use crate::{Authentication, RewriteError, Which};
@@ -107,7 +108,9 @@ fn test(
     let outline = &packet.outline;
     test_packet(outline)?;
     test_selection(outline, survey, authentication)?;
-    test_room(outline, survey.kept_len, outline.payload_len, room)
+    let ends = survey.which.selects(ip_number::IPV6_HOP_BY_HOP, 0);
+    test_jumbogram(packet, ends)?;
+    test_room(packet, survey.kept_len, outline.payload_len, room)
 }
 
 /// Writes the packet without the extension headers that are selected, by what a survey holds after all headers. `first` is

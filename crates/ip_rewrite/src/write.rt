@@ -5,12 +5,14 @@ ghost use Rattle.ip_spec.specs.Chain.{ExtHeader, bytes_of};
 ghost use Rattle.ip_dissect.specs.Outline.{outline_of};
 ghost use Rattle.ip_dissect.specs.Dissection.{DissectedParts, dissected};
 ghost use Rattle.ip_rewrite.specs.Base.{number_offset};
-ghost use Rattle.ip_rewrite.specs.Rewritten.{rewritten, rewritten_len, rewritten_field, changes_unstated, room_fault};
+ghost use Rattle.ip_rewrite.specs.Jumbogram.{is_unstated, jumbo_offset};
+ghost use Rattle.ip_rewrite.specs.Rewritten.{joined, rewritten, rewritten_len, rewritten_field, room_fault};
 ghost use Rattle.ip_rewrite.specs.Selection.{kept};
 ghost use Rattle.ip_rewrite.specs.Without.{without, len_without};
-ghost use Rattle.ip_rewrite.specs.Writing.{AreWritten, front_with, link_of};
+ghost use Rattle.ip_rewrite.specs.Writing.{AreWritten, HasOption, front_with, link_of};
 
 use crate::base::state;
+use crate::jumbogram::{state_jumbo, test_unstated};
 use crate::keeper::{Keeper, put_at, set};
 use crate::{RewriteError, Which};
 use ip_base::IpNumber;
@@ -26,7 +28,7 @@ fn length_field(outline: &Outline, kept_len: usize, payload_len: usize) -> usize
         → kept_len ≡ length (bytes_of c) → payload_len ≡ length q
         → result ≡ rewritten_field p c q }
 {
-    if outline.stated_len.is_none() && outline.extensions_len + outline.payload_len != 0 {
+    if is_unstated(outline) {
         return 0;
     }
     if outline.version == 4 {
@@ -36,39 +38,34 @@ fn length_field(outline: &Outline, kept_len: usize, payload_len: usize) -> usize
     }
 }
 
-/// Returns whether a packet states no length, and its length changes to that of so many bytes of extension headers and payload.
+/// Returns whether the length field is 0 although bytes follow the base header.
 #[inline(always)]
-fn changes_unstated(outline: &Outline, kept_len: usize, payload_len: usize) -> bool
-    requires new { kept_len + payload_len < 2 ^ 64 }
-    requires old { outline.now.extensions_len + outline.now.payload_len < 2 ^ 64 }
-    ensures { (p : DissectedParts) (c : List ExtHeader) (q : List ℕ) → outline.now ≡ outline_of p
-        → kept_len ≡ length (bytes_of c) → payload_len ≡ length q
-        → result ≡ changes_unstated p c q }
+fn is_unstated(outline: &Outline) -> bool
+    requires { outline.now.extensions_len + outline.now.payload_len < 2 ^ 64 }
+    ensures { (p : DissectedParts) → outline.now ≡ outline_of p → result ≡ is_unstated p }
 {
-    let len = outline.extensions_len + outline.payload_len;
-    outline.stated_len.is_none() && len != 0 && kept_len + payload_len != len
+    outline.stated_len.is_none() && outline.extensions_len + outline.payload_len != 0
 }
 
 /// Returns the number for the length field, or why the packet can't be written into `room` bytes.
 #[inline(always)]
 pub(crate) fn test_room(
-    outline: &Outline,
+    packet: &Packet<'_>,
     kept_len: usize,
     payload_len: usize,
     room: usize,
 ) -> Result<u16, RewriteError>
-    requires new { outline.now.base_len + kept_len + payload_len < 2 ^ 64 }
-    requires old { outline.now.extensions_len + outline.now.payload_len < 2 ^ 64 }
-    ensures fault { (p : DissectedParts) (c : List ExtHeader) (q : List ℕ) → outline.now ≡ outline_of p
-        → kept_len ≡ length (bytes_of c) → payload_len ≡ length q
-        → result_err result ≡ room_fault p c q room }
-    ensures field { IfOk result (λ n. (p : DissectedParts) (c : List ExtHeader) (q : List ℕ) → outline.now ≡ outline_of p
-        → kept_len ≡ length (bytes_of c) → payload_len ≡ length q
-        → n ≡ rewritten_field p c q) }
-    ensures fits { OnOk result (outline.now.base_len + kept_len + payload_len ≤ room) }
+    requires new { packet.now.outline.base_len + kept_len + payload_len < 2 ^ 64 }
+    requires old { packet.now.outline.extensions_len + packet.now.outline.payload_len < 2 ^ 64 }
+    ensures fault { (c : List ExtHeader) (q : List ℕ) → kept_len ≡ length (bytes_of c) → payload_len ≡ length q
+        → result_err result ≡ room_fault (dissected packet.now.bytes.now) c q room }
+    ensures field { IfOk result (λ n. (c : List ExtHeader) (q : List ℕ) → kept_len ≡ length (bytes_of c)
+        → payload_len ≡ length q → n ≡ rewritten_field (dissected packet.now.bytes.now) c q) }
+    ensures fits { OnOk result (packet.now.outline.base_len + kept_len + payload_len ≤ room) }
 {
-    if changes_unstated(outline, kept_len, payload_len) {
-        return Err(RewriteError::NoLength);
+    let outline = &packet.outline;
+    if is_unstated(outline) {
+        test_unstated(packet, kept_len + payload_len)?;
     }
     let field = length_field(outline, kept_len, payload_len);
     if field > 65535 {
@@ -144,17 +141,17 @@ pub(crate) fn state_length(outline: &Outline, field: u16, out: &mut [u8])
     ensures { (p : DissectedParts) (c : List ExtHeader) (m : ℕ) (q buffer : List ℕ) → outline.now ≡ outline_of p
         → field ≡ rewritten_field p c q
         → out.old ≡ front_with (number_offset p.version) p.base c m ++ q ++ drop (rewritten_len p c q) buffer
-        → out.new ≡ rewritten p c m q ++ drop (rewritten_len p c q) buffer }
+        → out.new ≡ joined p c m q ++ drop (rewritten_len p c q) buffer }
 {
     let (base, _) = out.split_at_mut(outline.base_len);
     state(base, outline.version, field);
 }
 
-/// Writes what follows the headers, which have `exts_len` bytes, and its length into the base header. The number of
-/// what follows is at `link`.
+/// Writes what follows the headers, which have `exts_len` bytes, and states the length of the packet. The number of what
+/// follows is at `link`.
 #[inline(always)]
 pub(crate) fn finish(
-    outline: &Outline,
+    packet: &Packet<'_>,
     exts_len: usize,
     link: usize,
     number: IpNumber,
@@ -163,17 +160,21 @@ pub(crate) fn finish(
     out: &mut [u8],
 )
     requires small { length out.old < 2 ^ 64 }
-    requires base { (if outline.now.version == 4 then 20 else 40) ≤ outline.now.base_len }
-    requires fits { outline.now.base_len + exts_len + length payload.now ≤ length out.old }
-    ensures { (p : DissectedParts) (c : List ExtHeader) (buffer : List ℕ) → outline.now ≡ outline_of p
-        → exts_len ≡ length (bytes_of c) → field ≡ rewritten_field p c payload.now
-        → AreWritten (number_offset p.version) p.base buffer c out.old (outline.now.base_len + exts_len) link
+    requires base { (if packet.now.outline.version == 4 then 20 else 40) ≤ packet.now.outline.base_len }
+    requires fits { packet.now.outline.base_len + exts_len + length payload.now ≤ length out.old }
+    ensures { (c : List ExtHeader) (buffer : List ℕ) → let p = dissected packet.now.bytes.now in
+        HasOption (jumbo_offset p) c → exts_len ≡ length (bytes_of c) → field ≡ rewritten_field p c payload.now
+        → AreWritten (number_offset p.version) p.base buffer c out.old (packet.now.outline.base_len + exts_len) link
         → length buffer ≡ length out.old
         → out.new ≡ rewritten p c number.0 payload.now ++ drop (rewritten_len p c payload.now) buffer }
 {
+    let outline = &packet.outline;
     set(out, link, number.0);
     put_at(out, outline.base_len + exts_len, payload);
     state_length(outline, field, out);
+    if outline.stated_len.is_none() {
+        state_jumbo(packet, exts_len + payload.len(), out);
+    }
 }
 
 /// Writes the base header and the extension headers of a packet as they are.
@@ -205,6 +206,8 @@ pub(crate) fn write_kept(
     requires kept { kept_len ≡ length (bytes_of (kept which (dissected packet.now.bytes.now).headers)) }
     requires field { field ≡ rewritten_field (dissected packet.now.bytes.now)
         (kept which (dissected packet.now.bytes.now).headers) (dissected packet.now.bytes.now).payload }
+    requires option { HasOption (jumbo_offset (dissected packet.now.bytes.now))
+        (kept which (dissected packet.now.bytes.now).headers) }
     requires fits { len_without which (dissected packet.now.bytes.now) ≤ length out.old }
     ensures { out.new ≡ without which (dissected packet.now.bytes.now)
         ++ drop (len_without which (dissected packet.now.bytes.now)) out.old }
@@ -214,7 +217,7 @@ pub(crate) fn write_kept(
     let link = write_headers(packet, which, offset, out);
     let payload = packet.payload();
     finish(
-        outline,
+        packet,
         kept_len,
         link,
         outline.next_header,

@@ -33,6 +33,7 @@ refusal_code err.HeaderFollows = 10
 refusal_code err.NoLength = 11
 refusal_code err.TooLong = 12
 refusal_code err.NoRoom = 13
+refusal_code err.NotAJumbogram = 14
 
 -- what is stored if this length was written, and whether transport checksums hold as before
 abbrev pub rewritten_fields : ℕ → Bool → RewrittenFields

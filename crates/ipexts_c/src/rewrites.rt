@@ -51,6 +51,7 @@ fn refusal_code(error: RewriteError) -> u8
         RewriteError::NoLength => 11,
         RewriteError::TooLong => 12,
         RewriteError::NoRoom => 13,
+        RewriteError::NotAJumbogram => 14,
     }
 }
 
@@ -73,6 +74,7 @@ pub(crate) fn refusal_with_code(code: u8) -> Option<RewriteError>
         11 => Some(RewriteError::NoLength),
         12 => Some(RewriteError::TooLong),
         13 => Some(RewriteError::NoRoom),
+        14 => Some(RewriteError::NotAJumbogram),
         _ => None,
     }
 }

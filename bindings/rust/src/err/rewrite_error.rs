@@ -25,10 +25,13 @@ pub enum RewriteError {
     Authenticated,
     /// The payload would be read as an extension header.
     HeaderFollows,
-    /// The length would change, and the length field is 0, as in a jumbogram (RFC 2675).
+    /// The length would change, and the packet states none: its length field is 0, and it is no jumbogram (RFC 2675).
     NoLength,
-    /// The length field can't state the length of the packet.
-    TooLong,
+    /// The packet would no longer be a jumbogram: without the header that states its length, with a fragment header, or with
+    /// 65,535 bytes or fewer after its base header (RFC 2675, sections 2 and 3).
+    NotAJumbogram = 14,
+    /// The length field, or the option of a jumbogram, can't state the length of the packet.
+    TooLong = 12,
     /// The buffer is too short.
     NoRoom,
 }
@@ -49,6 +52,7 @@ impl RewriteError {
             11 => RewriteError::NoLength,
             12 => RewriteError::TooLong,
             13 => RewriteError::NoRoom,
+            14 => RewriteError::NotAJumbogram,
             _ => RewriteError::Headers,
         }
     }

@@ -4,8 +4,10 @@ use Rattle.ip_dissect.specs.Outline.{outline_of}
 use Rattle.ip_dissect.specs.declared.outline.Outline.{Outline}
 use Rattle.ip_rewrite.specs.Rewritten.{rewritten, rewritten_len, rewritten_parts}
 use Rattle.ip_rewrite.specs.Clearing.{clearing_fault}
+use Rattle.ip_rewrite.specs.Jumbogram.{jumbo_offset}
+use Rattle.ip_rewrite.proofs.JumbogramLemmas.{has_option}
 use Rattle.ip_rewrite.proofs.DissectLemmas.{written_front}
-use Rattle.ip_rewrite.proofs.ClearingLemmas.{cleared_len, clearing_dissects}
+use Rattle.ip_rewrite.proofs.ClearingLemmas.{cleared_len, has_cleared, clearing_dissects}
 use Rattle.ip_rewrite.proofs.clearing.cleared.Goals as goal
 
 len_is : (p : DissectedParts) (o : Outline) → o ≡ outline_of p → o.base_len + o.extensions_len + o.payload_len ≡ rewritten_len p (cleared_chain p.headers) p.payload
@@ -32,6 +34,6 @@ returns-in-Ok-clause-dissects c =
     let p : DissectedParts = dissected s in
     let none : clearing_fault c.args.authentication p (length c.args.out.now) ≡ None = sym c.in-Ok.ensures.fault in
     let front = written_front p (cleared_chain p.headers) p.number p.payload (drop (rewritten_len p (cleared_chain p.headers) p.payload) c.args.out.now) c.write_cleared.new.out
-    (packet.outline.base_len + packet.outline.extensions_len + packet.outline.payload_len) c.write_cleared.ensures (len_is p packet.outline packet.outline_is) in
+    (packet.outline.base_len + packet.outline.extensions_len + packet.outline.payload_len) (has_cleared (jumbo_offset p) p.headers (has_option p)) c.write_cleared.ensures (len_is p packet.outline packet.outline_is) in
     ap dissected front ∙ (clearing_dissects c.args.authentication (length c.args.out.now) s packet.base packet.base_is none
     ∙ ap (λ (x : List ℕ). let r : DissectedParts = dissected x in rewritten_parts r (cleared_chain r.headers) r.number r.payload) c.walk-packet.ensures.bytes)

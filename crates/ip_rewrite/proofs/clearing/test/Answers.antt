@@ -29,7 +29,7 @@ returns-clause-fault c =
     let reserved : reserved_fault c.args.authentication p ≡ None = sym (c.in_ok-test_reserved.ensures p c.args.packet.now.outline_is c.requires.set c.requires.fragmented c.requires.covered) in
     let size : c.args.packet.now.outline.extensions_len ≡ length (bytes_of d) = ap (λ (o : Outline). o.extensions_len) c.args.packet.now.outline_is ∙ sym (cleared_len p.headers) in
     let payload : c.args.packet.now.outline.payload_len ≡ length p.payload = ap (λ (o : Outline). o.payload_len) c.args.packet.now.outline_is in
-    c.test_room.ensures.fault p d p.payload c.args.packet.now.outline_is size payload ∙ sym (both_none (packet_fault p) (reserved_fault c.args.authentication p) (room_fault p d p.payload c.args.room) packet reserved)
+    c.test_room.ensures.fault d p.payload size payload ∙ sym (both_none (packet_fault p) (reserved_fault c.args.authentication p) (room_fault p d p.payload c.args.room) packet reserved)
 
 pub returns-clause-field : goal.returns-clause-field
 returns-clause-field c =
@@ -38,7 +38,7 @@ returns-clause-field c =
     let packet : packet_fault p ≡ None = sym (c.in_ok-test_packet.ensures.fault p c.args.packet.now.outline_is) in
     let size : c.args.packet.now.outline.extensions_len ≡ length (bytes_of d) = ap (λ (o : Outline). o.extensions_len) c.args.packet.now.outline_is ∙ sym (cleared_len p.headers) in
     let payload : c.args.packet.now.outline.payload_len ≡ length p.payload = ap (λ (o : Outline). o.payload_len) c.args.packet.now.outline_is in
-    weaker _ (λ n. n ≡ rewritten_field p d p.payload) c.test_room.result (λ n f. f p d p.payload c.args.packet.now.outline_is size payload) c.test_room.ensures.field
+    weaker _ (λ n. n ≡ rewritten_field p d p.payload) c.test_room.result (λ n f. f d p.payload size payload) c.test_room.ensures.field
 
 pub returns-clause-fits : goal.returns-clause-fits
 returns-clause-fits c =

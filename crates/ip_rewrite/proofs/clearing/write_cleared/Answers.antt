@@ -6,7 +6,9 @@ use Rattle.ip_rewrite.specs.Base.{number_offset}
 use Rattle.ip_rewrite.specs.Rewritten.{rewritten, rewritten_len, rewritten_field}
 use Rattle.ip_rewrite.specs.Writing.{AreWritten, link_of}
 use Rattle.ip_rewrite.proofs.BaseLemmas.{offset_within}
-use Rattle.ip_rewrite.proofs.ClearingLemmas.{cleared_len, cleared_link}
+use Rattle.ip_rewrite.specs.Jumbogram.{jumbo_offset}
+use Rattle.ip_rewrite.proofs.JumbogramLemmas.{has_option}
+use Rattle.ip_rewrite.proofs.ClearingLemmas.{cleared_len, cleared_link, has_cleared}
 use Rattle.ip_rewrite.proofs.DissectLemmas.{IsWholeChain, whole_chain}
 use Rattle.ip_rewrite.proofs.FrontLemmas.{out_len, written_whole}
 use Rattle.ip_rewrite.proofs.clearing.write_cleared.Goals as goal
@@ -37,6 +39,6 @@ returns c =
     let number : o.next_header.0 ≡ p.number = ap (λ (x : Outline). x.next_header.0) c.args.packet.now.outline_is in
     let payload : c.payload-payload.result.now ≡ p.payload = c.payload-payload.ensures in
     let field : c.args.field ≡ rewritten_field p d c.payload-payload.result.now = c.requires.field ∙ ap (rewritten_field p d) (sym payload) in
-    c.finish.ensures p d buffer c.args.packet.now.outline_is exts field w (sym same)
+    c.finish.ensures d buffer (has_cleared (jumbo_offset p) old (has_option p)) exts field w (sym same)
     ∙ (ap (λ (k : ℕ). rewritten p d k c.payload-payload.result.now ++ drop (rewritten_len p d c.payload-payload.result.now) buffer) number
     ∙ ap (λ (q : List ℕ). rewritten p d p.number q ++ drop (rewritten_len p d q) buffer) payload)

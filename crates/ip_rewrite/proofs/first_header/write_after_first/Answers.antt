@@ -3,10 +3,12 @@ use Rattle.ip_spec.proofs.HeaderLemmas.{header-least}
 use Rattle.ip_dissect.specs.Dissection.{DissectedParts, dissected}
 use Rattle.ip_dissect.specs.declared.outline.Outline.{Outline}
 use Rattle.ip_rewrite.specs.Base.{number_offset}
-use Rattle.ip_rewrite.specs.Rewritten.{rewritten, rewritten_len, rewritten_field}
-use Rattle.ip_rewrite.specs.Writing.{front_with}
+use Rattle.ip_rewrite.specs.Jumbogram.{jumbo_offset}
+use Rattle.ip_rewrite.specs.Rewritten.{joined, rewritten, rewritten_len, rewritten_field}
+use Rattle.ip_rewrite.specs.Writing.{HasOption, front_with}
 use Rattle.ip_rewrite.proofs.BaseLemmas.{offset_within}
 use Rattle.ip_rewrite.proofs.DissectLemmas.{IsWholeChain, whole_chain}
+use Rattle.ip_rewrite.proofs.JumbogramLemmas.{no_option}
 use Rattle.ip_rewrite.proofs.FirstHeaderLemmas.{written_after}
 use Rattle.ip_rewrite.proofs.first_header.write_after_first.Goals as goal
 
@@ -62,4 +64,6 @@ returns c =
     let named : y ≡ front_with l b d p.number ++ q ++ drop (length b + length (bytes_of d) + length q) buffer = subst (λ (m : ℕ). y ≡ front_with l b d m ++ q ++ drop (length b + length (bytes_of d) + length q) buffer) (sym number) begins in
     let field : c.args.field ≡ rewritten_field p d q = c.requires.field ∙ ap (λ (x : List ExtHeader). rewritten_field p x q) f.kept in
     let done = c.state_length.ensures p d p.number q buffer c.args.packet.now.outline_is field named in
-    done ∙ ap (λ (x : List ExtHeader). rewritten p x p.number q ++ drop (rewritten_len p x q) buffer) (sym f.kept)
+    let has : HasOption (jumbo_offset p) d = subst (HasOption (jumbo_offset p)) f.kept c.requires.option in
+    done ∙ (ap (λ (x : List ExtHeader). joined p x p.number q ++ drop (rewritten_len p d q) buffer) (sym (no_option (jumbo_offset p) (length (bytes_of d) + length q) d has here.zero_only_first))
+    ∙ ap (λ (x : List ExtHeader). rewritten p x p.number q ++ drop (rewritten_len p x q) buffer) (sym f.kept))

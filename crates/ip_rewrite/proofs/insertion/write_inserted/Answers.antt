@@ -33,6 +33,6 @@ returns c = λ h is.
     let same = out_len l b c.args.out.now d none z n link here fits in
     let payload : c.payload-payload.result.now ≡ p.payload = c.payload-payload.ensures in
     let field : c.args.field ≡ rewritten_field p d c.payload-payload.result.now = c.requires.field h is ∙ ap (rewritten_field p d) (sym payload) in
-    let done = c.finish.ensures p d c.args.out.now c.args.packet.now.outline_is exts field begun (sym same) in
+    let done = c.finish.ensures d c.args.out.now (c.requires.option h is) exts field begun (sym same) in
     done ∙ (ap (λ (k : ℕ). rewritten p d k c.payload-payload.result.now ++ drop (rewritten_len p d c.payload-payload.result.now) c.args.out.now) number
     ∙ ap (λ (q : List ℕ). rewritten p d p.number q ++ drop (rewritten_len p d q) c.args.out.now) payload)

@@ -3,8 +3,10 @@ use Rattle.ip_dissect.specs.Dissection.{DissectedParts, dissected}
 use Rattle.ip_dissect.specs.declared.outline.Outline.{Outline}
 use Rattle.ip_rewrite.specs.Rewritten.{rewritten_len, rewritten_parts}
 use Rattle.ip_rewrite.specs.Order.{in_order, ordering_fault}
+use Rattle.ip_rewrite.specs.Jumbogram.{jumbo_offset}
+use Rattle.ip_rewrite.proofs.JumbogramLemmas.{has_option}
 use Rattle.ip_rewrite.proofs.DissectLemmas.{written_front}
-use Rattle.ip_rewrite.proofs.OrderLemmas.{ordered_len}
+use Rattle.ip_rewrite.proofs.OrderLemmas.{ordered_len, has_ordered}
 use Rattle.ip_rewrite.proofs.OrderingLemmas.{ordering_dissects}
 use Rattle.ip_rewrite.proofs.order.in_order.Goals as goal
 
@@ -17,6 +19,6 @@ returns-in-Ok-clause-dissects c =
     let size : packet.outline.base_len + packet.outline.extensions_len + packet.outline.payload_len ≡ rewritten_len p (in_order p.headers) p.payload =
     omega (arith, ap (λ (x : Outline). x.base_len) packet.outline_is, ap (λ (x : Outline). x.extensions_len) packet.outline_is, ap (λ (x : Outline). x.payload_len) packet.outline_is, ordered_len p.headers) in
     let front = written_front p (in_order p.headers) p.number p.payload (drop (rewritten_len p (in_order p.headers) p.payload) c.args.out.now) c.write_ordered.new.out
-    (packet.outline.base_len + packet.outline.extensions_len + packet.outline.payload_len) c.write_ordered.ensures size in
+    (packet.outline.base_len + packet.outline.extensions_len + packet.outline.payload_len) (has_ordered (jumbo_offset p) p.headers (has_option p)) c.write_ordered.ensures size in
     ap dissected front ∙ (ordering_dissects c.args.authentication (length c.args.out.now) s packet.base packet.base_is none
     ∙ ap (λ (x : List ℕ). let r : DissectedParts = dissected x in rewritten_parts r (in_order r.headers) r.number r.payload) c.walk-packet.ensures.bytes)

@@ -4,6 +4,7 @@ use Rattle.ip_dissect.specs.Outline.{outline_of}
 use Rattle.ip_dissect.specs.declared.outline.Outline.{Outline}
 use Rattle.ip_rewrite.specs.Rewritten.{rewritten_len, rewritten_parts}
 use Rattle.ip_rewrite.specs.Payload.{payload_fault}
+use Rattle.ip_rewrite.proofs.JumbogramLemmas.{has_option}
 use Rattle.ip_rewrite.proofs.DissectLemmas.{written_front}
 use Rattle.ip_rewrite.proofs.PayloadLemmas.{payload_dissects}
 use Rattle.ip_rewrite.proofs.payload.with_payload.Goals as goal
@@ -21,5 +22,5 @@ returns-in-Ok-clause-dissects c =
     let exts : packet.outline.extensions_len ≡ length (bytes_of p.headers) = ap (λ (o : Outline). o.extensions_len) is in
     let none : payload_fault c.args.authentication m q p (length c.args.out.now) ≡ None = sym c.in-Ok.ensures.fault in
     let front = written_front p p.headers m q (drop (rewritten_len p p.headers q) c.args.out.now) c.write_payload.new.out
-    (packet.outline.base_len + packet.outline.extensions_len + length q) c.write_payload.ensures (omega (arith, base, exts)) in
+    (packet.outline.base_len + packet.outline.extensions_len + length q) (has_option p) c.write_payload.ensures (omega (arith, base, exts)) in
     ap dissected front ∙ (payload_dissects c.args.authentication m q (length c.args.out.now) s packet.base packet.base_is none ∙ ap (λ (x : List ℕ). rewritten_parts (dissected x) (dissected x).headers m q) same)

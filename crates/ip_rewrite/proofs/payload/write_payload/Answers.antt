@@ -5,6 +5,7 @@ use Rattle.ip_rewrite.specs.Base.{number_offset}
 use Rattle.ip_rewrite.specs.Writing.{AreWritten, link_of}
 use Rattle.ip_rewrite.proofs.BaseLemmas.{offset_within}
 use Rattle.ip_rewrite.proofs.DissectLemmas.{IsWholeChain, whole_chain}
+use Rattle.ip_rewrite.proofs.JumbogramLemmas.{has_option}
 use Rattle.ip_rewrite.proofs.FrontLemmas.{out_len, written_whole}
 use Rattle.ip_rewrite.proofs.payload.write_payload.Goals as goal
 
@@ -27,4 +28,4 @@ returns c =
     let none : ExtHeader = record { number = 0; bytes = [] } in
     let fits : length b + length (bytes_of d) + length c.args.payload.now ≤ length c.args.out.now = c.requires.fits in
     let same = out_len l b c.args.out.now d none z (o.base_len + o.extensions_len) link w (omega (arith, fits)) in
-    c.finish.ensures p d c.args.out.now c.args.packet.now.outline_is exts c.requires.field w (sym same)
+    c.finish.ensures d c.args.out.now (has_option p) exts c.requires.field w (sym same)

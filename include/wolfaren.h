@@ -60,10 +60,10 @@
 #define WOLFAREN_VERSION (10000 * WOLFAREN_VERSION_MAJOR + 100 * WOLFAREN_VERSION_MINOR + WOLFAREN_VERSION_PATCH)
 
 /* A checksum of the structs, numbers and calls in this header, made by scripts/abi of the repository. */
-#define WOLFAREN_ABI 0xd6dd6c91u
+#define WOLFAREN_ABI 0x47299104u
 
 /* The symbol that is named after the checksum. */
-#define WOLFAREN_ABI_SYMBOL wolfaren_abi_d6dd6c91
+#define WOLFAREN_ABI_SYMBOL wolfaren_abi_47299104
 
 /* The machines for which the library is built. */
 #if !defined(__ELF__) && !defined(__linux__)
@@ -842,20 +842,20 @@ static inline const struct wolfaren_fragment_counts *wolfaren_defragmenter_count
  * stored. */
 enum wolfaren_refusal {
     WOLFAREN_NOT_REFUSED = 0,
-    WOLFAREN_REFUSED_HEADERS = 1,         /* no IP header, or its headers are truncated or faulty: wolfaren_dissect says why */
-    WOLFAREN_REFUSED_MISSING = 2,         /* fewer bytes are here than it states */
-    WOLFAREN_REFUSED_LATER_FRAGMENT = 3,  /* it is a middle or last fragment of IPv4 */
-    WOLFAREN_REFUSED_NOT_A_HEADER = 4,    /* the bytes aren't one header of the number, or in IPv4 no authentication header */
-    WOLFAREN_REFUSED_NO_HEADER = 5,       /* it has no such header */
-    WOLFAREN_REFUSED_FRAGMENT_HEADER = 6, /* the header is the fragment header of a fragment that isn't atomic */
-    WOLFAREN_REFUSED_MISPLACED = 7,       /* the header can't be at this index */
-    WOLFAREN_REFUSED_FRAGMENTED = 8,      /* the change is in the part of the packet that is fragmented */
-    WOLFAREN_REFUSED_AUTHENTICATED = 9,   /* an authentication header covers the change (RFC 4302, section 3.3.3) */
-    WOLFAREN_REFUSED_HEADER_FOLLOWS = 10, /* the payload would be read as an extension header, in IPv4 an authentication header */
-    WOLFAREN_REFUSED_NO_LENGTH = 11,      /* its length would change, its length field is 0, and it is no jumbogram (RFC 2675) */
+    WOLFAREN_REFUSED_HEADERS = 1,          /* no IP header, or its headers are truncated or faulty: wolfaren_dissect says why */
+    WOLFAREN_REFUSED_MISSING = 2,          /* fewer bytes are here than it states */
+    WOLFAREN_REFUSED_LATER_FRAGMENT = 3,   /* it is a middle or last fragment of IPv4 */
+    WOLFAREN_REFUSED_NOT_A_HEADER = 4,     /* the bytes aren't one header of the number, or in IPv4 no authentication header */
+    WOLFAREN_REFUSED_NO_HEADER = 5,        /* it has no such header */
+    WOLFAREN_REFUSED_FRAGMENT_HEADER = 6,  /* the header is the fragment header of a fragment that isn't atomic */
+    WOLFAREN_REFUSED_MISPLACED = 7,        /* the header can't be at this index */
+    WOLFAREN_REFUSED_FRAGMENTED = 8,       /* the change is in the part of the packet that is fragmented */
+    WOLFAREN_REFUSED_AUTHENTICATED = 9,    /* an authentication header covers the change (RFC 4302, section 3.3.3) */
+    WOLFAREN_REFUSED_HEADER_FOLLOWS = 10,  /* the payload would be read as an extension header, in IPv4 an authentication header */
+    WOLFAREN_REFUSED_NO_LENGTH = 11,       /* its length would change, its length field is 0, and it is no jumbogram (RFC 2675) */
     WOLFAREN_REFUSED_NOT_A_JUMBOGRAM = 14, /* it is a jumbogram, and would no longer be one */
-    WOLFAREN_REFUSED_TOO_LONG = 12,       /* its length field, or the option of a jumbogram, can't state the length */
-    WOLFAREN_REFUSED_NO_ROOM = 13         /* `room` is less than the length */
+    WOLFAREN_REFUSED_TOO_LONG = 12,        /* its length field, or the option of a jumbogram, can't state the length */
+    WOLFAREN_REFUSED_NO_ROOM = 13          /* `room` is less than the length */
 };
 
 /* A packet that was rewritten, or why it wasn't. */
@@ -868,7 +868,8 @@ struct wolfaren_rewritten {
 /*
  * Writes the packet at the start of the `len` bytes to the start of `out`, which has `room` bytes, without its extension
  * headers of this number. All else stays as it is, except the numbers that lead from header to header, the length in the IP
- * header, and IPv4's header checksum, which is computed anew. Bytes after the packet aren't written. If `room` is `len`, it is enough.
+ * header or in the option of a jumbogram (RFC 2675), and IPv4's header checksum, which is computed anew. Bytes after the packet
+ * aren't written. If `room` is `len`, it is enough.
  *
  * On success, returns true and fills in `rewritten`. `keeps_checksums` is 0 after a routing header with segments left was
  * removed: checksums of TCP or UDP then cover a destination that was in it (RFC 8200, section 8.1).

@@ -449,6 +449,7 @@ static void test_texts(void)
         [WOLFAREN_REFUSED_AUTHENTICATED] = "an authentication header covers the change",
         [WOLFAREN_REFUSED_HEADER_FOLLOWS] = "the payload would be read as an extension header",
         [WOLFAREN_REFUSED_NO_LENGTH] = "the packet states no length",
+        [WOLFAREN_REFUSED_NOT_A_JUMBOGRAM] = "the packet would no longer be a jumbogram",
         [WOLFAREN_REFUSED_TOO_LONG] = "the packet is too long for its length field",
         [WOLFAREN_REFUSED_NO_ROOM] = "the buffer is too short for the packet"};
     char text[WOLFAREN_TEXT_ROOM];

@@ -87,7 +87,7 @@ def random_headers(rng, is_jumbogram):
 
 
 def random_payload(rng):
-    return rng.randbytes(rng.choice([1, 8, 20, 99, 1400, 65600, 70001] if rng.randrange(20) == 0 else [1, 8, 20, 99]))
+    return rng.randbytes(rng.choice([1, 8, 20, 99, 1400, 65600, 70001] if rng.randrange(5) == 0 else [1, 8, 20, 99]))
 
 
 class Jumbograms(unittest.TestCase):
@@ -103,19 +103,35 @@ class Jumbograms(unittest.TestCase):
         else:
             self.assertEqual(call(packet, *arguments, **given).packet, wanted, (call, packet.hex(), arguments, given))
 
+    def resized(self, headers, number, payload, jumbo_length):
+        """Returns what a change that leaves these headers and this payload has to write, or why it is refused: the packet that
+        scapy builds, if that and the old one are jumbograms (RFC 2675, section 3)."""
+        if jumbo_length is None or jumbo_length <= 65535:
+            return Refusal.NO_LENGTH, None
+        length = len(built(headers, number, payload, 0)) - BASE_LEN
+        is_jumbogram = length > 65535 and any(it.number == HOP_BY_HOP for it in headers) and all(it.number != FRAGMENT for it in headers)
+        return (None, built(headers, number, payload, length)) if is_jumbogram else (Refusal.NOT_A_JUMBOGRAM, None)
+
     def assert_changes(self, packet, headers, payload, jumbo_length, may_be_invalid):
-        """Compares each call with what scapy builds. A change of the length is refused; another one keeps the option."""
+        """Compares each call with what scapy builds. A change of the length is refused unless the packet is a jumbogram."""
         given = {"may_be_invalid": may_be_invalid}
         covered = Refusal.AUTHENTICATED if any(it.number == AUTHENTICATION for it in headers) and not may_be_invalid else None
         for number in NUMBERS:
-            selected = [it for it in headers if it.number == number]
+            left = [it for it in headers if it.number != number]
             is_covered = covered and number not in (FRAGMENT, AUTHENTICATION)
-            reason = Refusal.NO_HEADER if not selected else covered if is_covered else Refusal.NO_LENGTH
-            self.assert_refused(reason, without, packet, number=number, **given)
-        self.assert_refused(covered or Refusal.NO_LENGTH, with_header, packet, DESTINATION_OPTIONS, bytes([0, 0, 1, 4, 0, 0, 0, 0]), **given)
+            refusal, wanted = self.resized(left, NUMBER, payload, jumbo_length)
+            reason = Refusal.NO_HEADER if left == headers else covered if is_covered else refusal
+            self.assert_written(reason, wanted, without, packet, number=number, **given)
+        one = Header(DESTINATION_OPTIONS, 4, 0)
+        refusal, wanted = self.resized(headers + [one], NUMBER, payload, jumbo_length)
+        self.assert_written(covered or refusal, wanted, with_header, packet, DESTINATION_OPTIONS, bytes(layer(one, 0, None)), **given)
+        one = Header(FRAGMENT, 4, 0)
+        refusal, wanted = self.resized(headers + [one], NUMBER, payload, jumbo_length)
+        self.assert_written(covered or refusal, wanted, with_header, packet, FRAGMENT, bytes(layer(one, 0, None)), **given)
         other = bytes(it ^ 255 for it in payload)
         self.assert_written(covered, built(headers, OTHER, other, jumbo_length), with_payload, packet, OTHER, other, **given)
-        self.assert_refused(covered or Refusal.NO_LENGTH, with_payload, packet, NUMBER, other[1:], **given)
+        refusal, wanted = self.resized(headers, NUMBER, other[1:], jumbo_length)
+        self.assert_written(covered or refusal, wanted, with_payload, packet, NUMBER, other[1:], **given)
         is_set = any(it.reserved for it in headers if it.number == AUTHENTICATION)
         wanted = built([it._replace(reserved=0) for it in headers], NUMBER, payload, jumbo_length)
         self.assert_written(covered if is_set else None, wanted, cleared, packet, **given)

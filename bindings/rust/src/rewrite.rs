@@ -33,8 +33,8 @@ pub struct Rewritten {
 /// Writes a packet without some of its extension headers to the start of `out`. If `out` is as long as `packet`, the room is
 /// enough.
 ///
-/// All else stays as it is, except the numbers that lead from header to header, the length in the IP header, and IPv4's
-/// header checksum, which is computed anew. Bytes after the packet aren't written.
+/// All else stays as it is, except the numbers that lead from header to header, the length in the IP header or in the option of
+/// a jumbogram (RFC 2675), and IPv4's header checksum, which is computed anew. Bytes after the packet aren't written.
 ///
 /// ```
 /// use wolfaren::{ip_number, without, Authentication, Which};

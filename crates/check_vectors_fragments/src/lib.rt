@@ -6,6 +6,8 @@ mod defragmenter;
 #[cfg(test)]
 mod hashes;
 #[cfg(test)]
+mod jumbograms;
+#[cfg(test)]
 mod lists;
 #[cfg(test)]
 mod packets;

@@ -13,6 +13,7 @@ static const char *const reasons[REFUSALS] = {
     [WOLFAREN_REFUSED_AUTHENTICATED] = "an authentication header that covers the change",
     [WOLFAREN_REFUSED_HEADER_FOLLOWS] = "a payload that would be read as a header",
     [WOLFAREN_REFUSED_NO_LENGTH] = "a length that isn't stated",
+    [WOLFAREN_REFUSED_NOT_A_JUMBOGRAM] = "a jumbogram that would no longer be one",
     [WOLFAREN_REFUSED_TOO_LONG] = "a length that the length field can't state",
     [WOLFAREN_REFUSED_NO_ROOM] = "no room",
 };

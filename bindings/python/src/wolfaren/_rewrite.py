@@ -33,9 +33,12 @@ class Refusal(enum.IntEnum):
     HEADER_FOLLOWS = lib.WOLFAREN_REFUSED_HEADER_FOLLOWS
     """The payload would be read as an extension header."""
     NO_LENGTH = lib.WOLFAREN_REFUSED_NO_LENGTH
-    """The length would change, and the length field is 0, as in a jumbogram (RFC 2675)."""
+    """The length would change, and the packet states none: its length field is 0, and it is no jumbogram (RFC 2675)."""
+    NOT_A_JUMBOGRAM = lib.WOLFAREN_REFUSED_NOT_A_JUMBOGRAM
+    """The packet would no longer be a jumbogram: without the header that states its length, with a fragment header, or with
+    65,535 bytes or fewer after its base header (RFC 2675, sections 2 and 3)."""
     TOO_LONG = lib.WOLFAREN_REFUSED_TOO_LONG
-    """The length field can't state the length."""
+    """The length field, or the option of a jumbogram, can't state the length."""
 
 
 class RewriteError(ValueError):
@@ -74,8 +77,8 @@ def without(packet: Buffer, *, number: int | None = None, index: int | None = No
     """Returns the packet at the start of the bytes without its extension headers of a number, or without the one with an index.
 
     One of `number` and `index` is given; `index` counts the extension headers from 0. All else stays as it is, except the
-    numbers that lead from header to header, the length in the IP header, and IPv4's header checksum, which is computed anew.
-    Bytes after the packet are left out.
+    numbers that lead from header to header, the length in the IP header or in the option of a jumbogram (RFC 2675), and IPv4's
+    header checksum, which is computed anew. Bytes after the packet are left out.
 
     Raises `RewriteError` if that can't be. A packet that keeps an authentication header can only be changed if
     `may_be_invalid` is true, since the header's check value doesn't hold for the changed packet, or if only the fragment header

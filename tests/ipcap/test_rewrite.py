@@ -236,6 +236,25 @@ def other_bytes(harness):
         harness.equal(found, (0, capture([head + ipv6_chain([])], link_layer), "", None), "link layer", link_layer)
 
 
+def jumbograms(harness):
+    """The option of a jumbogram states its new length (RFC 2675, section 2). A packet that would be none any more stays as it is."""
+    def jumbogram(next_header, following, stated=None):
+        length = 8 + len(following) if stated is None else stated
+        jumbo = struct.pack(">BBBBI", next_header, 0, 0xC2, 4, length)
+        return capture([ethernet(ipv6(0, jumbo + following, 0))], snap_len=262144)
+
+    payload = bytes(65600)
+    old, new = jumbogram(60, options(253) + payload), jumbogram(253, payload)
+    harness.equal(harness.run("rewrite", "--without", "60", content=old), (0, new, "", None), "the option")
+    ends = "a jumbogram that would no longer be one"
+    rows = [("0", old, ends), ("60", jumbogram(60, options(253) + payload[:65527]), ends),
+            ("60", jumbogram(60, options(253) + payload, 65615), "a length that isn't stated")]
+    for number, content, reason in rows:
+        found = harness.run("rewrite", "--without", number, content=content)
+        harness.equal(found[:2], (0, content), "a packet that stays", reason)
+        harness.check(found[2].endswith(message(1, "unchanged: " + reason)), found[2])
+
+
 def outputs(harness):
     """The same is written to a file, to standard output, and from standard input."""
     content, wanted = [capture([ethernet(ipv6_chain(numbers)), ethernet(ipv6_chain([]))]) for numbers in ([60], [])]

@@ -140,6 +140,8 @@ class Rewrites(unittest.TestCase):
         unstated = ipv6_chain([0, 60])[:4] + b"\0\0" + ipv6_chain([0, 60])[6:]
         self.assert_refused(Refusal.NO_LENGTH, unstated, index=0)
         self.assertEqual(in_order(unstated).packet, unstated)
+        jumbogram = ipv6(0, bytes([17, 0, 0xC2, 4, 0, 1, 0, 8]) + bytes(65536), 0)
+        self.assert_refused(Refusal.NOT_A_JUMBOGRAM, jumbogram, index=0)
         self.assert_refused(Refusal.TOO_LONG, ipv6_chain([]), 17, bytes(65536), call=with_payload)
         for refusal in Refusal:
             error = RewriteError(refusal)

@@ -158,6 +158,14 @@ fn refusals() {
     assert_eq!(by_index(&unstated, 0), Err(RewriteError::NoLength));
     let text = RewriteError::NoLength.to_string();
     assert_eq!(text, "the packet states no length");
+    let mut jumbogram = packet(&[0]);
+    jumbogram.resize(40 + 0x1_0050, 0);
+    jumbogram[4..6].fill(0);
+    // the jumbo payload option (RFC 2675, section 2)
+    jumbogram[42..48].copy_from_slice(&[0xc2, 4, 0, 1, 0, 0x50]);
+    assert_eq!(by_index(&jumbogram, 0), Err(RewriteError::NotAJumbogram));
+    let text = RewriteError::NotAJumbogram.to_string();
+    assert_eq!(text, "the packet would no longer be a jumbogram");
     let bytes = packet(&[0]);
     assert_eq!(by_index(&bytes[..51], 0), Err(RewriteError::Missing));
     assert_eq!(by_index(&bytes[..47], 0), Err(RewriteError::Headers));

@@ -1,0 +1,6 @@
+pub mod MarkedLemmas
+pub mod ReadKeyLemmas
+pub mod SlotRunLemmas
+pub mod PartLemmas
+pub mod RunLemmas
+pub mod Ipv4Lemmas

@@ -1,0 +1,49 @@
+-- The fragments of an IPv6 packet (RFC 8200, section 4.5).
+use Rattle.std.specs.Prelude.{◌≡◌, ℕ, ◌+◌, ◌*◌, ◌%◌, ◌≤◌, true, false, List, [], ◌∷◌, ◌++◌, length, drop, slice_index}
+use Rattle.std.specs.List.{list_any}
+use Rattle.ip_base.specs.BaseHeaderFields.{ipv6_traffic_class}
+use Rattle.ip_base.specs.Ipv6Header.{IsIpv6Header, payload_length, ipv6_next_header, ipv6_source_octets, ipv6_destination_octets}
+use Rattle.ip_spec.specs.Chain.{ExtHeader, IsChain, bytes_of}
+use Rattle.ip_spec.specs.Fields.{fragment_fields}
+use Rattle.ip_spec.specs.Numbers.{FRAGMENT}
+use Rattle.ip_dissect.specs.Dissection.{dissected}
+use Rattle.ip_dissect.specs.End.{has_error}
+use Rattle.ip_dissect.specs.Fragment.{is_fragment_header}
+use Rattle.ip_defrag.specs.Fragment.{Fragment}
+use Rattle.ip_defragmenter.specs.Sent.{ipv6_first}
+use Rattle.ip_defragmenter.specs.Split.{link_after}
+use Rattle.ip_defragmenter.specs.declared.key.FragmentKey.{FragmentKey}
+use Rattle.ip_defragmenter.specs.declared.key.FragmentKey.TheVariants as key
+
+-- what all fragments of the IPv6 packet s with this identification have in common
+abbrev pub ipv6_key : List ℕ → ℕ → FragmentKey
+ipv6_key s id = key.Ipv6 (ipv6_source_octets s) (ipv6_destination_octets s) id
+
+-- The bytes f are the fragment of the IPv6 packet s with this identification and this piece of what follows the first n
+-- bytes of s: a base header, extension headers, a fragment header, the piece and padding. They have the addresses and the
+-- ECN code point of s and no more headers than those n bytes, and the fragment header says where the piece lies. The
+-- headers of the first fragment are those of s with what fragmentation changes, and the headers after its fragment header
+-- end in it without an error. No piece is the whole payload: its fragment would be a packet by itself (RFC 6946).
+pub record IsIpv6Fragment (s : List ℕ) (n link id : ℕ) (p : Fragment) (f : List ℕ) : Type 0 where
+  pub base : List ℕ
+  pub before : List ExtHeader
+  pub header : ExtHeader
+  pub padding : List ℕ
+  pub joined : f ≡ base ++ (bytes_of before ++ (header.bytes ++ (p.bytes ++ padding)))
+  pub is_base : IsIpv6Header base
+  pub chain : IsChain (ipv6_next_header base) (before ++ header ∷ [])
+  pub number : header.number ≡ FRAGMENT
+  pub one : list_any is_fragment_header before ≡ false
+  pub headers : length base + length (bytes_of before) ≤ n
+  pub stated : payload_length base ≡ length (bytes_of before) + (length header.bytes + length p.bytes)
+  pub source : ipv6_source_octets base ≡ ipv6_source_octets s
+  pub destination : ipv6_destination_octets base ≡ ipv6_destination_octets s
+  pub identification : (fragment_fields header.bytes).identification ≡ id
+  pub ecn : ipv6_traffic_class base % 4 ≡ ipv6_traffic_class s % 4
+  pub offset : 8 * (fragment_fields header.bytes).fragment_offset ≡ p.offset
+  pub more : (fragment_fields header.bytes).more_fragments ≡ p.more
+  pub first : p.offset ≡ 0 → (t : ℕ) × (base ++ bytes_of before ≡ ipv6_first s n link t)
+  pub place : p.offset ≡ 0 → link_after 40 before ≡ link
+  pub next : p.offset ≡ 0 → (fragment_fields header.bytes).next_header ≡ slice_index s link
+  pub several : p.offset ≡ 0 → p.more ≡ true
+  pub whole : p.offset ≡ 0 → has_error (dissected f).end ≡ false

@@ -1,0 +1,4 @@
+pub mod Run
+pub mod Written
+pub mod Ipv4
+pub mod Ipv6

@@ -1,0 +1,8 @@
+//! Laws of the defragmenter over whole runs: the fragments of a packet that was sent make that packet whole.
+#![tactic(auto)]
+
+mod run_laws;
+mod written;
+
+pub use run_laws::fragments_make_the_packet_that_was_sent;
+pub use written::write_whole;

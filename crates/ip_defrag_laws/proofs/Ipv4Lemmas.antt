@@ -1,14 +1,13 @@
 -- The fragments of an IPv4 packet, as they are read.
-use Rattle.ip_spec.proofs.Common.{◌≡◌, ℕ, ◌+◌, ◌*◌, ◌/◌, ◌%◌, ◌-◌, ◌≤◌, ◌<◌, ◌++◌, List, Bool, true, false, length, min, take, drop, refl, sym, ap, ◌∙◌, subst, arith, inl, inr, Option, Some, None, is_some, Result, Ok, ExtHeader, bytes_of, cases_Bool, cond, cond-true, cond-false, eq-eqb, ne_eqb, eqb-true, le-ltb, le-leb, leb-true, length-take, length-drop, length-append, length-set, append_assoc, take-append_seam, drop-append_seam, take-append-drop, false≢true, false_from_ne_true, ◌==◌, IsPrefix, rest_after, get_or-set_same}
+use Rattle.ip_spec.proofs.Common.{◌≡◌, ℕ, ◌+◌, ◌*◌, ◌/◌, ◌%◌, ◌-◌, ◌≤◌, ◌++◌, List, Bool, true, false, length, take, drop, refl, sym, ap, ◌∙◌, arith, inl, inr, Option, Some, None, is_some, Ok, bytes_of, cases_Bool, cond-true, cond-false, eq-eqb, ne_eqb, eqb-true, le-ltb, le-leb, length-take, length-drop, length-append, length-set, append_assoc, take-append_seam, drop-append_seam, take-append-drop, false≢true, false_from_ne_true, ◌==◌, IsPrefix, rest_after, get_or-set_same}
 use Rattle.std.specs.Prelude.{slice_index, slice_set, bit_and, max, not, ◌&&◌, ◌||◌, nat_lt}
 use Rattle.std.specs.List.{list_any}
-use Rattle.std.proofs.lemmas.Bool.{true_from_ne_false, not_from_true, not_from_false, or_left, or_right}
+use Rattle.std.proofs.lemmas.Bool.{not_from_true, not_from_false, or_left, or_right}
 use Rattle.std.proofs.lemmas.Nat.Bits.{and_high}
 use Rattle.ip_base.specs.Checksum.{with_word}
 use Rattle.ip_base.proofs.ChecksumLemmas.{word_len, word_other}
-use Rattle.ip_base.specs.Ipv4Header.{IsIpv4Header, version, ihl, ipv4_header_len, total_len, protocol, ipv4_source_octets, ipv4_destination_octets, ipv4_fragment_offset, ipv4_more_fragments, is_ipv4_fragmenting}
-use Rattle.ip_base.specs.BaseHeaderFields.{ipv4_ecn, ipv4_identification, ipv6_traffic_class}
-use Rattle.ip_base.specs.declared.ip_number_impl.IpNumber.{IpNumber}
+use Rattle.ip_base.specs.Ipv4Header.{version, ipv4_header_len, total_len, protocol, ipv4_fragment_offset, ipv4_more_fragments, is_ipv4_fragmenting}
+use Rattle.ip_base.specs.BaseHeaderFields.{ipv4_ecn, ipv6_traffic_class}
 use Rattle.ip_spec.proofs.PrefixLemmas.{prefix-append, prefix_of-append}
 use Rattle.ip_dissect.specs.Dissection.{DissectedParts, dissected, ipv4_dissected}
 use Rattle.ip_dissect.specs.End.{has_error, ipv4_end, is_too_short}
@@ -18,21 +17,17 @@ use Rattle.ip_dissect.proofs.Ipv4Lemmas.{ipv4_prefix}
 use Rattle.ip_defrag.specs.Fragment.{Fragment, end_of, is_same, is_unaligned}
 use Rattle.ip_defrag.specs.Split.{IsSplit}
 use Rattle.ip_defrag.proofs.SplitLemmas.{IsPiece, member_piece}
-use Rattle.ip_defragmenter.specs.FragmentOf.{FragmentParts, fragmented, ipv4_fragment_parts, packet_fragment, unusable}
-use Rattle.ip_defragmenter.specs.Ecn.{point_of}
+use Rattle.ip_defragmenter.specs.FragmentOf.{FragmentParts, fragmented, packet_fragment, unusable}
 use Rattle.ip_defragmenter.specs.Key.{IsKey}
 use Rattle.ip_defragmenter.specs.Memory.{own_refusal, piece_of, first_of}
 use Rattle.ip_defragmenter.specs.Sent.{IsSentIpv4, ipv4_base, ipv4_first}
-use Rattle.ip_defragmenter.specs.Whole.{are_headers, stated_by, whole_headers, whole_packet}
-use Rattle.ip_defragmenter.specs.declared.err.FragmentError.{FragmentError}
+use Rattle.ip_defragmenter.specs.Whole.{are_headers, stated_by, whole_packet}
 use Rattle.ip_defragmenter.specs.declared.err.FragmentError.TheVariants.{Headers, NoLength, Missing}
-use Rattle.ip_defragmenter.specs.declared.err.StoreError.{StoreError}
-use Rattle.ip_defragmenter.specs.declared.key.FragmentKey.{FragmentKey}
 use Rattle.ip_defragmenter.specs.declared.key.FragmentKey.TheVariants as key
 use Rattle.ip_defragmenter.proofs.ReadLemmas.{is_fragment}
 use Rattle.ip_defragmenter.proofs.SentLemmas.{whole4}
 use Rattle.ip_defrag_laws.specs.Ipv4.{IsIpv4Fragment, ipv4_key, ipv4_payload}
-use Rattle.ip_defrag_laws.proofs.PartLemmas.{IsFirst, IsPart}
+use Rattle.ip_defrag_laws.proofs.PartLemmas.{IsFirst}
 use Rattle.ip_defrag_laws.proofs.ReadKeyLemmas.{ipv4_is_key, word_is}
 use Rattle.ip_defrag_laws.proofs.RunLemmas.{IsReadAs}
 
@@ -85,16 +80,16 @@ same_key4 : (a b c d : List ℕ) (p q i j : ℕ) → a ≡ b → c ≡ d → p �
 same_key4 a b c d p q i j e f g h = rw (e, f, g, h) refl
 
 -- A fragment that isn't refused by itself.
-pub sound_by : (f : FragmentParts) → is_unaligned (piece_of f) ≡ false → stated_by f.headers (end_of (piece_of f)) ≤ 65535 → are_headers f.headers f.link ≡ true → length f.headers ≤ 4096 → own_refusal f ≡ None
+pub sound_by : (f : FragmentParts) → is_unaligned (piece_of f) ≡ false → stated_by f.headers (end_of (piece_of f)) ≤ 65535 → (f.offset ≡ 0 → are_headers f.headers f.link ≡ true) → length f.headers ≤ 4096 → own_refusal f ≡ None
 unfolding own_refusal
 sound_by f aligned fits are few =
     cond-false (is_unaligned (piece_of f)) _ _ aligned
     ∙ (cond-false (nat_lt 65535 (stated_by f.headers (end_of (piece_of f)))) _ _ (le-ltb 65535 (stated_by f.headers (end_of (piece_of f))) fits)
-    ∙ (cond-false ((f.offset == 0) && not (are_headers f.headers f.link)) _ _ (and_last (f.offset == 0) (not (are_headers f.headers f.link)) (not_from_true (are_headers f.headers f.link) are))
-    ∙ cond-false ((f.offset == 0) && nat_lt 4096 (length f.headers)) _ _ (and_last (f.offset == 0) (nat_lt 4096 (length f.headers)) (le-ltb 4096 (length f.headers) few)))) where
-  and_last : (a b : Bool) → b ≡ false → (a && b) ≡ false
-  and_last true b is = is
-  and_last false b is = refl
+    ∙ (cond-false ((f.offset == 0) && not (are_headers f.headers f.link)) _ _ (and_when (f.offset == 0) (not (are_headers f.headers f.link)) (λ start. not_from_true (are_headers f.headers f.link) (are (eqb-true f.offset 0 start))))
+    ∙ cond-false ((f.offset == 0) && nat_lt 4096 (length f.headers)) _ _ (and_when (f.offset == 0) (nat_lt 4096 (length f.headers)) (λ start. le-ltb 4096 (length f.headers) few)))) where
+      and_when : (a b : Bool) → (a ≡ true → b ≡ false) → (a && b) ≡ false
+      and_when true b is = is refl
+      and_when false b is = refl
 
 pub usable_by : (p : DissectedParts) (t : ℕ) → has_error p.end ≡ false → p.stated ≡ Some t → p.missing ≡ 0 → None ≡ unusable p
 usable_by p t right stated all =
@@ -207,7 +202,7 @@ module _ (s : List ℕ) (pieces : List Fragment) (p : Fragment) (f : List ℕ) (
   small4 = omega (arith, is.header.len)
 
   sound4 : own_refusal r ≡ None
-  sound4 = sound_by r (ap is_unaligned piece_is ∙ piece.aligned) fits4 headers4 small4
+  sound4 = sound_by r (ap is_unaligned piece_is ∙ piece.aligned) fits4 (λ start. headers4) small4
 
   first4 : ipv4_fragment_offset b ≡ 0 → IsFirst (ipv4_ecn s) (ipv4_payload s) s (first_of r)
   first4 start =
@@ -222,8 +217,8 @@ module _ (s : List ℕ) (pieces : List Fragment) (p : Fragment) (f : List ℕ) (
         point_is = cond-true (version b == 4) (ipv4_ecn b) (ipv6_traffic_class b % 4) four ∙ is.ecn;
         long = omega (arith, long);
         whole = ap (λ (h : List ℕ). whole_packet h 9 (protocol b) (ipv4_payload s)) own.1.1
-        ∙ (ap (λ (h : List ℕ). h ++ ipv4_payload s) (whole4 s t x (length (ipv4_payload s)) sent (length-drop (ipv4_header_len s) s) 9 (protocol b))
-        ∙ take-append-drop (ipv4_header_len s) s);
+            ∙ (ap (λ (h : List ℕ). h ++ ipv4_payload s) (whole4 s t x (length (ipv4_payload s)) sent (length-drop (ipv4_header_len s) s) 9 (protocol b))
+            ∙ take-append-drop (ipv4_header_len s) s);
       }
 
   pub read_ipv4 : IsReadAs (ipv4_key s) (ipv4_ecn s) (ipv4_payload s) s p f

@@ -4,3 +4,4 @@ pub mod SlotRunLemmas
 pub mod PartLemmas
 pub mod RunLemmas
 pub mod Ipv4Lemmas
+pub mod Ipv6Lemmas

@@ -1,19 +1,17 @@
 -- The fragments of one packet that was sent, added to one memory.
-use Rattle.std.proofs.Common.{◌≡◌, ℕ, ◌+◌, ◌*◌, ◌/◌, ◌%◌, ◌≤◌, ◌<◌, List, [], ◌∷◌, Bool, true, false, length, refl, sym, ap, ◌∙◌, subst, arith, inl, inr, Option, Some, None, Result, Ok, cond, not, ◌&&◌, eqb, ltb, leb, length-set}
-use Rattle.std.specs.Prelude.{is_some, IfSome, slice_index, slice_set, bit_or}
+use Rattle.std.proofs.Common.{◌≡◌, ℕ, ◌+◌, ◌≤◌, List, [], ◌∷◌, Bool, true, false, length, refl, sym, ap, ◌∙◌, arith, inl, inr, Option, Some, None, Result, Ok, cond, not, ◌&&◌, eqb, ltb}
+use Rattle.std.specs.Prelude.{is_some, IfSome}
 use Rattle.std.specs.List.{All, list_any}
-use Rattle.std.proofs.lemmas.Bool.{cases_Bool, and_parts, eqb-true, eq-eqb, false≢true, le-ltb, cond-true, cond-false, not_from_true, ne_eqb}
+use Rattle.std.proofs.lemmas.Bool.{cases_Bool, and_parts, eqb-true, false≢true, le-ltb, cond-false, not_from_true}
 use Rattle.std.proofs.lemmas.List.Elements.{All-cons}
-use Rattle.std.proofs.lemmas.Option.{none-some, same_Some}
-use Rattle.ip_defrag.specs.Fragment.{Fragment, is_same}
+use Rattle.ip_defrag.specs.Fragment.{Fragment}
 use Rattle.ip_defrag.specs.Payload.{payload_of}
-use Rattle.ip_defrag.specs.Received.{payload_in}
 use Rattle.ip_defrag.specs.Split.{IsSplit, are_among}
 use Rattle.ip_defrag.specs.declared.progress.Progress.{Progress}
 use Rattle.ip_defrag.specs.declared.progress.Progress.TheVariants.{Whole, MoreWanted}
 use Rattle.ip_defragmenter.specs.Ecn.{are_mixed, is_capable, is_congested, marked, point_of}
 use Rattle.ip_defragmenter.specs.FragmentOf.{FragmentParts}
-use Rattle.ip_defragmenter.specs.Memory.{AreJoinable, FirstParts, Stored, WasStored, first_after, first_of, is_complete, is_store_conflict, outcome_by, own_refusal, piece_of, pieces_of, points_of, refused, stored_all, stored_by, stored_none, stored_outcome, stored_progress, stored_refusal, stored_with}
+use Rattle.ip_defragmenter.specs.Memory.{AreJoinable, FirstParts, Stored, WasStored, first_after, first_of, is_complete, is_store_conflict, outcome_by, own_refusal, piece_of, pieces_of, points_of, stored_all, stored_by, stored_none, stored_outcome, stored_refusal, stored_with}
 use Rattle.ip_defragmenter.specs.Whole.{are_headers, stated_by, whole_fault, whole_packet}
 use Rattle.ip_defragmenter.specs.declared.err.StoreError.{StoreError}
 use Rattle.ip_defragmenter.specs.declared.memory.PacketMemory.{PacketMemory}

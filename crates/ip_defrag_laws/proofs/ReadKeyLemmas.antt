@@ -1,11 +1,10 @@
 -- The key of a fragment that was read from bytes.
-use Rattle.ip_spec.proofs.Common.{◌≡◌, ℕ, ◌+◌, ◌*◌, ◌-◌, ◌≤◌, ◌<◌, List, Bool, true, false, length, min, take, drop, refl, sym, ap, ◌∙◌, subst, arith, inl, inr, Option, Some, None, Result, Ok, Err, ExtHeader, option_map, option_map_or, find, cases_Bool, cond, cond-true, cond-false, eqb-true, length-take, length-drop, get_or-take, false≢true, ◌==◌}
+use Rattle.ip_spec.proofs.Common.{◌≡◌, ℕ, ◌+◌, ◌*◌, ◌≤◌, ◌<◌, List, Bool, true, false, length, min, take, drop, sym, ap, ◌∙◌, subst, arith, inl, inr, Option, Some, None, Result, Ok, Err, ExtHeader, option_map, option_map_or, find, cases_Bool, cond, cond-true, cond-false, eqb-true, length-take, length-drop, get_or-take, ◌==◌}
 use Rattle.std.specs.Prelude.{slice_index}
 use Rattle.std.specs.Int.{from_be_bytes, w16}
 use Rattle.std.proofs.lemmas.List.{get_or-drop}
-use Rattle.ip_base.specs.Ipv4Header.{IsIpv4Header, ipv4_header_len, is_ipv4_fragmenting, ipv4_source_octets, ipv4_destination_octets, protocol}
+use Rattle.ip_base.specs.Ipv4Header.{ipv4_header_len, is_ipv4_fragmenting, ipv4_source_octets, ipv4_destination_octets, protocol}
 use Rattle.ip_base.specs.BaseHeaderFields.{ipv4_identification}
-use Rattle.ip_base.specs.Ipv6Header.{IsIpv6Header, ipv6_source_octets, ipv6_destination_octets}
 use Rattle.ip_spec.specs.Encoding.{AreBytes}
 use Rattle.ip_dissect.specs.Fragment.{fragments}
 use Rattle.ip_dissect.specs.Dissection.{DissectedParts, dissected}
@@ -13,7 +12,6 @@ use Rattle.ip_dissect.proofs.DissectedLemmas.{begin_ipv4, begin_ipv6}
 use Rattle.ip_defragmenter.specs.FragmentOf.{FragmentParts, fragment_by, fragmented, ipv4_fragment_parts, ipv6_fragment_parts, ipv6_fragment_parts_by, packet_fragment, unusable}
 use Rattle.ip_defragmenter.specs.Key.{IsKey}
 use Rattle.ip_defragmenter.specs.declared.err.FragmentError.{FragmentError}
-use Rattle.ip_defragmenter.specs.declared.key.FragmentKey.{FragmentKey}
 use Rattle.ip_defragmenter.specs.declared.key.FragmentKey.TheVariants as key
 
 -- A packet of which a fragment was read has the fragment's parts.

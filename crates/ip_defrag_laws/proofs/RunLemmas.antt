@@ -1,25 +1,20 @@
 -- The fragments of one packet, among others, over a run.
-use Rattle.std.proofs.Common.{◌≡◌, ℕ, ◌<◌, ◌≤◌, List, [], ◌∷◌, Bool, true, false, length, refl, sym, ap, ◌∙◌, subst, arith, Option, Some, None, Result, Ok, Err, cond, ◌&&◌, ◌||◌}
-use Rattle.std.specs.Prelude.{slice_get}
+use Rattle.std.proofs.Common.{◌≡◌, ℕ, ◌≤◌, List, [], ◌∷◌, Bool, true, false, length, refl, sym, ap, ◌∙◌, subst, Option, Some, None, Result, Ok, Err, cond}
 use Rattle.std.specs.List.{list_any}
 use Rattle.std.proofs.lemmas.Bool.{and_from, and_parts, false≢true, false_from_ne_true, or_right}
 use Rattle.ip_dissect.specs.Dissection.{dissected}
 use Rattle.ip_defrag.specs.Fragment.{Fragment, is_same}
 use Rattle.ip_defrag.specs.Split.{IsSplit, are_among}
-use Rattle.ip_defrag.specs.declared.progress.Progress.{Progress}
 use Rattle.ip_defrag.specs.declared.progress.Progress.TheVariants as progress
 use Rattle.ip_defragmenter.specs.Added.{IsAdded, is_whole, outcome_in}
 use Rattle.ip_defragmenter.specs.FragmentOf.{FragmentParts, packet_fragment}
 use Rattle.ip_defragmenter.specs.Key.{IsKey}
 use Rattle.ip_defragmenter.specs.declared.err.FragmentError.{FragmentError}
-use Rattle.ip_defragmenter.specs.declared.err.StoreError.{StoreError}
 use Rattle.ip_defragmenter.specs.declared.key.FragmentKey.{FragmentKey}
-use Rattle.ip_defragmenter.specs.declared.outcome.Outcome.{Outcome}
-use Rattle.ip_defragmenter.specs.declared.outcome.Outcome.TheVariants.{MoreWanted, Whole}
 use Rattle.ip_defragmenter.specs.declared.settings.Settings.{Settings}
 use Rattle.ip_defragmenter.proofs.SoundLemmas.{sound_begun}
 use Rattle.ip_defrag_laws.specs.Run.{State, Call, IsCall, IsRun, IsCleared, IsKept, IsOther, IsCallBy, AreCalls, pieces_in, with_piece}
-use Rattle.ip_defrag_laws.specs.Written.{HasPacket, IsMadeWhole}
+use Rattle.ip_defrag_laws.specs.Written.{IsMadeWhole}
 use Rattle.ip_defrag_laws.proofs.PartLemmas.{IsPart, AreParts, part_outcome, part_packet}
 use Rattle.ip_defrag_laws.proofs.SlotRunLemmas.{IsNotLost, Keeps, IsAddedOwn, keeps_none, keeps_other, keeps_own, keeps_unchanged}
 use Rattle.ip_defrag_laws.proofs.ReadKeyLemmas.{read_key}
@@ -115,7 +110,7 @@ module _ (settings : Settings) (context : ℕ) (k : FragmentKey) (is_k : IsKey k
         parts = tt;
         among = refl;
         keeps = keeps_none settings.seed context k start.slots start.memories cleared.free cleared.slots
-        (sound_begun start.slots start.memories settings.seed cleared.free cleared.slots cleared.memories) cleared.some;
+            (sound_begun start.slots start.memories settings.seed cleared.free cleared.slots cleared.memories) cleared.some;
       })
   after_run start (x ∷ xs) t cleared run calls fails =
       let u : State = run.0 in

@@ -1,6 +1,6 @@
 -- One packet's slot when fragments are added: as long as the packet isn't given up, its memory has all of its fragments.
-use Rattle.std.proofs.Common.{◌≡◌, ◌≢◌, ℕ, ◌<◌, ◌≤◌, List, [], ◌∷◌, Bool, true, false, length, get_or, refl, sym, ap, ◌∙◌, subst, arith, inl, inr, length-set, Option, Some, None, Result, not}
-use Rattle.std.specs.Prelude.{Contains, slice_get, slice_set, is_some, if◌then◌else◌}
+use Rattle.std.proofs.Common.{◌≡◌, ◌≢◌, ℕ, ◌<◌, List, [], ◌∷◌, Bool, true, false, length, refl, sym, ap, ◌∙◌, subst, arith, inl, inr, length-set, Option, Some, None, Result}
+use Rattle.std.specs.Prelude.{Contains, slice_get, slice_set, if◌then◌else◌}
 use Rattle.std.specs.Option.{option_map}
 use Rattle.std.proofs.lemmas.Bool.{cases_eq, false≢true, false_from_ne_true}
 use Rattle.std.proofs.lemmas.Option.{none-some, same_Some, slice_get_cases}
@@ -10,10 +10,10 @@ use Rattle.ip_lists.proofs.Filters.{has_head}
 use Rattle.ip_defragmenter.specs.Added.{IsAdded, IsAddedAt, IsAddedBy, IsAddedUnless, freed, free_with, is_whole, outcome_in, used_without}
 use Rattle.ip_defragmenter.specs.FragmentOf.{FragmentParts}
 use Rattle.ip_defragmenter.specs.Key.{IsKey}
-use Rattle.ip_defragmenter.specs.Memories.{IsStored, IsStoredIn, kept_in}
+use Rattle.ip_defragmenter.specs.Memories.{IsStored}
 use Rattle.ip_defragmenter.specs.Memory.{Stored, HoldsStored, WasStored, own_refusal, stored_none, stored_all, stored_after, stored_outcome}
 use Rattle.ip_defragmenter.specs.Slot.{pending_in, is_free, free_slot, slot_with}
-use Rattle.ip_defragmenter.specs.Slots.{HoldsPackets, IsPlaced, IsUnchanged, displaced_in, displaced_place, free_after, has_key, is_expired, lost_by, own_in, own_place, own_slot, place_anew, place_of, slot_at, used_after}
+use Rattle.ip_defragmenter.specs.Slots.{HoldsPackets, IsPlaced, IsUnchanged, displaced_place, free_after, has_key, is_expired, lost_by, own_in, own_place, own_slot, place_anew, place_of, slot_at, used_after}
 use Rattle.ip_defragmenter.specs.Sound.{Arrival, IsSound}
 use Rattle.ip_defragmenter.specs.declared.err.StoreError.{StoreError}
 use Rattle.ip_defragmenter.specs.declared.key.FragmentKey.{FragmentKey}
@@ -237,7 +237,6 @@ other_in (g ∷ gs) context d k t u memories others seed free used timeout time 
 
 module _ (settings : Settings) (context : ℕ) (k : FragmentKey) (is_k : IsKey k) (t u : SlotTable) (memories others : List PacketMemory) (d time : ℕ) (f : FragmentParts) (a : Added)
     (as_many : length t.slots.now ≡ length memories) (is_f : IsKey f.key) (added : IsAdded t memories settings d time f u others a) where
-
   after_sound : (arrived : List Arrival) → IsSound t memories arrived → IsSound u others (record { context = d; fragment = f } ∷ arrived)
   after_sound arrived sound = sound_added (own_refusal f) t u memories others settings d time f a arrived as_many is_f added sound
 
@@ -254,7 +253,7 @@ module _ (settings : Settings) (context : ℕ) (k : FragmentKey) (is_k : IsKey k
         sound = after_sound keeps.arrived keeps.sound;
         some = (let e : length u.slots.now ≡ length t.slots.now = ap length at.slots ∙ as_long (is_whole r) t.slots.now p.index (slot_with p.since d f.key) in omega (arith, e, keeps.some));
         is_in = other_in given context d k t u memories others settings.seed keeps.free keeps.used settings.timeout time f p a r is_k is_f other keeps.holds
-        (sym (placed.place keeps.free keeps.used keeps.holds)) within (subst P at.lost kept) at keeps.is_in;
+            (sym (placed.place keeps.free keeps.used keeps.holds)) within (subst P at.lost kept) at keeps.is_in;
       }
 
   other_by : (given : List FragmentParts) (o : Option Placement) → IsPlaced t settings d f.key time o → IsAddedBy t memories settings.seed d f o u others a
@@ -357,7 +356,6 @@ not_nowhere (g ∷ gs) settings context t memories time f placed keeps =
 module _ (settings : Settings) (context : ℕ) (t u : SlotTable) (memories others : List PacketMemory) (time : ℕ) (f : FragmentParts) (a : Added) (given : List FragmentParts)
     (as_many : length t.slots.now ≡ length memories) (is_f : IsKey f.key) (added : IsAdded t memories settings context time f u others a) (kept : IsNotLost context f.key a.lost)
     (keeps : Keeps settings.seed context f.key given t memories) where
-
   own_at : (p : Placement) (r : Result Progress StoreError) → IsPlaced t settings context f.key time (Some p) → IsAddedAt t memories settings.seed context f p u others a r
       → IsAddedOwn settings.seed context f.key given f u others a
   own_at p r placed at =
@@ -386,7 +384,7 @@ module _ (settings : Settings) (context : ℕ) (t u : SlotTable) (memories other
           is_in = record {
             index = p.index;
             has = ap (λ (xs : List Slot). has_key context f.key (slot_at xs p.index)) at.slots
-            ∙ (ap (has_key context f.key) (not_freed (is_whole r) t.slots.now p.index s more within) ∙ own_key p.since context f.key is_f);
+                ∙ (ap (has_key context f.key) (not_freed (is_whole r) t.slots.now p.index s more within) ∙ own_key p.since context f.key is_f);
             memory = n;
             at = stored.1.0;
             stored = was.0;

@@ -1,10 +1,11 @@
 //! Laws of runs, proved as the contract of a call.
-ghost use Rattle.std.specs.Prelude.{◌≡◌, ◌∷◌, ℕ, List, true, false};
+ghost use Rattle.std.specs.Prelude.{◌≡◌, ◌≤◌, ◌∷◌, ℕ, List, drop, true, false};
 ghost use Rattle.ip_defrag.specs.Fragment.{Fragment};
 ghost use Rattle.ip_defrag.specs.Split.{IsSplit, are_among};
-ghost use Rattle.ip_defragmenter.specs.Sent.{IsSentIpv4};
+ghost use Rattle.ip_defragmenter.specs.Sent.{IsSentIpv4, IsSentIpv6};
 ghost use Rattle.ip_defragmenter.specs.declared.settings.Settings.{Settings};
 ghost use Rattle.ip_defrag_laws.specs.Ipv4.{IsIpv4Fragment, ipv4_key, ipv4_payload};
+ghost use Rattle.ip_defrag_laws.specs.Ipv6.{IsIpv6Fragment, ipv6_key};
 ghost use Rattle.ip_defrag_laws.specs.Run.{AreCalls, Call, IsCleared, IsRun, State, pieces_in};
 ghost use Rattle.ip_defrag_laws.specs.Written.{IsMadeWhole};
 
@@ -15,6 +16,11 @@ pub fn fragments_make_the_packet_that_was_sent()
     ensures ipv4 { (s : List ℕ) (pieces : List Fragment) (settings : Settings) (context : ℕ) (start end : State) (last : Call)
         (calls : List Call) → IsSentIpv4 s → IsSplit (ipv4_payload s) pieces → IsCleared settings start
         → IsRun settings start (last ∷ calls) end → AreCalls (IsIpv4Fragment s) pieces context (ipv4_key s) (last ∷ calls)
+        → are_among pieces (pieces_in calls) ≡ false → are_among pieces (pieces_in (last ∷ calls)) ≡ true
+        → IsMadeWhole s last end }
+    ensures ipv6 { (s : List ℕ) (n link id : ℕ) (pieces : List Fragment) (settings : Settings) (context : ℕ) (start end : State)
+        (last : Call) (calls : List Call) → IsSentIpv6 s n link → n ≤ 4096 → IsSplit (drop n s) pieces → IsCleared settings start
+        → IsRun settings start (last ∷ calls) end → AreCalls (IsIpv6Fragment s n link id) pieces context (ipv6_key s id) (last ∷ calls)
         → are_among pieces (pieces_in calls) ≡ false → are_among pieces (pieces_in (last ∷ calls)) ≡ true
         → IsMadeWhole s last end }
 {}

@@ -1,13 +1,13 @@
-use Rattle.std.proofs.Common.{◌≡◌, ℕ, ◌≤◌, List, [], ◌∷◌, length, arith, true, Option, Some, None}
-use Rattle.std.specs.List.{list_any}
-use Rattle.ip_base.specs.BaseHeaderFields.{ipv4_ecn}
-use Rattle.ip_defrag.specs.Fragment.{Fragment, is_same}
+use Rattle.std.proofs.Common.{ℕ, ◌≤◌, List, [], ◌∷◌, drop, ◌%◌, arith, length-drop, Option, Some, None}
+use Rattle.ip_base.specs.BaseHeaderFields.{ipv4_ecn, ipv6_traffic_class}
+use Rattle.ip_defrag.specs.Fragment.{Fragment}
 use Rattle.ip_defrag.specs.Split.{IsSplit}
-use Rattle.ip_defragmenter.specs.Sent.{IsSentIpv4}
-use Rattle.ip_defragmenter.specs.declared.key.FragmentKey.{FragmentKey}
+use Rattle.ip_defragmenter.specs.Sent.{IsSentIpv4, IsSentIpv6}
 use Rattle.ip_defrag_laws.specs.Ipv4.{IsIpv4Fragment, ipv4_key, ipv4_payload}
+use Rattle.ip_defrag_laws.specs.Ipv6.{IsIpv6Fragment, ipv6_key}
 use Rattle.ip_defrag_laws.specs.Run.{AreCalls, Call, IsCallBy}
 use Rattle.ip_defrag_laws.proofs.Ipv4Lemmas.{is_key4, payload4, read_ipv4, short4}
+use Rattle.ip_defrag_laws.proofs.Ipv6Lemmas.{is_key6, read_ipv6, short6}
 use Rattle.ip_defrag_laws.proofs.RunLemmas.{IsReadAs, made_whole}
 use Rattle.ip_defrag_laws.proofs.run_laws.fragments_make_the_packet_that_was_sent.Goals as goal
 
@@ -21,9 +21,24 @@ calls4 : (s : List ℕ) (pieces : List Fragment) (context : ℕ) (xs : List Call
 calls4 s pieces context [] sent split calls = tt
 calls4 s pieces context (x ∷ xs) sent split calls = (by_piece4 s pieces context x.piece x sent split calls.0, calls.1, calls4 s pieces context xs sent split calls.2)
 
+by_piece6 : (s : List ℕ) (n link id : ℕ) (pieces : List Fragment) (context : ℕ) (o : Option Fragment) (x : Call) → IsSentIpv6 s n link → n ≤ 4096 → IsSplit (drop n s) pieces
+    → IsCallBy (IsIpv6Fragment s n link id) pieces context (ipv6_key s id) o x → IsCallBy (IsReadAs (ipv6_key s id) (ipv6_traffic_class s % 4) (drop n s) s) pieces context (ipv6_key s id) o x
+by_piece6 s n link id pieces context None x sent few split by = by
+by_piece6 s n link id pieces context (Some p) x sent few split by = (by.0, by.1, read_ipv6 s n link id pieces p x.bytes sent few split by.1 by.2)
+
+calls6 : (s : List ℕ) (n link id : ℕ) (pieces : List Fragment) (context : ℕ) (xs : List Call) → IsSentIpv6 s n link → n ≤ 4096 → IsSplit (drop n s) pieces
+    → AreCalls (IsIpv6Fragment s n link id) pieces context (ipv6_key s id) xs → AreCalls (IsReadAs (ipv6_key s id) (ipv6_traffic_class s % 4) (drop n s) s) pieces context (ipv6_key s id) xs
+calls6 s n link id pieces context [] sent few split calls = tt
+calls6 s n link id pieces context (x ∷ xs) sent few split calls =
+    (by_piece6 s n link id pieces context x.piece x sent few split calls.0, calls.1, calls6 s n link id pieces context xs sent few split calls.2)
+
 pub returns : goal.returns
 returns c = record {
   ipv4 = λ s pieces settings context start end last calls sent split cleared run are before all.
       made_whole settings context (ipv4_key s) (is_key4 s sent) (ipv4_ecn s) (ipv4_payload s) s pieces split (let e = payload4 s sent in omega (arith, e, short4 s sent))
       start last calls end cleared run (calls4 s pieces context (last ∷ calls) sent split are) before all;
+  ipv6 = λ s n link id pieces settings context start end last calls sent few split cleared run are before all.
+      made_whole settings context (ipv6_key s id) (is_key6 s n link id sent) (ipv6_traffic_class s % 4) (drop n s) s pieces split
+      (let e = length-drop n s in omega (arith, e, short6 s n link sent, sent.base, sent.within))
+      start last calls end cleared run (calls6 s n link id pieces context (last ∷ calls) sent few split are) before all;
 }

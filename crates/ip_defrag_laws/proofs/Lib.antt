@@ -5,3 +5,4 @@ pub mod PartLemmas
 pub mod RunLemmas
 pub mod Ipv4Lemmas
 pub mod Ipv6Lemmas
+pub mod Ipv4FragmentLemmas

@@ -23,7 +23,7 @@ high_bits b is =
     omega (arith, high, low)
 
 -- Setting a byte to what it is changes nothing.
-set_same : (b : List ℕ) (i v : ℕ) → i < length b → slice_index b i ≡ v → slice_set b i v ≡ b
+pub set_same : (b : List ℕ) (i v : ℕ) → i < length b → slice_index b i ≡ v → slice_set b i v ≡ b
 set_same b i v within is = same_number_lists (slice_set b i v) b (length-set b i v) (λ j less. elim (cases_eq j i) [
   | inl same ↦ ap (slice_index (slice_set b i v)) same ∙ (get_or-set_same b i v 0 within ∙ (sym is ∙ ap (slice_index b) (sym same)))
   | inr other ↦ get_or-set_other b i j v 0 other

@@ -1,8 +1,10 @@
 //! Laws of the defragmenter over whole runs: the fragments of a packet that was sent make that packet whole.
 #![tactic(auto)]
 
+mod fragment_laws;
 mod run_laws;
 mod written;
 
+pub use fragment_laws::{fragments_are_read, made_fragments_are_fragments};
 pub use run_laws::fragments_make_the_packet_that_was_sent;
 pub use written::write_whole;

@@ -13,7 +13,8 @@ use Rattle.ip_base.specs.Ipv4Header.{IsIpv4Header, version, ihl, ipv4_header_len
 use Rattle.ip_dissect.specs.Dissection.{dissected}
 use Rattle.ip_dissect.specs.End.{has_error}
 use Rattle.ip_defragmenter.specs.Sent.{IsSentIpv4, ipv4_base, ipv4_first}
-use Rattle.ip_defrag_laws.specs.Ipv4.{IsIpv4Fragment, IsIpv4Part, ipv4_fragment, ipv4_fragment_header, ipv4_payload, piece_from, with_checksum, with_options, with_place}
+use Rattle.ip_defrag_laws.specs.Ipv4.{IsIpv4Fragment, IsIpv4Part, ipv4_fragment, ipv4_fragment_header, ipv4_payload, with_checksum, with_options, with_place}
+use Rattle.ip_defrag_laws.specs.Piece.{piece_from}
 use Rattle.ip_defrag_laws.proofs.Ipv4Lemmas.{payload4, short4}
 use Rattle.ip_defrag_laws.proofs.MarkedLemmas.{set_same}
 use Rattle.ip_defrag_laws.proofs.ReadKeyLemmas.{word_is}

@@ -6,3 +6,4 @@ pub mod RunLemmas
 pub mod Ipv4Lemmas
 pub mod Ipv6Lemmas
 pub mod Ipv4FragmentLemmas
+pub mod Ipv6FragmentLemmas

@@ -39,10 +39,6 @@ pub record IsIpv4Fragment (s : List ℕ) (p : Fragment) (f : List ℕ) : Type 0 
   pub first : p.offset ≡ 0 → (t : ℕ) × ((x : ℕ) × (base ≡ ipv4_first s t x))
   pub whole : p.offset ≡ 0 → has_error (dissected f).end ≡ false
 
--- the piece of a payload from one offset to another
-abbrev pub piece_from : List ℕ → ℕ → ℕ → Fragment
-piece_from payload start end = record { offset = start; more = nat_lt end (length payload); bytes = take (end - start) (drop start payload) }
-
 -- the base header of s with these options and the total length t; byte 0 has the version 4 and the header length
 abbrev pub with_options : List ℕ → List ℕ → ℕ → List ℕ
 with_options s options t = with_word (slice_set (take 20 s ++ options) 0 (0x45 + length options / 4)) 2 t

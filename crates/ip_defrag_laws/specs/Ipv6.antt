@@ -1,5 +1,6 @@
 -- The fragments of an IPv6 packet (RFC 8200, section 4.5).
-use Rattle.std.specs.Prelude.{◌≡◌, ℕ, ◌+◌, ◌*◌, ◌%◌, ◌≤◌, true, false, List, [], ◌∷◌, ◌++◌, length, slice_index}
+use Rattle.std.specs.Prelude.{◌≡◌, ℕ, ◌+◌, ◌-◌, ◌*◌, ◌/◌, ◌%◌, ◌^◌, ◌≤◌, ◌<◌, nat_lt, Bool, true, false, List, [], ◌∷◌, ◌++◌, length, take, drop, slice_index, if◌then◌else◌}
+use Rattle.std.specs.Int.{to_be_bytes, w32}
 use Rattle.std.specs.List.{list_any}
 use Rattle.ip_base.specs.BaseHeaderFields.{ipv6_traffic_class}
 use Rattle.ip_base.specs.Ipv6Header.{IsIpv6Header, payload_length, ipv6_next_header, ipv6_source_octets, ipv6_destination_octets}
@@ -47,3 +48,29 @@ pub record IsIpv6Fragment (s : List ℕ) (n link id : ℕ) (p : Fragment) (f : L
   pub next : p.offset ≡ 0 → (fragment_fields header.bytes).next_header ≡ slice_index s link
   pub several : p.offset ≡ 0 → p.more ≡ true
   pub whole : p.offset ≡ 0 → has_error (dissected f).end ≡ false
+
+-- A fragment header: the next header, a reserved byte, the offset, which is a multiple of 8, with the more fragments flag in
+-- its lowest bit, and the identification.
+abbrev pub fragment_header : ℕ → ℕ → Bool → ℕ → List ℕ
+fragment_header next start more id = next ∷ 0 ∷ (start / 256) ∷ (start % 256 + (if more then 1 else 0)) ∷ to_be_bytes w32 id
+
+-- the fragment of s with this identification that has what follows its first n bytes, from one offset to another
+abbrev pub ipv6_fragment : List ℕ → ℕ → ℕ → ℕ → ℕ → ℕ → List ℕ
+ipv6_fragment s n link id start end =
+    ipv6_first s n link (n - 40 + 8 + (end - start))
+    ++ (fragment_header (slice_index s link) start (nat_lt end (length (drop n s))) id ++ take (end - start) (drop start (drop n s)))
+
+-- It is one: the bytes are some of those that follow, not all, from a multiple of 8 on, and fit the payload length field. The
+-- first n bytes of s are its base header and these extension headers, none of which is a fragment header, and the last next
+-- header field is at the offset `link`.
+pub record IsIpv6Part (s : List ℕ) (n link id start end : ℕ) (c : List ExtHeader) : Type 0 where
+  pub units : start % 8 ≡ 0
+  pub order : start ≤ end
+  pub within : end ≤ length (drop n s)
+  pub several : start ≡ 0 → end < length (drop n s)
+  pub fits : n - 40 + 8 + (end - start) ≤ 65535
+  pub identification : id < 2 ^ 32
+  pub chain : IsChain (ipv6_next_header s) c
+  pub headers : bytes_of c ≡ drop 40 (take n s)
+  pub none : list_any is_fragment_header c ≡ false
+  pub place : link_after 40 c ≡ link

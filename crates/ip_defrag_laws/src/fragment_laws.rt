@@ -8,14 +8,20 @@ ghost use Rattle.ip_defrag.specs.Split.{IsSplit};
 ghost use Rattle.ip_defragmenter.specs.FragmentOf.{FragmentParts, packet_fragment};
 ghost use Rattle.ip_defragmenter.specs.Memory.{own_refusal, piece_of};
 ghost use Rattle.ip_defragmenter.specs.Sent.{IsSentIpv4, IsSentIpv6};
-ghost use Rattle.ip_defrag_laws.specs.Ipv4.{IsIpv4Fragment, IsIpv4Part, ipv4_fragment, ipv4_key, ipv4_payload, piece_from};
-ghost use Rattle.ip_defrag_laws.specs.Ipv6.{IsIpv6Fragment, ipv6_key};
+ghost use Rattle.ip_defrag_laws.specs.Ipv4.{IsIpv4Fragment, IsIpv4Part, ipv4_fragment, ipv4_key, ipv4_payload};
+ghost use Rattle.ip_defrag_laws.specs.Ipv6.{IsIpv6Fragment, IsIpv6Part, ipv6_fragment, ipv6_key};
+ghost use Rattle.ip_defrag_laws.specs.Piece.{piece_from};
+ghost use Rattle.ip_spec.specs.Chain.{ExtHeader};
 
 /// Proves that the bytes that fragmentation makes of a packet are fragments of it, also with padding after them.
 pub fn made_fragments_are_fragments()
     ensures ipv4 { (s options padding : List ℕ) (start end : ℕ) → IsSentIpv4 s → IsIpv4Part s options start end
         → (start ≡ 0 → has_error (dissected (ipv4_fragment s options start end ++ padding)).end ≡ false)
         → IsIpv4Fragment s (piece_from (ipv4_payload s) start end) (ipv4_fragment s options start end ++ padding) }
+    ensures ipv6 { (s padding : List ℕ) (n link id start end : ℕ) (c : List ExtHeader) → IsSentIpv6 s n link
+        → IsIpv6Part s n link id start end c
+        → (start ≡ 0 → has_error (dissected (ipv6_fragment s n link id start end ++ padding)).end ≡ false)
+        → IsIpv6Fragment s n link id (piece_from (drop n s) start end) (ipv6_fragment s n link id start end ++ padding) }
 {}
 
 /// Proves that a fragment of a packet is read as one: with the packet's key and the piece of its payload, and that it isn't

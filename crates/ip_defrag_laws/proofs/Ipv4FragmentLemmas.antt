@@ -1,19 +1,19 @@
 -- The fragments that are made of an IPv4 packet.
-use Rattle.ip_spec.proofs.Common.{◌≡◌, ◌≢◌, ℕ, ◌+◌, ◌*◌, ◌/◌, ◌%◌, ◌-◌, ◌≤◌, ◌<◌, ◌++◌, List, Bool, true, false, length, min, take, drop, refl, sym, ap, ◌∙◌, subst, arith, inl, inr, cases_Bool, cond, cond-true, cond-false, eq-eqb, ne_eqb, eqb-true, lt-ltb, length-take, length-drop, length-append, length-set, append_assoc, take-append-drop, false≢true, ◌==◌, get_or-set_same, get_or-set_other, get_or_append_left, get_or-take}
+use Rattle.ip_spec.proofs.Common.{◌≡◌, ◌≢◌, ℕ, ◌+◌, ◌*◌, ◌/◌, ◌%◌, ◌-◌, ◌≤◌, ◌<◌, ◌++◌, List, Bool, true, false, length, take, drop, sym, ap, ◌∙◌, arith, eq-eqb, ne_eqb, eqb-true, lt-ltb, length-take, length-drop, length-append, length-set, append_assoc, take-append-drop, ◌==◌, get_or-set_same, get_or-set_other, get_or_append_left, get_or-take}
 use Rattle.std.specs.Prelude.{slice_index, slice_set, bit_and, not, ◌||◌, nat_lt, if◌then◌else◌}
 use Rattle.std.proofs.lemmas.Bool.{or_parts, not-false, not_from_false, not_from_true}
 use Rattle.std.proofs.lemmas.Grind.{same_number_lists}
-use Rattle.std.proofs.lemmas.List.{get_or-drop, take-take, length-take-le}
+use Rattle.std.proofs.lemmas.List.{get_or-drop, take-take}
 use Rattle.std.proofs.lemmas.Nat.{and_mask}
 use Rattle.std.proofs.lemmas.Nat.Bits.{and_high}
 use Rattle.std.specs.Int.{from_be_bytes, w16}
 use Rattle.ip_base.specs.Checksum.{with_word, checksum_of}
 use Rattle.ip_base.proofs.ChecksumLemmas.{word_len, word_other}
-use Rattle.ip_base.specs.Ipv4Header.{IsIpv4Header, version, ihl, ipv4_header_len, total_len, ipv4_fragment_offset, ipv4_more_fragments}
+use Rattle.ip_base.specs.Ipv4Header.{IsIpv4Header, ipv4_header_len, total_len, ipv4_fragment_offset, ipv4_more_fragments}
 use Rattle.ip_dissect.specs.Dissection.{dissected}
 use Rattle.ip_dissect.specs.End.{has_error}
 use Rattle.ip_defragmenter.specs.Sent.{IsSentIpv4, ipv4_base, ipv4_first}
-use Rattle.ip_defrag_laws.specs.Ipv4.{IsIpv4Fragment, IsIpv4Part, ipv4_fragment, ipv4_fragment_header, ipv4_payload, with_checksum, with_options, with_place}
+use Rattle.ip_defrag_laws.specs.Ipv4.{IsIpv4Fragment, IsIpv4Part, ipv4_fragment, ipv4_fragment_header, ipv4_payload, with_options, with_place}
 use Rattle.ip_defrag_laws.specs.Piece.{piece_from}
 use Rattle.ip_defrag_laws.proofs.Ipv4Lemmas.{payload4, short4}
 use Rattle.ip_defrag_laws.proofs.MarkedLemmas.{set_same}

@@ -1,7 +1,6 @@
 -- The fragments that are made of an IPv6 packet.
-use Rattle.ip_spec.proofs.Common.{◌≡◌, ◌≢◌, ℕ, ◌+◌, ◌*◌, ◌/◌, ◌%◌, ◌-◌, ◌^◌, ◌≤◌, ◌<◌, ◌++◌, List, [], ◌∷◌, zero, suc, Bool, true, false, length, min, take, drop, refl, sym, ap, ◌∙◌, subst, arith, inl, inr, ExtHeader, bytes_of, AllByRecursion, cond, eq-eqb, ne_eqb, lt-ltb, length-take, length-drop, length-append, length-set, append_assoc, append-nil, take-append-drop, false≢true, ◌==◌, get_or-set_same, get_or-set_other, get_or_append_left, get_or-take, cases_eq}
-use Rattle.std.specs.Prelude.{slice_index, slice_set, bit_and, not, ◌||◌, nat_lt, if◌then◌else◌}
-use Rattle.std.specs.Int.{from_be_bytes, to_be_bytes, w32}
+use Rattle.ip_spec.proofs.Common.{◌≡◌, ◌≢◌, ℕ, ◌+◌, ◌*◌, ◌/◌, ◌%◌, ◌-◌, ◌≤◌, ◌<◌, ◌++◌, List, [], ◌∷◌, suc, Bool, true, false, length, take, drop, refl, sym, ap, ◌∙◌, subst, arith, inl, inr, ExtHeader, bytes_of, AllByRecursion, eq-eqb, ne_eqb, lt-ltb, length-take, length-drop, length-append, length-set, append_assoc, append-nil, take-append-drop, ◌==◌, get_or-set_same, get_or-set_other, get_or-take, cases_eq}
+use Rattle.std.specs.Prelude.{slice_index, slice_set, bit_and, ◌||◌, nat_lt, if◌then◌else◌}
 use Rattle.std.specs.List.{list_any}
 use Rattle.std.proofs.lemmas.Bool.{not_from_false, not_from_true}
 use Rattle.std.proofs.lemmas.Grind.{same_number_lists}
@@ -10,13 +9,10 @@ use Rattle.std.proofs.lemmas.Nat.{and_mask, from_be_bytes-to_be_bytes_4}
 use Rattle.std.proofs.lemmas.Nat.Bits.{and_high}
 use Rattle.ip_base.specs.Checksum.{with_word}
 use Rattle.ip_base.proofs.ChecksumLemmas.{word_len, word_other}
-use Rattle.ip_base.specs.BaseHeaderFields.{ipv6_traffic_class}
-use Rattle.ip_base.specs.Ipv4Header.{version}
-use Rattle.ip_base.specs.Ipv6Header.{IsIpv6Header, payload_length, ipv6_next_header}
+use Rattle.ip_base.specs.Ipv6Header.{payload_length, ipv6_next_header}
 use Rattle.ip_spec.specs.Chain.{AreLinked, IsChain}
-use Rattle.ip_spec.specs.Fields.{flag_bit, fragment_fields, next_header, offset_bits}
+use Rattle.ip_spec.specs.Fields.{flag_bit, next_header, offset_bits}
 use Rattle.ip_spec.specs.Header.{IsHeader, raw, fragment, auth}
-use Rattle.ip_spec.specs.Numbers.{FRAGMENT}
 use Rattle.ip_spec.proofs.HeaderLemmas.{header-least}
 use Rattle.ip_spec.proofs.StepLemmas.{all_more}
 use Rattle.ip_dissect.specs.Dissection.{dissected}

@@ -7,3 +7,4 @@ pub mod Ipv4Lemmas
 pub mod Ipv6Lemmas
 pub mod Ipv4FragmentLemmas
 pub mod Ipv6FragmentLemmas
+pub mod ArrivedLemmas

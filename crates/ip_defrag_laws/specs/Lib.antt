@@ -1,5 +1,6 @@
 pub mod Run
 pub mod Written
+pub mod Arrived
 pub mod Piece
 pub mod Ipv4
 pub mod Ipv6

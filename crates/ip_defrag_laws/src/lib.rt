@@ -6,5 +6,7 @@ mod run_laws;
 mod written;
 
 pub use fragment_laws::{fragments_are_read, made_fragments_are_fragments};
-pub use run_laws::fragments_make_the_packet_that_was_sent;
+pub use run_laws::{
+    fragments_in_one_memory_are_the_packet, fragments_make_the_packet_that_was_sent,
+};
 pub use written::write_whole;

@@ -3,11 +3,14 @@ ghost use Rattle.std.specs.Prelude.{◌≡◌, ◌≤◌, ◌∷◌, ℕ, List, 
 ghost use Rattle.ip_defrag.specs.Fragment.{Fragment};
 ghost use Rattle.ip_defrag.specs.Split.{IsSplit, are_among};
 ghost use Rattle.ip_defragmenter.specs.Sent.{IsSentIpv4, IsSentIpv6};
+ghost use Rattle.ip_defragmenter.specs.Memory.{WasStored};
+ghost use Rattle.ip_defragmenter.specs.declared.memory.PacketMemory.{PacketMemory};
 ghost use Rattle.ip_defragmenter.specs.declared.settings.Settings.{Settings};
+ghost use Rattle.ip_defrag_laws.specs.Arrived.{Arrived, AreArrived, arrived_parts, arrived_pieces};
 ghost use Rattle.ip_defrag_laws.specs.Ipv4.{IsIpv4Fragment, ipv4_key, ipv4_payload};
 ghost use Rattle.ip_defrag_laws.specs.Ipv6.{IsIpv6Fragment, ipv6_key};
 ghost use Rattle.ip_defrag_laws.specs.Run.{AreCalls, Call, IsCleared, IsRun, State, pieces_in};
-ghost use Rattle.ip_defrag_laws.specs.Written.{IsMadeWhole};
+ghost use Rattle.ip_defrag_laws.specs.Written.{HasPacket, IsMadeWhole};
 
 /// Proves that the fragments of a packet that was sent, in any order and repeated, among any packets that aren't fragments of
 /// it, make it whole with the call that adds the last missing one, unless a call reported that the packet was given up: the
@@ -23,4 +26,15 @@ pub fn fragments_make_the_packet_that_was_sent()
         → IsRun settings start (last ∷ calls) end → AreCalls (IsIpv6Fragment s n link id) pieces context (ipv6_key s id) (last ∷ calls)
         → are_among pieces (pieces_in calls) ≡ false → are_among pieces (pieces_in (last ∷ calls)) ≡ true
         → IsMadeWhole s last end }
+{}
+
+/// Proves that the fragments of a packet that was sent, in any order and repeated, make it whole in one memory: the memory was
+/// new, then each fragment that was read was added to it, and each piece arrived.
+pub fn fragments_in_one_memory_are_the_packet()
+    ensures ipv4 { (s : List ℕ) (pieces : List Fragment) (arrived : List Arrived) (m : PacketMemory) → IsSentIpv4 s
+        → IsSplit (ipv4_payload s) pieces → AreArrived (IsIpv4Fragment s) pieces arrived
+        → are_among pieces (arrived_pieces arrived) ≡ true → WasStored m 65535 (arrived_parts arrived) → HasPacket m s }
+    ensures ipv6 { (s : List ℕ) (n link id : ℕ) (pieces : List Fragment) (arrived : List Arrived) (m : PacketMemory)
+        → IsSentIpv6 s n link → n ≤ 4096 → IsSplit (drop n s) pieces → AreArrived (IsIpv6Fragment s n link id) pieces arrived
+        → are_among pieces (arrived_pieces arrived) ≡ true → WasStored m 65535 (arrived_parts arrived) → HasPacket m s }
 {}

@@ -13,7 +13,7 @@ use Rattle.ip_base.specs.Ipv4Header.{IsIpv4Header, ipv4_header_len, total_len, i
 use Rattle.ip_dissect.specs.Dissection.{dissected}
 use Rattle.ip_dissect.specs.End.{has_error}
 use Rattle.ip_defragmenter.specs.Sent.{IsSentIpv4, ipv4_base, ipv4_first}
-use Rattle.ip_defrag_laws.specs.Ipv4.{IsIpv4Fragment, IsIpv4Part, ipv4_fragment, ipv4_fragment_header, ipv4_payload, with_options, with_place}
+use Rattle.ip_defrag_laws.specs.Ipv4.{IsIpv4Fragment, IsIpv4Part, ipv4_fragment_bytes, ipv4_fragment_header, ipv4_payload, with_options, with_place}
 use Rattle.ip_defrag_laws.specs.Piece.{piece_from}
 use Rattle.ip_defrag_laws.proofs.Ipv4Lemmas.{payload4, short4}
 use Rattle.ip_defrag_laws.proofs.MarkedLemmas.{set_same}
@@ -200,8 +200,8 @@ module _ (s options : List ℕ) (start end : ℕ) (sent : IsSentIpv4 s) (is : Is
       ap (λ (y : List ℕ). with_word y 10 x) (set_same a3 7 (o % 256) (omega (arith, len3)) seven
       ∙ (ap (slice_set a2 6) flag ∙ ap (λ (y : List ℕ). slice_set (with_word y 2 t) 6 (slice_index s 6 + 32)) first1))
 
-  pub ipv4_made : (padding : List ℕ) → (start ≡ 0 → has_error (dissected (ipv4_fragment s options start end ++ padding)).end ≡ false)
-      → IsIpv4Fragment s (piece_from (ipv4_payload s) start end) (ipv4_fragment s options start end ++ padding)
+  pub ipv4_made : (padding : List ℕ) → (start ≡ 0 → has_error (dissected (ipv4_fragment_bytes s options start end ++ padding)).end ≡ false)
+      → IsIpv4Fragment s (piece_from (ipv4_payload s) start end) (ipv4_fragment_bytes s options start end ++ padding)
   ipv4_made padding whole = record {
     base = b;
     padding = padding;

@@ -20,7 +20,7 @@ use Rattle.ip_dissect.specs.End.{has_error}
 use Rattle.ip_dissect.specs.Fragment.{is_fragment_header}
 use Rattle.ip_defragmenter.specs.Sent.{IsSentIpv6, ipv6_first}
 use Rattle.ip_defragmenter.specs.Split.{link_after}
-use Rattle.ip_defrag_laws.specs.Ipv6.{IsIpv6Fragment, IsIpv6Part, fragment_header, ipv6_fragment}
+use Rattle.ip_defrag_laws.specs.Ipv6.{IsIpv6Fragment, IsIpv6Part, fragment_header_bytes, ipv6_fragment_bytes}
 use Rattle.ip_defrag_laws.specs.Piece.{piece_from}
 use Rattle.ip_defrag_laws.proofs.Ipv4FragmentLemmas.{same_range, word_high, word_low}
 use Rattle.ip_defrag_laws.proofs.ReadKeyLemmas.{word_is}
@@ -200,7 +200,7 @@ module _ (s : List ℕ) (n link id start end : ℕ) (c : List ExtHeader) (sent :
   more = nat_lt end (length (drop n s))
 
   abbrev x : ExtHeader
-  x = record { number = 44; bytes = fragment_header (slice_index s link) start more id }
+  x = record { number = 44; bytes = fragment_header_bytes (slice_index s link) start more id }
 
   abbrev base : List ℕ
   base = take 40 full
@@ -243,8 +243,8 @@ module _ (s : List ℕ) (n link id start end : ℕ) (c : List ExtHeader) (sent :
   whole_front : base ++ bytes_of (leading_to 44 c) ≡ full
   whole_front = ap (λ (y : List ℕ). base ++ y) after_base ∙ take-append-drop 40 full
 
-  pub ipv6_made : (padding : List ℕ) → (start ≡ 0 → has_error (dissected (ipv6_fragment s n link id start end ++ padding)).end ≡ false)
-      → IsIpv6Fragment s n link id (piece_from (drop n s) start end) (ipv6_fragment s n link id start end ++ padding)
+  pub ipv6_made : (padding : List ℕ) → (start ≡ 0 → has_error (dissected (ipv6_fragment_bytes s n link id start end ++ padding)).end ≡ false)
+      → IsIpv6Fragment s n link id (piece_from (drop n s) start end) (ipv6_fragment_bytes s n link id start end ++ padding)
   ipv6_made padding whole = record {
     base = base;
     before = leading_to 44 c;

@@ -8,3 +8,4 @@ pub mod Ipv6Lemmas
 pub mod Ipv4FragmentLemmas
 pub mod Ipv6FragmentLemmas
 pub mod ArrivedLemmas
+pub mod CompleteLemmas

@@ -23,7 +23,7 @@ read_by : (p : DissectedParts) (o : Option FragmentParts) (f : FragmentParts) �
 read_by p None f is = absurd (cc)
 read_by p (Some g) f is = usable (unusable p) g f is
 
-read_parts : (p : DissectedParts) (f : FragmentParts) → packet_fragment p ≡ Ok (Some f) → fragmented p ≡ Some f
+pub read_parts : (p : DissectedParts) (f : FragmentParts) → packet_fragment p ≡ Ok (Some f) → fragmented p ≡ Some f
 unfolding packet_fragment
 read_parts p f is = read_by p (fragmented p) f is
 

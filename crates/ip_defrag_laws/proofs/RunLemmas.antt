@@ -13,7 +13,7 @@ use Rattle.ip_defragmenter.specs.declared.err.FragmentError.{FragmentError}
 use Rattle.ip_defragmenter.specs.declared.key.FragmentKey.{FragmentKey}
 use Rattle.ip_defragmenter.specs.declared.settings.Settings.{Settings}
 use Rattle.ip_defragmenter.proofs.SoundLemmas.{sound_begun}
-use Rattle.ip_defrag_laws.specs.Run.{State, Call, IsCall, IsRun, IsCleared, IsKept, IsOther, IsCallBy, AreCalls, pieces_in, with_piece}
+use Rattle.ip_defrag_laws.specs.Run.{TableState, Call, IsCall, IsCallRun, IsFresh, IsKept, IsOther, IsCallBy, AreCalls, pieces_in, with_piece}
 use Rattle.ip_defrag_laws.specs.Written.{IsMadeWhole}
 use Rattle.ip_defrag_laws.proofs.PartLemmas.{IsPart, AreParts, part_outcome, part_packet}
 use Rattle.ip_defrag_laws.proofs.SlotRunLemmas.{IsNotLost, Keeps, IsAddedOwn, keeps_none, keeps_other, keeps_own, keeps_unchanged}
@@ -38,14 +38,14 @@ pub record IsReadAs (k : FragmentKey) (point : ℕ) (payload s : List ℕ) (p : 
   pub part : IsPart point payload s p parts
 
 -- What is known after some calls, before all pieces arrived.
-record IsAfter (seed : List ℕ) (context : ℕ) (k : FragmentKey) (point : ℕ) (payload s : List ℕ) (pieces ps : List Fragment) (t : State) : Type 0 where
+record IsAfter (seed : List ℕ) (context : ℕ) (k : FragmentKey) (point : ℕ) (payload s : List ℕ) (pieces ps : List Fragment) (t : TableState) : Type 0 where
   given : List FragmentParts
   parts : AreParts point payload s ps given
   among : are_among ps pieces ≡ true
   keeps : Keeps seed context k given t.slots t.memories
 
 -- A call with another packet.
-other_call : (o : Result (Option FragmentParts) FragmentError) (settings : Settings) (context : ℕ) (k : FragmentKey) (given : List FragmentParts) (t u : State) (x : Call) → IsKey k → packet_fragment (dissected x.bytes) ≡ o
+other_call : (o : Result (Option FragmentParts) FragmentError) (settings : Settings) (context : ℕ) (k : FragmentKey) (given : List FragmentParts) (t u : TableState) (x : Call) → IsKey k → packet_fragment (dissected x.bytes) ≡ o
     → IsCall settings t u x → IsOther context k x → IsKept context k x → Keeps settings.seed context k given t.slots t.memories → Keeps settings.seed context k given u.slots u.memories
 other_call (Err e) settings context k given t u x is_k read call other kept keeps =
     let same = call.unusable e read in
@@ -58,7 +58,7 @@ other_call (Ok (Some f)) settings context k given t u x is_k read call other kep
     (λ at is. other f read at is) kept keeps
 
 -- A call with a fragment of the packet.
-own_call : (settings : Settings) (context : ℕ) (k : FragmentKey) (point : ℕ) (payload s : List ℕ) (p : Fragment) (given : List FragmentParts) (t u : State) (x : Call) → IsKey k → (r : IsReadAs k point payload s p x.bytes)
+own_call : (settings : Settings) (context : ℕ) (k : FragmentKey) (point : ℕ) (payload s : List ℕ) (p : Fragment) (given : List FragmentParts) (t u : TableState) (x : Call) → IsKey k → (r : IsReadAs k point payload s p x.bytes)
     → x.context ≡ context → IsCall settings t u x → IsKept context k x → Keeps settings.seed context k given t.slots t.memories
     → IsAddedOwn settings.seed context k given r.parts u.slots u.memories x.added
 own_call settings context k point payload s p given t u x is_k r at call kept keeps =
@@ -72,7 +72,7 @@ own_call settings context k point payload s p given t u x is_k r at call kept ke
     (subst B (sym r.key) kept) (subst C (sym r.key) keeps) r.part.sound)
 
 -- What the memory returned then.
-own_result : (settings : Settings) (context : ℕ) (k : FragmentKey) (point : ℕ) (payload s : List ℕ) (pieces : List Fragment) (p : Fragment) (ps : List Fragment) (given : List FragmentParts) (t u : State) (x : Call)
+own_result : (settings : Settings) (context : ℕ) (k : FragmentKey) (point : ℕ) (payload s : List ℕ) (pieces : List Fragment) (p : Fragment) (ps : List Fragment) (given : List FragmentParts) (t u : TableState) (x : Call)
     → (r : IsReadAs k point payload s p x.bytes) (own : IsAddedOwn settings.seed context k given r.parts u.slots u.memories x.added)
     → IsSplit payload pieces → length payload ≤ 65535 → are_among (p ∷ ps) pieces ≡ true → AreParts point payload s ps given
     → own.result ≡ Ok (cond (are_among pieces (p ∷ ps)) progress.Whole progress.MoreWanted)
@@ -80,7 +80,7 @@ own_result settings context k point payload s pieces p ps given t u x r own spli
     own.result_is ∙ part_outcome point payload s pieces p ps r.parts given split fits all (r.part, parts)
 
 module _ (settings : Settings) (context : ℕ) (k : FragmentKey) (is_k : IsKey k) (point : ℕ) (payload s : List ℕ) (pieces : List Fragment) (split : IsSplit payload pieces) (fits : length payload ≤ 65535) where
-  after_call : (o : Option Fragment) (ps : List Fragment) (t u : State) (x : Call) → IsCallBy (IsReadAs k point payload s) pieces context k o x → IsKept context k x → IsCall settings t u x
+  after_call : (o : Option Fragment) (ps : List Fragment) (t u : TableState) (x : Call) → IsCallBy (IsReadAs k point payload s) pieces context k o x → IsKept context k x → IsCall settings t u x
       → IsAfter settings.seed context k point payload s pieces ps t → are_among pieces (with_piece o ps) ≡ false → IsAfter settings.seed context k point payload s pieces (with_piece o ps) u
   after_call None ps t u x by kept call after fails = record {
     given = after.given;
@@ -101,10 +101,10 @@ module _ (settings : Settings) (context : ℕ) (k : FragmentKey) (is_k : IsKey k
       }
 
   -- After any calls.
-  after_run : (start : State) (xs : List Call) (t : State) → IsCleared settings start → IsRun settings start xs t → AreCalls (IsReadAs k point payload s) pieces context k xs
+  after_run : (start : TableState) (xs : List Call) (t : TableState) → IsFresh settings start → IsCallRun settings start xs t → AreCalls (IsReadAs k point payload s) pieces context k xs
       → are_among pieces (pieces_in xs) ≡ false → IsAfter settings.seed context k point payload s pieces (pieces_in xs) t
   after_run start [] t cleared run calls fails =
-      let P : State → Type 0 = λ u. IsAfter settings.seed context k point payload s pieces [] u in
+      let P : TableState → Type 0 = λ u. IsAfter settings.seed context k point payload s pieces [] u in
       subst P run (record {
         given = [];
         parts = tt;
@@ -113,11 +113,11 @@ module _ (settings : Settings) (context : ℕ) (k : FragmentKey) (is_k : IsKey k
             (sound_begun start.slots start.memories settings.seed cleared.free cleared.slots cleared.memories) cleared.some;
       })
   after_run start (x ∷ xs) t cleared run calls fails =
-      let u : State = run.0 in
+      let u : TableState = run.0 in
       after_call x.piece (pieces_in xs) u t x calls.0 calls.1 run.2
       (after_run start xs u cleared run.1 calls.2 (fewer_among pieces x.piece (pieces_in xs) fails)) fails
 
-  whole_by : (o : Option Fragment) (ps : List Fragment) (t u : State) (x : Call) → IsCallBy (IsReadAs k point payload s) pieces context k o x → IsKept context k x → IsCall settings t u x
+  whole_by : (o : Option Fragment) (ps : List Fragment) (t u : TableState) (x : Call) → IsCallBy (IsReadAs k point payload s) pieces context k o x → IsKept context k x → IsCall settings t u x
       → IsAfter settings.seed context k point payload s pieces ps t → are_among pieces ps ≡ false → are_among pieces (with_piece o ps) ≡ true → IsMadeWhole s x u
   whole_by None ps t u x by kept call after fails every = absurd (false≢true (sym fails ∙ every))
   whole_by (Some p) ps t u x by kept call after fails every =
@@ -134,8 +134,8 @@ module _ (settings : Settings) (context : ℕ) (k : FragmentKey) (is_k : IsKey k
       }
 
   -- The packet is whole once each piece arrived.
-  pub made_whole : (start : State) (x : Call) (xs : List Call) (t : State) → IsCleared settings start → IsRun settings start (x ∷ xs) t → AreCalls (IsReadAs k point payload s) pieces context k (x ∷ xs)
+  pub made_whole : (start : TableState) (x : Call) (xs : List Call) (t : TableState) → IsFresh settings start → IsCallRun settings start (x ∷ xs) t → AreCalls (IsReadAs k point payload s) pieces context k (x ∷ xs)
       → are_among pieces (pieces_in xs) ≡ false → are_among pieces (pieces_in (x ∷ xs)) ≡ true → IsMadeWhole s x t
   made_whole start x xs t cleared run calls fails every =
-      let u : State = run.0 in
+      let u : TableState = run.0 in
       whole_by x.piece (pieces_in xs) u t x calls.0 calls.1 run.2 (after_run start xs u cleared run.1 calls.2 fails) fails every

@@ -57,8 +57,8 @@ abbrev pub ipv4_fragment_header : List ℕ → List ℕ → ℕ → ℕ → Bool
 ipv4_fragment_header s options start n more = with_checksum (with_place (with_options s options (20 + length options + n)) more (start / 8))
 
 -- the fragment of s with these options that has its payload from one offset to another
-abbrev pub ipv4_fragment : List ℕ → List ℕ → ℕ → ℕ → List ℕ
-ipv4_fragment s options start end =
+abbrev pub ipv4_fragment_bytes : List ℕ → List ℕ → ℕ → ℕ → List ℕ
+ipv4_fragment_bytes s options start end =
     ipv4_fragment_header s options start (end - start) (nat_lt end (length (ipv4_payload s))) ++ take (end - start) (drop start (ipv4_payload s))
 
 -- It is one: the bytes are some of the payload, not all, from a multiple of 8 on. The options are whole words, no more than

@@ -51,14 +51,14 @@ pub record IsIpv6Fragment (s : List ℕ) (n link id : ℕ) (p : Fragment) (f : L
 
 -- A fragment header: the next header, a reserved byte, the offset, which is a multiple of 8, with the more fragments flag in
 -- its lowest bit, and the identification.
-abbrev pub fragment_header : ℕ → ℕ → Bool → ℕ → List ℕ
-fragment_header next start more id = next ∷ 0 ∷ (start / 256) ∷ (start % 256 + (if more then 1 else 0)) ∷ to_be_bytes w32 id
+abbrev pub fragment_header_bytes : ℕ → ℕ → Bool → ℕ → List ℕ
+fragment_header_bytes next start more id = next ∷ 0 ∷ (start / 256) ∷ (start % 256 + (if more then 1 else 0)) ∷ to_be_bytes w32 id
 
 -- the fragment of s with this identification that has what follows its first n bytes, from one offset to another
-abbrev pub ipv6_fragment : List ℕ → ℕ → ℕ → ℕ → ℕ → ℕ → List ℕ
-ipv6_fragment s n link id start end =
+abbrev pub ipv6_fragment_bytes : List ℕ → ℕ → ℕ → ℕ → ℕ → ℕ → List ℕ
+ipv6_fragment_bytes s n link id start end =
     ipv6_first s n link (n - 40 + 8 + (end - start))
-    ++ (fragment_header (slice_index s link) start (nat_lt end (length (drop n s))) id ++ take (end - start) (drop start (drop n s)))
+    ++ (fragment_header_bytes (slice_index s link) start (nat_lt end (length (drop n s))) id ++ take (end - start) (drop start (drop n s)))
 
 -- It is one: the bytes are some of those that follow, not all, from a multiple of 8 on, and fit the payload length field. The
 -- first n bytes of s are its base header and these extension headers, none of which is a fragment header, and the last next

@@ -19,7 +19,7 @@ use Rattle.ip_defragmenter.specs.declared.settings.Settings.{Settings}
 use Rattle.ip_defragmenter.specs.declared.slots.SlotTable.{SlotTable}
 
 -- a table of slots, and their memories
-pub record State : Type 0 where
+pub record TableState : Type 0 where
   pub slots : SlotTable
   pub memories : List PacketMemory
 
@@ -33,7 +33,7 @@ pub record Call : Type 0 where
   pub added : Added
 
 -- The call changed the state s to the state t, by the contract of `defragment`.
-pub record IsCall (settings : Settings) (s t : State) (x : Call) : Type 0 where
+pub record IsCall (settings : Settings) (s t : TableState) (x : Call) : Type 0 where
   pub bytes : AreBytes x.bytes
   pub as_many : length s.slots.slots.now ≡ length s.memories
   pub not_fragment : packet_fragment (dissected x.bytes) ≡ Ok None
@@ -44,12 +44,12 @@ pub record IsCall (settings : Settings) (s t : State) (x : Call) : Type 0 where
       → IsAdded s.slots s.memories settings x.context x.time f t.slots t.memories x.added
 
 -- These calls, the newest first, changed the state s to the state t.
-abbrev pub IsRun : Settings → State → List Call → State → Type 0
-IsRun settings s [] t = s ≡ t
-IsRun settings s (x ∷ xs) t = (u : State) × IsRun settings s xs u × IsCall settings u t x
+abbrev pub IsCallRun : Settings → TableState → List Call → TableState → Type 0
+IsCallRun settings s [] t = s ≡ t
+IsCallRun settings s (x ∷ xs) t = (u : TableState) × IsCallRun settings s xs u × IsCall settings u t x
 
 -- The table was cleared and has a slot, and the memories are new.
-pub record IsCleared (settings : Settings) (s : State) : Type 0 where
+pub record IsFresh (settings : Settings) (s : TableState) : Type 0 where
   pub free : List ℕ
   pub slots : HoldsPackets s.slots settings.seed free []
   pub some : 0 < length s.slots.slots.now

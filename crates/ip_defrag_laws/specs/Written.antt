@@ -6,7 +6,7 @@ use Rattle.ip_defragmenter.specs.Memory.{FirstParts, Stored, HoldsStored}
 use Rattle.ip_defragmenter.specs.Whole.{whole_fault, whole_packet}
 use Rattle.ip_defragmenter.specs.declared.memory.PacketMemory.{PacketMemory}
 use Rattle.ip_defragmenter.specs.declared.outcome.Outcome.TheVariants.{Whole}
-use Rattle.ip_defrag_laws.specs.Run.{Call, State}
+use Rattle.ip_defrag_laws.specs.Run.{Call, TableState}
 
 -- The memory has the packet s: its payload is whole, and with the headers of its first fragment it is s, which can be
 -- written where there is room for it.
@@ -22,7 +22,7 @@ pub record HasPacket (m : PacketMemory) (s : List ℕ) : Type 0 where
   pub writable : (room : ℕ) → length s ≤ room → whole_fault first.headers first.link (length payload) room ≡ None
 
 -- The call returned that a packet is whole, and the memory with the returned index has the packet s.
-pub record IsMadeWhole (s : List ℕ) (x : Call) (t : State) : Type 0 where
+pub record IsMadeWhole (s : List ℕ) (x : Call) (t : TableState) : Type 0 where
   pub index : ℕ
   pub memory : PacketMemory
   pub outcome : x.added.outcome ≡ Whole index

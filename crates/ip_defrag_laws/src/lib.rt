@@ -5,7 +5,9 @@ mod fragment_laws;
 mod run_laws;
 mod written;
 
-pub use fragment_laws::{fragments_are_read, made_fragments_are_fragments};
+pub use fragment_laws::{
+    fragments_are_read, made_fragments_are_fragments, read_fragments_are_complete,
+};
 pub use run_laws::{
     fragments_in_one_memory_are_the_packet, fragments_make_the_packet_that_was_sent,
 };

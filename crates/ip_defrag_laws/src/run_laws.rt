@@ -9,21 +9,21 @@ ghost use Rattle.ip_defragmenter.specs.declared.settings.Settings.{Settings};
 ghost use Rattle.ip_defrag_laws.specs.Arrived.{Arrived, AreArrived, arrived_parts, arrived_pieces};
 ghost use Rattle.ip_defrag_laws.specs.Ipv4.{IsIpv4Fragment, ipv4_key, ipv4_payload};
 ghost use Rattle.ip_defrag_laws.specs.Ipv6.{IsIpv6Fragment, ipv6_key};
-ghost use Rattle.ip_defrag_laws.specs.Run.{AreCalls, Call, IsCleared, IsRun, State, pieces_in};
+ghost use Rattle.ip_defrag_laws.specs.Run.{AreCalls, Call, IsFresh, IsCallRun, TableState, pieces_in};
 ghost use Rattle.ip_defrag_laws.specs.Written.{HasPacket, IsMadeWhole};
 
 /// Proves that the fragments of a packet that was sent, in any order and repeated, among any packets that aren't fragments of
 /// it, make it whole with the call that adds the last missing one, unless a call reported that the packet was given up: the
 /// packet's payload is split into pieces, each fragment has one of them, and each piece arrived.
 pub fn fragments_make_the_packet_that_was_sent()
-    ensures ipv4 { (s : List ℕ) (pieces : List Fragment) (settings : Settings) (context : ℕ) (start end : State) (last : Call)
-        (calls : List Call) → IsSentIpv4 s → IsSplit (ipv4_payload s) pieces → IsCleared settings start
-        → IsRun settings start (last ∷ calls) end → AreCalls (IsIpv4Fragment s) pieces context (ipv4_key s) (last ∷ calls)
+    ensures ipv4 { (s : List ℕ) (pieces : List Fragment) (settings : Settings) (context : ℕ) (start end : TableState) (last : Call)
+        (calls : List Call) → IsSentIpv4 s → IsSplit (ipv4_payload s) pieces → IsFresh settings start
+        → IsCallRun settings start (last ∷ calls) end → AreCalls (IsIpv4Fragment s) pieces context (ipv4_key s) (last ∷ calls)
         → are_among pieces (pieces_in calls) ≡ false → are_among pieces (pieces_in (last ∷ calls)) ≡ true
         → IsMadeWhole s last end }
-    ensures ipv6 { (s : List ℕ) (n link id : ℕ) (pieces : List Fragment) (settings : Settings) (context : ℕ) (start end : State)
-        (last : Call) (calls : List Call) → IsSentIpv6 s n link → n ≤ 4096 → IsSplit (drop n s) pieces → IsCleared settings start
-        → IsRun settings start (last ∷ calls) end → AreCalls (IsIpv6Fragment s n link id) pieces context (ipv6_key s id) (last ∷ calls)
+    ensures ipv6 { (s : List ℕ) (n link id : ℕ) (pieces : List Fragment) (settings : Settings) (context : ℕ) (start end : TableState)
+        (last : Call) (calls : List Call) → IsSentIpv6 s n link → n ≤ 4096 → IsSplit (drop n s) pieces → IsFresh settings start
+        → IsCallRun settings start (last ∷ calls) end → AreCalls (IsIpv6Fragment s n link id) pieces context (ipv6_key s id) (last ∷ calls)
         → are_among pieces (pieces_in calls) ≡ false → are_among pieces (pieces_in (last ∷ calls)) ≡ true
         → IsMadeWhole s last end }
 {}

@@ -9,3 +9,4 @@ pub mod Ipv4FragmentLemmas
 pub mod Ipv6FragmentLemmas
 pub mod ArrivedLemmas
 pub mod CompleteLemmas
+pub mod RoomLemmas

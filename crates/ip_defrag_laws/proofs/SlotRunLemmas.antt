@@ -58,15 +58,15 @@ pub record Keeps (seed : List ℕ) (context : ℕ) (k : FragmentKey) (given : Li
   pub is_in : IsIn context k given t.slots.now memories
 
 -- The other slots, and the one that was used.
-apart : (b : Bool) (xs : List Slot) (i j : ℕ) (s : Slot) → j ≢ i → slot_at (freed b i (slice_set xs i s)) j ≡ slot_at xs j
+pub apart : (b : Bool) (xs : List Slot) (i j : ℕ) (s : Slot) → j ≢ i → slot_at (freed b i (slice_set xs i s)) j ≡ slot_at xs j
 apart true xs i j s other = there (slice_set xs i s) i j free_slot other ∙ there xs i j s other
 apart false xs i j s other = there xs i j s other
 
-as_long : (b : Bool) (xs : List Slot) (i : ℕ) (s : Slot) → length (freed b i (slice_set xs i s)) ≡ length xs
+pub as_long : (b : Bool) (xs : List Slot) (i : ℕ) (s : Slot) → length (freed b i (slice_set xs i s)) ≡ length xs
 as_long true xs i s = length-set (slice_set xs i s) i free_slot ∙ length-set xs i s
 as_long false xs i s = length-set xs i s
 
-not_freed : (b : Bool) (xs : List Slot) (i : ℕ) (s : Slot) → b ≡ false → i < length xs → slot_at (freed b i (slice_set xs i s)) i ≡ s
+pub not_freed : (b : Bool) (xs : List Slot) (i : ℕ) (s : Slot) → b ≡ false → i < length xs → slot_at (freed b i (slice_set xs i s)) i ≡ s
 not_freed true xs i s is within = absurd (false≢true (sym is))
 not_freed false xs i s is within = here xs i s within
 

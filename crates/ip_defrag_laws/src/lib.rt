@@ -10,5 +10,6 @@ pub use fragment_laws::{
 };
 pub use run_laws::{
     fragments_in_one_memory_are_the_packet, fragments_make_the_packet_that_was_sent,
+    packets_are_kept_where_there_is_room,
 };
 pub use written::write_whole;

@@ -1,5 +1,5 @@
 //! Laws of runs, proved as the contract of a call.
-ghost use Rattle.std.specs.Prelude.{◌≡◌, ◌≤◌, ◌∷◌, ℕ, List, drop, true, false};
+ghost use Rattle.std.specs.Prelude.{◌≡◌, ◌≤◌, ◌∷◌, ℕ, List, length, drop, true, false};
 ghost use Rattle.ip_defrag.specs.Fragment.{Fragment};
 ghost use Rattle.ip_defrag.specs.Split.{IsSplit, are_among};
 ghost use Rattle.ip_defragmenter.specs.Sent.{IsSentIpv4, IsSentIpv6};
@@ -9,6 +9,7 @@ ghost use Rattle.ip_defragmenter.specs.declared.settings.Settings.{Settings};
 ghost use Rattle.ip_defrag_laws.specs.Arrived.{Arrived, AreArrived, arrived_parts, arrived_pieces};
 ghost use Rattle.ip_defrag_laws.specs.Ipv4.{IsIpv4Fragment, ipv4_key, ipv4_payload};
 ghost use Rattle.ip_defrag_laws.specs.Ipv6.{IsIpv6Fragment, ipv6_key};
+ghost use Rattle.ip_defrag_laws.specs.Room.{AreNamed, AreTimely, NothingLost, PacketName};
 ghost use Rattle.ip_defrag_laws.specs.Run.{AreCalls, Call, IsFresh, IsCallRun, TableState, pieces_in};
 ghost use Rattle.ip_defrag_laws.specs.Written.{HasPacket, IsMadeWhole};
 
@@ -37,4 +38,12 @@ pub fn fragments_in_one_memory_are_the_packet()
     ensures ipv6 { (s : List ℕ) (n link id : ℕ) (pieces : List Fragment) (arrived : List Arrived) (m : PacketMemory)
         → IsSentIpv6 s n link → n ≤ 4096 → IsSplit (drop n s) pieces → AreArrived (IsIpv6Fragment s n link id) pieces arrived
         → are_among pieces (arrived_pieces arrived) ≡ true → WasStored m 65535 (arrived_parts arrived) → HasPacket m s }
+{}
+
+/// Proves that no packet is given up in a run that begins with a cleared table, if no more packets are sent in fragments than
+/// there are slots, and no two of their fragments arrive further apart than the timeout.
+pub fn packets_are_kept_where_there_is_room()
+    ensures { (names : List PacketName) (settings : Settings) (start end : TableState) (calls : List Call) → IsFresh settings start
+        → length names ≤ length start.slots.slots.now → IsCallRun settings start calls end → AreNamed names calls
+        → AreTimely settings.timeout calls → NothingLost calls }
 {}

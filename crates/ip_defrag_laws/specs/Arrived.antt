@@ -17,9 +17,10 @@ AreArrived Q pieces [] = Unit {0}
 AreArrived Q pieces (x ∷ xs) =
     (list_any (is_same x.piece) pieces ≡ true) × Q x.piece x.bytes × (packet_fragment (dissected x.bytes) ≡ Ok (Some x.parts)) × AreArrived Q pieces xs
 
--- the pieces that arrived, and the fragments
+-- the pieces that arrived
 abbrev pub arrived_pieces : List Arrived → List Fragment
 arrived_pieces xs = map (λ (x : Arrived). x.piece) xs
 
+-- the fragments that were read
 abbrev pub arrived_parts : List Arrived → List FragmentParts
 arrived_parts xs = map (λ (x : Arrived). x.parts) xs

@@ -3,7 +3,7 @@ use Rattle.std.specs.Prelude.{OnOk}
 use Rattle.std.specs.Result.{result_err}
 use Rattle.std.proofs.lemmas.Option.{none-some}
 use Rattle.ip_defragmenter.specs.declared.err.WholeError.{WholeError}
-use Rattle.ip_defrag_laws.proofs.written.write_whole.Goals as goal
+use Rattle.ip_defrag_laws.proofs.calls.write_whole.Goals as goal
 
 of_ok : (r : Result (Option ℕ) WholeError) (P : Type 0) → result_err r ≡ None → OnOk r P → P
 of_ok (Ok x) P none is = is

@@ -1,0 +1,33 @@
+//! The calls of which the laws speak.
+ghost use Rattle.std.specs.Prelude.{◌≡◌, ◌≤◌, ◌++◌, ℕ, List, Option, length, drop, Ok, Some};
+ghost use Rattle.ip_defrag.specs.Fragment.{Fragment};
+ghost use Rattle.ip_defrag_laws.specs.Run.{IsCall};
+ghost use Rattle.ip_defrag_laws.specs.Written.{HasPacket};
+
+use ip_defragmenter::{Added, PacketMemory, Settings, SlotTable, WholeError, defragment};
+
+/// Adds a packet as `defragment` does: one call of a run, whichever piece of a payload the packet has.
+pub fn defragment_in_run(
+    slots: &mut SlotTable<'_>,
+    memories: &mut [PacketMemory],
+    settings: &Settings,
+    context: u32,
+    time: u64,
+    bytes: &[u8],
+) -> Added
+    requires { length slots.old.slots.now ≡ length memories.old }
+    ensures { (piece : Option Fragment) → IsCall settings.now
+        (record { slots = slots.old; memories = memories.old }) (record { slots = slots.new; memories = memories.new })
+        (record { context = context; time = time; bytes = bytes.now; piece = piece; added = result }) }
+{
+    defragment(slots, memories, settings, context, time, bytes)
+}
+
+/// Writes the whole packet of a memory to the start of `out`, as `PacketMemory::write` does. If the memory has the packet that
+/// was sent, by the laws of this crate, and there is room for it, writes that packet.
+pub fn write_whole(memory: &PacketMemory, out: &mut [u8]) -> Result<Option<usize>, WholeError>
+    ensures sent { (s : List ℕ) → HasPacket memory.now s → length s ≤ length out.old
+        → (result ≡ Ok (Some (length s))) × (out.new ≡ s ++ drop (length s) out.old) }
+{
+    memory.write(out)
+}

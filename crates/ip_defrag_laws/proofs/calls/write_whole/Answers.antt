@@ -9,13 +9,11 @@ of_ok : (r : Result (Option ℕ) WholeError) (P : Type 0) → result_err r ≡ N
 of_ok (Ok x) P none is = is
 of_ok (Err e) P none is = absurd (none-some _ (sym none))
 
-pub returns : goal.returns
-returns c = record {
-  sent = λ s has enough.
-      let out : List ℕ = c.args.out.now in
-      let both = of_ok c.write.result _ (c.write.ensures.fault has.stored has.first has.payload has.holds has.payload_is has.first_is ∙ has.writable (length out) enough)
-      (c.write.ensures.written has.stored has.first has.payload has.holds has.payload_is has.first_is) in (
-        both.0 ∙ ap (λ (n : ℕ). (let r : Result (Option ℕ) WholeError = Ok (Some n) in r)) has.len,
-        both.1 ∙ (ap (λ (x : List ℕ). x ++ drop (length has.first.headers + length has.payload) out) has.packet ∙ ap (λ (n : ℕ). s ++ drop n out) has.len),
-      );
-}
+pub returns-clause-sent : goal.returns-clause-sent
+returns-clause-sent c = λ s has enough.
+    let out : List ℕ = c.args.out.now in
+    let both = of_ok c.write.result _ (c.write.ensures.fault has.stored has.first has.payload has.holds has.payload_is has.first_is ∙ has.writable (length out) enough)
+    (c.write.ensures.written has.stored has.first has.payload has.holds has.payload_is has.first_is) in (
+      both.0 ∙ ap (λ (n : ℕ). (let r : Result (Option ℕ) WholeError = Ok (Some n) in r)) has.len,
+      both.1 ∙ (ap (λ (x : List ℕ). x ++ drop (length has.first.headers + length has.payload) out) has.packet ∙ ap (λ (n : ℕ). s ++ drop n out) has.len),
+    )

@@ -10,3 +10,4 @@ pub mod Ipv6FragmentLemmas
 pub mod ArrivedLemmas
 pub mod CompleteLemmas
 pub mod RoomLemmas
+pub mod PendingLemmas

@@ -74,7 +74,7 @@ pigeons R (suc n) (suc m) each one =
     omega (arith, rest)
 
 -- A key is found equal to itself.
-same_self : (k : FragmentKey) → same_key k k ≡ true
+pub same_self : (k : FragmentKey) → same_key k k ≡ true
 same_self (Ipv4 a b c d) =
     and_from (eqb d d && eqb c.0 c.0 && bytes_eq a a) (bytes_eq b b)
     (and_from (eqb d d && eqb c.0 c.0) (bytes_eq a a) (and_from (eqb d d) (eqb c.0 c.0) (eq-eqb d d refl) (eq-eqb c.0 c.0 refl)) ((bytes_eq-Decides a a).1 refl)) ((bytes_eq-Decides b b).1 refl)

@@ -26,6 +26,7 @@ use Rattle.ip_defragmenter.specs.declared.settings.Settings.{Settings}
 use Rattle.ip_defragmenter.specs.declared.slot.Slot.{Slot}
 use Rattle.ip_defragmenter.specs.declared.slots.Placement.{Placement}
 use Rattle.ip_defragmenter.specs.declared.slots.SlotTable.{SlotTable}
+use Rattle.ip_defrag_laws.specs.Pending.{HasFragments}
 use Rattle.ip_defragmenter.proofs.KeyLemmas.{own_key, own_context, only_key}
 use Rattle.ip_defragmenter.proofs.SlotLemmas.{HasPacket, has_packet, has_used, has_within, here, there, found_in, found_slot, in_use, own_place_of, place_of_new, used_one, unchanged}
 use Rattle.ip_defragmenter.proofs.SoundLemmas.{sound_added, sound_given_up}
@@ -33,19 +34,6 @@ use Rattle.ip_defragmenter.proofs.SoundLemmas.{sound_added, sound_given_up}
 -- The loss of this packet isn't this one.
 abbrev pub IsNotLost : ℕ → FragmentKey → Option Loss → Type 0
 IsNotLost context k o = (l : Loss) → o ≡ Some l → l.context ≡ context → l.key ≡ k → ⊥
-
--- A slot has the packet, and its memory all of these fragments.
-pub record HasAll (context : ℕ) (k : FragmentKey) (given : List FragmentParts) (slots : List Slot) (memories : List PacketMemory) : Type 0 where
-  pub index : ℕ
-  pub has : has_key context k (slot_at slots index) ≡ true
-  pub memory : PacketMemory
-  pub at : slice_get memories index ≡ Some memory
-  pub stored : WasStored memory 65535 given
-
--- by whether there are any
-abbrev pub IsIn : ℕ → FragmentKey → List FragmentParts → List Slot → List PacketMemory → Type 0
-IsIn context k [] slots memories = (i : ℕ) → has_key context k (slot_at slots i) ≡ false
-IsIn context k (f ∷ fs) slots memories = HasAll context k (f ∷ fs) slots memories
 
 -- A table is valid, and has all fragments of the packet.
 pub record Keeps (seed : List ℕ) (context : ℕ) (k : FragmentKey) (given : List FragmentParts) (t : SlotTable) (memories : List PacketMemory) : Type 0 where
@@ -55,7 +43,7 @@ pub record Keeps (seed : List ℕ) (context : ℕ) (k : FragmentKey) (given : Li
   pub arrived : List Arrival
   pub sound : IsSound t memories arrived
   pub some : 0 < length t.slots.now
-  pub is_in : IsIn context k given t.slots.now memories
+  pub is_in : HasFragments context k given t.slots.now memories
 
 -- The other slots, and the one that was used.
 pub apart : (b : Bool) (xs : List Slot) (i j : ℕ) (s : Slot) → j ≢ i → slot_at (freed b i (slice_set xs i s)) j ≡ slot_at xs j
@@ -186,7 +174,7 @@ placed_apart (Some j) timeout t seed free used time p context d k h i found hold
     other both.0 both.1
 
 -- Nothing was added.
-same_in : (given : List FragmentParts) (context : ℕ) (k : FragmentKey) (xs ys : List Slot) (memories : List PacketMemory) → ys ≡ xs → IsIn context k given xs memories → IsIn context k given ys memories
+same_in : (given : List FragmentParts) (context : ℕ) (k : FragmentKey) (xs ys : List Slot) (memories : List PacketMemory) → ys ≡ xs → HasFragments context k given xs memories → HasFragments context k given ys memories
 same_in [] context k xs ys memories same is = λ i. ap (λ (s : List Slot). has_key context k (slot_at s i)) same ∙ is i
 same_in (f ∷ fs) context k xs ys memories same is = record {
   index = is.index;
@@ -216,7 +204,7 @@ keeps_unchanged seed context k given t u memories others same kept keeps =
 -- A fragment of another packet was added.
 other_in : (given : List FragmentParts) (context d : ℕ) (k : FragmentKey) (t u : SlotTable) (memories others : List PacketMemory) (seed free used : List ℕ) (timeout time : ℕ) (f : FragmentParts) (p : Placement) (a : Added) (r : Result Progress StoreError)
     → IsKey k → IsKey f.key → (d ≡ context → f.key ≡ k → ⊥) → HoldsPackets t seed free used → place_of timeout t.slots.now free used d f.key time ≡ Some p → p.index < length t.slots.now
-    → IsNotLost context k p.lost → IsAddedAt t memories seed d f p u others a r → IsIn context k given t.slots.now memories → IsIn context k given u.slots.now others
+    → IsNotLost context k p.lost → IsAddedAt t memories seed d f p u others a r → HasFragments context k given t.slots.now memories → HasFragments context k given u.slots.now others
 other_in [] context d k t u memories others seed free used timeout time f p a r is_k is_f other holds placed within kept added is = λ i.
     let s : Slot = slot_with p.since d f.key in
     ap (λ (xs : List Slot). has_key context k (slot_at xs i)) added.slots ∙ elim (cases_eq i p.index) [

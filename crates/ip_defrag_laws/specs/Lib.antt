@@ -1,4 +1,5 @@
 pub mod Run
+pub mod Pending
 pub mod Room
 pub mod Written
 pub mod Arrived

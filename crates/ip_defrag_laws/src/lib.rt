@@ -11,5 +11,5 @@ pub use fragment_laws::{
 };
 pub use run_laws::{
     fragments_in_one_memory_are_the_packet, fragments_make_the_packet_that_was_sent,
-    packets_are_kept_where_there_is_room,
+    memories_have_all_fragments_of_their_packets, packets_are_kept_where_there_is_room,
 };

@@ -3,12 +3,15 @@ ghost use Rattle.std.specs.Prelude.{◌≡◌, ◌≤◌, ◌∷◌, ℕ, List, 
 ghost use Rattle.ip_defrag.specs.Fragment.{Fragment};
 ghost use Rattle.ip_defrag.specs.Split.{IsSplit, are_among};
 ghost use Rattle.ip_defragmenter.specs.Sent.{IsSentIpv4, IsSentIpv6};
+ghost use Rattle.ip_defragmenter.specs.Key.{IsKey};
 ghost use Rattle.ip_defragmenter.specs.Memory.{WasStored};
+ghost use Rattle.ip_defragmenter.specs.declared.key.FragmentKey.{FragmentKey};
 ghost use Rattle.ip_defragmenter.specs.declared.memory.PacketMemory.{PacketMemory};
 ghost use Rattle.ip_defragmenter.specs.declared.settings.Settings.{Settings};
 ghost use Rattle.ip_defrag_laws.specs.Arrived.{Arrived, AreArrived, arrived_parts, arrived_pieces};
 ghost use Rattle.ip_defrag_laws.specs.Ipv4.{IsIpv4Fragment, ipv4_key, ipv4_payload};
 ghost use Rattle.ip_defrag_laws.specs.Ipv6.{IsIpv6Fragment, ipv6_key};
+ghost use Rattle.ip_defrag_laws.specs.Pending.{HasFragments, IsPending, fragments_in};
 ghost use Rattle.ip_defrag_laws.specs.Room.{AreNamed, AreTimely, NothingLost, PacketName};
 ghost use Rattle.ip_defrag_laws.specs.Run.{AreCalls, Call, IsFresh, IsCallRun, TableState, pieces_in};
 ghost use Rattle.ip_defrag_laws.specs.Written.{HasPacket, IsMadeWhole};
@@ -46,4 +49,12 @@ pub fn packets_are_kept_where_there_is_room()
     ensures { (names : List PacketName) (settings : Settings) (start end : TableState) (calls : List Call) → IsFresh settings start
         → length names ≤ length start.slots.slots.now → IsCallRun settings start calls end → AreNamed names calls
         → AreTimely settings.timeout calls → NothingLost calls }
+{}
+
+/// Proves that no fragment is lost: in a run that begins with a cleared table, as long as no call makes a packet whole or reports
+/// that it was given up, a slot has the packet, and its memory all of the packet's fragments and no others.
+pub fn memories_have_all_fragments_of_their_packets()
+    ensures { (settings : Settings) (context : ℕ) (k : FragmentKey) (start end : TableState) (calls : List Call) → IsKey k
+        → IsFresh settings start → IsCallRun settings start calls end → IsPending context k calls
+        → HasFragments context k (fragments_in context k calls) end.slots.slots.now end.memories }
 {}

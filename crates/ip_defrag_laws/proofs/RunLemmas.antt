@@ -2,6 +2,7 @@
 use Rattle.std.proofs.Common.{◌≡◌, ℕ, ◌≤◌, List, [], ◌∷◌, Bool, true, false, length, refl, sym, ap, ◌∙◌, subst, Option, Some, None, Result, Ok, Err, cond}
 use Rattle.std.specs.List.{list_any}
 use Rattle.std.proofs.lemmas.Bool.{and_from, and_parts, false≢true, false_from_ne_true, or_right}
+use Rattle.std.proofs.lemmas.Option.{none-some}
 use Rattle.ip_dissect.specs.Dissection.{dissected}
 use Rattle.ip_defrag.specs.Fragment.{Fragment, is_same}
 use Rattle.ip_defrag.specs.Split.{IsSplit, are_among}
@@ -11,6 +12,7 @@ use Rattle.ip_defragmenter.specs.FragmentOf.{FragmentParts, packet_fragment}
 use Rattle.ip_defragmenter.specs.Key.{IsKey}
 use Rattle.ip_defragmenter.specs.declared.err.FragmentError.{FragmentError}
 use Rattle.ip_defragmenter.specs.declared.key.FragmentKey.{FragmentKey}
+use Rattle.ip_defragmenter.specs.declared.outcome.Outcome.TheVariants.{MoreWanted}
 use Rattle.ip_defragmenter.specs.declared.settings.Settings.{Settings}
 use Rattle.ip_defragmenter.proofs.SoundLemmas.{sound_begun}
 use Rattle.ip_defrag_laws.specs.Run.{TableState, Call, IsCall, IsCallRun, IsFresh, IsKept, IsOther, IsCallBy, AreCalls, pieces_in, with_piece}
@@ -139,3 +141,25 @@ module _ (settings : Settings) (context : ℕ) (k : FragmentKey) (is_k : IsKey k
   made_whole start x xs t cleared run calls fails every =
       let u : TableState = run.0 in
       whole_by x.piece (pieces_in xs) u t x calls.0 calls.1 run.2 (after_run start xs u cleared run.1 calls.2 fails) fails every
+
+  wanted_by : (p : Fragment) (ps : List Fragment) (t u : TableState) (x : Call) → IsCallBy (IsReadAs k point payload s) pieces context k (Some p) x → IsKept context k x → IsCall settings t u x
+      → IsAfter settings.seed context k point payload s pieces ps t → are_among pieces (p ∷ ps) ≡ false → x.added.outcome ≡ MoreWanted
+  wanted_by p ps t u x by kept call after fails =
+      let r = by.2 in
+      let all : are_among (p ∷ ps) pieces ≡ true = and_from (list_any (is_same p) pieces) (are_among ps pieces) by.1 after.among in
+      let own = own_call settings context k point payload s p after.given t u x is_k r by.0 call kept after.keeps in
+      let result = own_result settings context k point payload s pieces p ps after.given t u x r own split fits all after.parts in
+      own.outcome ∙ (ap (outcome_in own.index) result ∙ ap (λ (b : Bool). outcome_in own.index (Ok (cond b progress.Whole progress.MoreWanted))) fails)
+
+  wanted_of : (o : Option Fragment) (p : Fragment) (ps : List Fragment) (t u : TableState) (x : Call) → o ≡ Some p → IsCallBy (IsReadAs k point payload s) pieces context k o x → IsKept context k x → IsCall settings t u x
+      → IsAfter settings.seed context k point payload s pieces ps t → are_among pieces (with_piece o ps) ≡ false → x.added.outcome ≡ MoreWanted
+  wanted_of None p ps t u x has by kept call after fails = absurd (none-some _ has)
+  wanted_of (Some q) p ps t u x has by kept call after fails = wanted_by q ps t u x by kept call after fails
+
+  -- Before that, a fragment's outcome is that more are wanted.
+  pub still_wanted : (start : TableState) (x : Call) (xs : List Call) (t : TableState) (p : Fragment) → IsFresh settings start → IsCallRun settings start (x ∷ xs) t → AreCalls (IsReadAs k point payload s) pieces context k (x ∷ xs)
+      → x.piece ≡ Some p → are_among pieces (pieces_in (x ∷ xs)) ≡ false → x.added.outcome ≡ MoreWanted
+  still_wanted start x xs t p fresh run calls has fails =
+      let u : TableState = run.0 in
+      wanted_of x.piece p (pieces_in xs) u t x has calls.0 calls.1 run.2
+      (after_run start xs u fresh run.1 calls.2 (fewer_among pieces x.piece (pieces_in xs) fails)) fails

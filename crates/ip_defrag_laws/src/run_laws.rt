@@ -1,5 +1,5 @@
 //! Laws of runs, proved as the contract of a call.
-ghost use Rattle.std.specs.Prelude.{◌≡◌, ◌≤◌, ◌∷◌, ℕ, List, length, drop, true, false};
+ghost use Rattle.std.specs.Prelude.{◌≡◌, ◌≤◌, ◌∷◌, ℕ, List, length, drop, Some, true, false};
 ghost use Rattle.ip_defrag.specs.Fragment.{Fragment};
 ghost use Rattle.ip_defrag.specs.Split.{IsSplit, are_among};
 ghost use Rattle.ip_defragmenter.specs.Sent.{IsSentIpv4, IsSentIpv6};
@@ -7,6 +7,7 @@ ghost use Rattle.ip_defragmenter.specs.Key.{IsKey};
 ghost use Rattle.ip_defragmenter.specs.Memory.{WasStored};
 ghost use Rattle.ip_defragmenter.specs.declared.key.FragmentKey.{FragmentKey};
 ghost use Rattle.ip_defragmenter.specs.declared.memory.PacketMemory.{PacketMemory};
+ghost use Rattle.ip_defragmenter.specs.declared.outcome.Outcome.TheVariants.{MoreWanted};
 ghost use Rattle.ip_defragmenter.specs.declared.settings.Settings.{Settings};
 ghost use Rattle.ip_defrag_laws.specs.Arrived.{Arrived, AreArrived, arrived_parts, arrived_pieces};
 ghost use Rattle.ip_defrag_laws.specs.Ipv4.{IsIpv4Fragment, ipv4_key, ipv4_payload};
@@ -17,19 +18,29 @@ ghost use Rattle.ip_defrag_laws.specs.Run.{AreCalls, Call, IsFresh, IsCallRun, T
 ghost use Rattle.ip_defrag_laws.specs.Written.{HasPacket, IsMadeWhole};
 
 /// Proves that the fragments of a packet that was sent, in any order and repeated, among any packets that aren't fragments of
-/// it, make it whole with the call that adds the last missing one, unless a call reported that the packet was given up: the
-/// packet's payload is split into pieces, each fragment has one of them, and each piece arrived.
+/// it, make it whole with the call that adds the last missing one, and no earlier, unless a call reported that the packet was
+/// given up: the packet's payload is split into pieces, each fragment has one of them, and each piece arrived.
 pub fn fragments_make_the_packet_that_was_sent()
     ensures ipv4 { (s : List ℕ) (pieces : List Fragment) (settings : Settings) (context : ℕ) (start end : TableState) (last : Call)
         (calls : List Call) → IsSentIpv4 s → IsSplit (ipv4_payload s) pieces → IsFresh settings start
         → IsCallRun settings start (last ∷ calls) end → AreCalls (IsIpv4Fragment s) pieces context (ipv4_key s) (last ∷ calls)
         → are_among pieces (pieces_in calls) ≡ false → are_among pieces (pieces_in (last ∷ calls)) ≡ true
         → IsMadeWhole s last end }
+    ensures ipv4_wanted { (s : List ℕ) (pieces : List Fragment) (p : Fragment) (settings : Settings) (context : ℕ)
+        (start end : TableState) (last : Call) (calls : List Call) → IsSentIpv4 s → IsSplit (ipv4_payload s) pieces
+        → IsFresh settings start → IsCallRun settings start (last ∷ calls) end
+        → AreCalls (IsIpv4Fragment s) pieces context (ipv4_key s) (last ∷ calls) → last.piece ≡ Some p
+        → are_among pieces (pieces_in (last ∷ calls)) ≡ false → last.added.outcome ≡ MoreWanted }
     ensures ipv6 { (s : List ℕ) (n link id : ℕ) (pieces : List Fragment) (settings : Settings) (context : ℕ) (start end : TableState)
         (last : Call) (calls : List Call) → IsSentIpv6 s n link → n ≤ 4096 → IsSplit (drop n s) pieces → IsFresh settings start
         → IsCallRun settings start (last ∷ calls) end → AreCalls (IsIpv6Fragment s n link id) pieces context (ipv6_key s id) (last ∷ calls)
         → are_among pieces (pieces_in calls) ≡ false → are_among pieces (pieces_in (last ∷ calls)) ≡ true
         → IsMadeWhole s last end }
+    ensures ipv6_wanted { (s : List ℕ) (n link id : ℕ) (pieces : List Fragment) (p : Fragment) (settings : Settings) (context : ℕ)
+        (start end : TableState) (last : Call) (calls : List Call) → IsSentIpv6 s n link → n ≤ 4096 → IsSplit (drop n s) pieces
+        → IsFresh settings start → IsCallRun settings start (last ∷ calls) end
+        → AreCalls (IsIpv6Fragment s n link id) pieces context (ipv6_key s id) (last ∷ calls) → last.piece ≡ Some p
+        → are_among pieces (pieces_in (last ∷ calls)) ≡ false → last.added.outcome ≡ MoreWanted }
 {}
 
 /// Proves that the fragments of a packet that was sent, in any order and repeated, make it whole in one memory: the memory was

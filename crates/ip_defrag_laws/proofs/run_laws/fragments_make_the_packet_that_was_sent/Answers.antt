@@ -8,7 +8,7 @@ use Rattle.ip_defrag_laws.specs.Ipv6.{IsIpv6Fragment, ipv6_key}
 use Rattle.ip_defrag_laws.specs.Run.{AreCalls, Call, IsCallBy}
 use Rattle.ip_defrag_laws.proofs.Ipv4Lemmas.{is_key4, payload4, read_ipv4, short4}
 use Rattle.ip_defrag_laws.proofs.Ipv6Lemmas.{is_key6, read_ipv6, short6}
-use Rattle.ip_defrag_laws.proofs.RunLemmas.{IsReadAs, made_whole}
+use Rattle.ip_defrag_laws.proofs.RunLemmas.{IsReadAs, made_whole, still_wanted}
 use Rattle.ip_defrag_laws.proofs.run_laws.fragments_make_the_packet_that_was_sent.Goals as goal
 
 by_piece4 : (s : List ℕ) (pieces : List Fragment) (context : ℕ) (o : Option Fragment) (x : Call) → IsSentIpv4 s → IsSplit (ipv4_payload s) pieces → IsCallBy (IsIpv4Fragment s) pieces context (ipv4_key s) o x
@@ -41,4 +41,11 @@ returns c = record {
       made_whole settings context (ipv6_key s id) (is_key6 s n link id sent) (ipv6_traffic_class s % 4) (drop n s) s pieces split
       (let e = length-drop n s in omega (arith, e, short6 s n link sent, sent.base, sent.within))
       start last calls end cleared run (calls6 s n link id pieces context (last ∷ calls) sent few split are) before all;
+  ipv4_wanted = λ s pieces p settings context start end last calls sent split fresh run are has before.
+      still_wanted settings context (ipv4_key s) (is_key4 s sent) (ipv4_ecn s) (ipv4_payload s) s pieces split (let e = payload4 s sent in omega (arith, e, short4 s sent))
+      start last calls end p fresh run (calls4 s pieces context (last ∷ calls) sent split are) has before;
+  ipv6_wanted = λ s n link id pieces p settings context start end last calls sent few split fresh run are has before.
+      still_wanted settings context (ipv6_key s id) (is_key6 s n link id sent) (ipv6_traffic_class s % 4) (drop n s) s pieces split
+      (let e = length-drop n s in omega (arith, e, short6 s n link sent, sent.base, sent.within))
+      start last calls end p fresh run (calls6 s n link id pieces context (last ∷ calls) sent few split are) has before;
 }

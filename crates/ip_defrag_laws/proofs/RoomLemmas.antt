@@ -31,7 +31,7 @@ use Rattle.ip_defragmenter.specs.declared.slots.SlotTable.{SlotTable}
 use Rattle.ip_defragmenter.proofs.KeyLemmas.{own_key}
 use Rattle.ip_defragmenter.proofs.SlotLemmas.{found_in, has_packet, none_in, own_place_of, place_of_new, unchanged, used_cases}
 use Rattle.ip_defrag_laws.specs.Room.{PacketName, IsNamed, AreNamed, IsTime, AreTimely, NothingLost}
-use Rattle.ip_defrag_laws.specs.Run.{Call, IsCall, IsCallRun, IsFresh, TableState}
+use Rattle.ip_defrag_laws.specs.Run.{AreKept, Call, IsCall, IsCallRun, IsFresh, TableState}
 use Rattle.ip_defrag_laws.proofs.ReadKeyLemmas.{read_key}
 use Rattle.ip_defrag_laws.proofs.SlotRunLemmas.{apart, as_long, not_freed}
 
@@ -315,3 +315,8 @@ room_run names settings start (x ∷ xs) t fresh few run named timely =
 pub nothing_lost : (names : List PacketName) (settings : Settings) (start : TableState) (xs : List Call) (t : TableState) → IsFresh settings start → length names ≤ length start.slots.slots.now → IsCallRun settings start xs t
     → AreNamed names xs → AreTimely settings.timeout xs → NothingLost xs
 nothing_lost names settings start xs t fresh few run named timely = (room_run names settings start xs t fresh few run named timely).0
+
+-- Then each packet is kept.
+pub all_kept : (context : ℕ) (k : FragmentKey) (xs : List Call) → NothingLost xs → AreKept context k xs
+all_kept context k [] nothing = tt
+all_kept context k (x ∷ xs) nothing = ((λ l is at key. none-some l (sym nothing.0 ∙ is)), all_kept context k xs nothing.1)

@@ -15,7 +15,7 @@ use Rattle.ip_defragmenter.specs.declared.key.FragmentKey.{FragmentKey}
 use Rattle.ip_defragmenter.specs.declared.outcome.Outcome.TheVariants.{MoreWanted}
 use Rattle.ip_defragmenter.specs.declared.settings.Settings.{Settings}
 use Rattle.ip_defragmenter.proofs.SoundLemmas.{sound_begun}
-use Rattle.ip_defrag_laws.specs.Run.{TableState, Call, IsCall, IsCallRun, IsFresh, IsKept, IsOther, IsCallBy, AreCalls, pieces_in, with_piece}
+use Rattle.ip_defrag_laws.specs.Run.{TableState, Call, IsCall, IsCallRun, IsFresh, IsKept, AreKept, IsOther, IsCallBy, AreCalls, pieces_in, with_piece}
 use Rattle.ip_defrag_laws.specs.Written.{IsMadeWhole}
 use Rattle.ip_defrag_laws.proofs.PartLemmas.{IsPart, AreParts, part_outcome, part_packet}
 use Rattle.ip_defrag_laws.proofs.SlotRunLemmas.{IsNotLost, Keeps, IsAddedOwn, keeps_none, keeps_other, keeps_own, keeps_unchanged}
@@ -103,9 +103,9 @@ module _ (settings : Settings) (context : ℕ) (k : FragmentKey) (is_k : IsKey k
       }
 
   -- After any calls.
-  after_run : (start : TableState) (xs : List Call) (t : TableState) → IsFresh settings start → IsCallRun settings start xs t → AreCalls (IsReadAs k point payload s) pieces context k xs
+  after_run : (start : TableState) (xs : List Call) (t : TableState) → IsFresh settings start → IsCallRun settings start xs t → AreCalls (IsReadAs k point payload s) pieces context k xs → AreKept context k xs
       → are_among pieces (pieces_in xs) ≡ false → IsAfter settings.seed context k point payload s pieces (pieces_in xs) t
-  after_run start [] t cleared run calls fails =
+  after_run start [] t cleared run calls kept fails =
       let P : TableState → Type 0 = λ u. IsAfter settings.seed context k point payload s pieces [] u in
       subst P run (record {
         given = [];
@@ -114,10 +114,10 @@ module _ (settings : Settings) (context : ℕ) (k : FragmentKey) (is_k : IsKey k
         keeps = keeps_none settings.seed context k start.slots start.memories cleared.free cleared.slots
             (sound_begun start.slots start.memories settings.seed cleared.free cleared.slots cleared.memories) cleared.some;
       })
-  after_run start (x ∷ xs) t cleared run calls fails =
+  after_run start (x ∷ xs) t cleared run calls kept fails =
       let u : TableState = run.0 in
-      after_call x.piece (pieces_in xs) u t x calls.0 calls.1 run.2
-      (after_run start xs u cleared run.1 calls.2 (fewer_among pieces x.piece (pieces_in xs) fails)) fails
+      after_call x.piece (pieces_in xs) u t x calls.0 kept.0 run.2
+      (after_run start xs u cleared run.1 calls.1 kept.1 (fewer_among pieces x.piece (pieces_in xs) fails)) fails
 
   whole_by : (o : Option Fragment) (ps : List Fragment) (t u : TableState) (x : Call) → IsCallBy (IsReadAs k point payload s) pieces context k o x → IsKept context k x → IsCall settings t u x
       → IsAfter settings.seed context k point payload s pieces ps t → are_among pieces ps ≡ false → are_among pieces (with_piece o ps) ≡ true → IsMadeWhole s x u
@@ -136,11 +136,11 @@ module _ (settings : Settings) (context : ℕ) (k : FragmentKey) (is_k : IsKey k
       }
 
   -- The packet is whole once each piece arrived.
-  pub made_whole : (start : TableState) (x : Call) (xs : List Call) (t : TableState) → IsFresh settings start → IsCallRun settings start (x ∷ xs) t → AreCalls (IsReadAs k point payload s) pieces context k (x ∷ xs)
+  pub made_whole : (start : TableState) (x : Call) (xs : List Call) (t : TableState) → IsFresh settings start → IsCallRun settings start (x ∷ xs) t → AreCalls (IsReadAs k point payload s) pieces context k (x ∷ xs) → AreKept context k (x ∷ xs)
       → are_among pieces (pieces_in xs) ≡ false → are_among pieces (pieces_in (x ∷ xs)) ≡ true → IsMadeWhole s x t
-  made_whole start x xs t cleared run calls fails every =
+  made_whole start x xs t cleared run calls kept fails every =
       let u : TableState = run.0 in
-      whole_by x.piece (pieces_in xs) u t x calls.0 calls.1 run.2 (after_run start xs u cleared run.1 calls.2 fails) fails every
+      whole_by x.piece (pieces_in xs) u t x calls.0 kept.0 run.2 (after_run start xs u cleared run.1 calls.1 kept.1 fails) fails every
 
   wanted_by : (p : Fragment) (ps : List Fragment) (t u : TableState) (x : Call) → IsCallBy (IsReadAs k point payload s) pieces context k (Some p) x → IsKept context k x → IsCall settings t u x
       → IsAfter settings.seed context k point payload s pieces ps t → are_among pieces (p ∷ ps) ≡ false → x.added.outcome ≡ MoreWanted
@@ -157,9 +157,9 @@ module _ (settings : Settings) (context : ℕ) (k : FragmentKey) (is_k : IsKey k
   wanted_of (Some q) p ps t u x has by kept call after fails = wanted_by q ps t u x by kept call after fails
 
   -- Before that, a fragment's outcome is that more are wanted.
-  pub still_wanted : (start : TableState) (x : Call) (xs : List Call) (t : TableState) (p : Fragment) → IsFresh settings start → IsCallRun settings start (x ∷ xs) t → AreCalls (IsReadAs k point payload s) pieces context k (x ∷ xs)
+  pub still_wanted : (start : TableState) (x : Call) (xs : List Call) (t : TableState) (p : Fragment) → IsFresh settings start → IsCallRun settings start (x ∷ xs) t → AreCalls (IsReadAs k point payload s) pieces context k (x ∷ xs) → AreKept context k (x ∷ xs)
       → x.piece ≡ Some p → are_among pieces (pieces_in (x ∷ xs)) ≡ false → x.added.outcome ≡ MoreWanted
-  still_wanted start x xs t p fresh run calls has fails =
+  still_wanted start x xs t p fresh run calls kept has fails =
       let u : TableState = run.0 in
-      wanted_of x.piece p (pieces_in xs) u t x has calls.0 calls.1 run.2
-      (after_run start xs u fresh run.1 calls.2 (fewer_among pieces x.piece (pieces_in xs) fails)) fails
+      wanted_of x.piece p (pieces_in xs) u t x has calls.0 kept.0 run.2
+      (after_run start xs u fresh run.1 calls.1 kept.1 (fewer_among pieces x.piece (pieces_in xs) fails)) fails

@@ -68,10 +68,15 @@ abbrev pub IsCallBy : (Fragment → List ℕ → Type 0) → List Fragment → �
 IsCallBy Q pieces context k None x = IsOther context k x
 IsCallBy Q pieces context k (Some p) x = (x.context ≡ context) × (list_any (is_same p) pieces ≡ true) × Q p x.bytes
 
--- Each call's packet is such a one, and no call reported the loss of the packet with this key in this context.
+-- Each call's packet is such a one.
 abbrev pub AreCalls : (Fragment → List ℕ → Type 0) → List Fragment → ℕ → FragmentKey → List Call → Type 0
 AreCalls Q pieces context k [] = Unit {0}
-AreCalls Q pieces context k (x ∷ xs) = IsCallBy Q pieces context k x.piece x × IsKept context k x × AreCalls Q pieces context k xs
+AreCalls Q pieces context k (x ∷ xs) = IsCallBy Q pieces context k x.piece x × AreCalls Q pieces context k xs
+
+-- No call reported that the packet was given up.
+abbrev pub AreKept : ℕ → FragmentKey → List Call → Type 0
+AreKept context k [] = Unit {0}
+AreKept context k (x ∷ xs) = IsKept context k x × AreKept context k xs
 
 -- one more piece, if there is one
 abbrev pub with_piece : Option Fragment → List Fragment → List Fragment

@@ -14,7 +14,7 @@ ghost use Rattle.ip_defrag_laws.specs.Ipv4.{IsIpv4Fragment, ipv4_key, ipv4_paylo
 ghost use Rattle.ip_defrag_laws.specs.Ipv6.{IsIpv6Fragment, ipv6_key};
 ghost use Rattle.ip_defrag_laws.specs.Pending.{HasFragments, IsPending, fragments_in};
 ghost use Rattle.ip_defrag_laws.specs.Room.{AreNamed, AreTimely, NothingLost, PacketName};
-ghost use Rattle.ip_defrag_laws.specs.Run.{AreCalls, Call, IsFresh, IsCallRun, TableState, pieces_in};
+ghost use Rattle.ip_defrag_laws.specs.Run.{AreCalls, AreKept, Call, IsFresh, IsCallRun, TableState, pieces_in};
 ghost use Rattle.ip_defrag_laws.specs.Written.{HasPacket, IsMadeWhole};
 
 /// Proves that the fragments of a packet that was sent, in any order and repeated, among any packets that aren't fragments of
@@ -24,22 +24,26 @@ pub fn fragments_make_the_packet_that_was_sent()
     ensures ipv4 { (s : List ℕ) (pieces : List Fragment) (settings : Settings) (context : ℕ) (start end : TableState) (last : Call)
         (calls : List Call) → IsSentIpv4 s → IsSplit (ipv4_payload s) pieces → IsFresh settings start
         → IsCallRun settings start (last ∷ calls) end → AreCalls (IsIpv4Fragment s) pieces context (ipv4_key s) (last ∷ calls)
+        → AreKept context (ipv4_key s) (last ∷ calls)
         → are_among pieces (pieces_in calls) ≡ false → are_among pieces (pieces_in (last ∷ calls)) ≡ true
         → IsMadeWhole s last end }
     ensures ipv4_wanted { (s : List ℕ) (pieces : List Fragment) (p : Fragment) (settings : Settings) (context : ℕ)
         (start end : TableState) (last : Call) (calls : List Call) → IsSentIpv4 s → IsSplit (ipv4_payload s) pieces
         → IsFresh settings start → IsCallRun settings start (last ∷ calls) end
-        → AreCalls (IsIpv4Fragment s) pieces context (ipv4_key s) (last ∷ calls) → last.piece ≡ Some p
+        → AreCalls (IsIpv4Fragment s) pieces context (ipv4_key s) (last ∷ calls)
+        → AreKept context (ipv4_key s) (last ∷ calls) → last.piece ≡ Some p
         → are_among pieces (pieces_in (last ∷ calls)) ≡ false → last.added.outcome ≡ MoreWanted }
     ensures ipv6 { (s : List ℕ) (n link id : ℕ) (pieces : List Fragment) (settings : Settings) (context : ℕ) (start end : TableState)
         (last : Call) (calls : List Call) → IsSentIpv6 s n link → n ≤ 4096 → IsSplit (drop n s) pieces → IsFresh settings start
         → IsCallRun settings start (last ∷ calls) end → AreCalls (IsIpv6Fragment s n link id) pieces context (ipv6_key s id) (last ∷ calls)
+        → AreKept context (ipv6_key s id) (last ∷ calls)
         → are_among pieces (pieces_in calls) ≡ false → are_among pieces (pieces_in (last ∷ calls)) ≡ true
         → IsMadeWhole s last end }
     ensures ipv6_wanted { (s : List ℕ) (n link id : ℕ) (pieces : List Fragment) (p : Fragment) (settings : Settings) (context : ℕ)
         (start end : TableState) (last : Call) (calls : List Call) → IsSentIpv6 s n link → n ≤ 4096 → IsSplit (drop n s) pieces
         → IsFresh settings start → IsCallRun settings start (last ∷ calls) end
-        → AreCalls (IsIpv6Fragment s n link id) pieces context (ipv6_key s id) (last ∷ calls) → last.piece ≡ Some p
+        → AreCalls (IsIpv6Fragment s n link id) pieces context (ipv6_key s id) (last ∷ calls)
+        → AreKept context (ipv6_key s id) (last ∷ calls) → last.piece ≡ Some p
         → are_among pieces (pieces_in (last ∷ calls)) ≡ false → last.added.outcome ≡ MoreWanted }
 {}
 
@@ -57,9 +61,10 @@ pub fn fragments_in_one_memory_are_the_packet()
 /// Proves that no packet is given up in a run that begins with a cleared table, if no more packets are sent in fragments than
 /// there are slots, and no two of their fragments arrive further apart than the timeout.
 pub fn packets_are_kept_where_there_is_room()
-    ensures { (names : List PacketName) (settings : Settings) (start end : TableState) (calls : List Call) → IsFresh settings start
-        → length names ≤ length start.slots.slots.now → IsCallRun settings start calls end → AreNamed names calls
-        → AreTimely settings.timeout calls → NothingLost calls }
+    ensures nothing { (names : List PacketName) (settings : Settings) (start end : TableState) (calls : List Call)
+        → IsFresh settings start → length names ≤ length start.slots.slots.now → IsCallRun settings start calls end
+        → AreNamed names calls → AreTimely settings.timeout calls → NothingLost calls }
+    ensures kept { (context : ℕ) (k : FragmentKey) (calls : List Call) → NothingLost calls → AreKept context k calls }
 {}
 
 /// Proves that no fragment is lost: in a run that begins with a cleared table, as long as no call makes a packet whole or reports

@@ -11,3 +11,4 @@ pub mod ArrivedLemmas
 pub mod CompleteLemmas
 pub mod RoomLemmas
 pub mod PendingLemmas
+pub mod CallLemmas

@@ -21,9 +21,11 @@ pub fn defragment_in_run(
     bytes: &[u8],
 ) -> Added
     requires { length slots.old.slots.now ≡ length memories.old }
-    ensures { (piece : Option Fragment) → IsCall settings.now
+    ensures call { (piece : Option Fragment) → IsCall settings.now
         (record { slots = slots.old; memories = memories.old }) (record { slots = slots.new; memories = memories.new })
         (record { context = context; time = time; bytes = bytes.now; piece = piece; added = result }) }
+    // There are as many slots as before, so the next packet can be added.
+    ensures as_many { length slots.new.slots.now ≡ length memories.new }
 {
     defragment(slots, memories, settings, context, time, bytes)
 }

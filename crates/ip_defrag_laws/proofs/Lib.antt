@@ -1,0 +1,14 @@
+pub mod MarkedLemmas
+pub mod ReadKeyLemmas
+pub mod SlotRunLemmas
+pub mod PartLemmas
+pub mod RunLemmas
+pub mod Ipv4Lemmas
+pub mod Ipv6Lemmas
+pub mod Ipv4FragmentLemmas
+pub mod Ipv6FragmentLemmas
+pub mod ArrivedLemmas
+pub mod CompleteLemmas
+pub mod RoomLemmas
+pub mod PendingLemmas
+pub mod CallLemmas

@@ -11,7 +11,9 @@ fn main() {
         let mut out = vec![0; packet.len()];
         match without(&packet, which, Authentication::Valid, &mut out) {
             Ok(rewritten) => {
-                let digits = out[..rewritten.len].iter().map(|byte| format!("{byte:02x}"));
+                let digits = out[..rewritten.len]
+                    .iter()
+                    .map(|byte| format!("{byte:02x}"));
                 println!("{}", digits.collect::<String>());
             }
             Err(error) => println!("{error}"),

@@ -17,5 +17,8 @@ fn main() {
     println!("{} packets, {} of IPv6", all.packets, all.ipv6);
     println!("{} first fragments", all.first_fragments);
     println!("{} fragment headers", all.headers[44]);
-    println!("{} truncated, {} faulty", all.at_truncated_header, all.at_fault);
+    println!(
+        "{} truncated, {} faulty",
+        all.at_truncated_header, all.at_fault
+    );
 }

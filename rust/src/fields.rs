@@ -72,7 +72,8 @@ impl Table<'_> {
     /// places; of chains, as many as places.
     pub fn try_clear(&mut self) -> bool {
         let places = u64::from(self.places);
-        let has_room = self.ages.next.len() as u64 >= places + 2 && self.chains.next.len() as u64 >= places;
+        let has_room =
+            self.ages.next.len() as u64 >= places + 2 && self.chains.next.len() as u64 >= places;
         let is_clearable = has_room && self.ages.is_clearable() && self.chains.is_clearable();
         if is_clearable {
             self.clear();

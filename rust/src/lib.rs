@@ -4,6 +4,8 @@
 #![warn(missing_docs)]
 // Functions, arguments and imports that only contracts use, and exports of deprecated names.
 #![allow(dead_code, deprecated, unused_imports, unused_variables)]
+// The code has the form with which it is proved.
+#![allow(clippy::complexity, clippy::style, clippy::manual_unwrap_or_default)]
 
 extern crate alloc;
 #[cfg(feature = "std")]

@@ -1,6 +1,8 @@
 //! The memory of a defragmenter, on the heap.
 
-use crate::ip_defragmenter::{Defragmenter, DefragmenterCounts, PacketMemory, Settings, Slot, SlotTable};
+use crate::ip_defragmenter::{
+    Defragmenter, DefragmenterCounts, PacketMemory, Settings, Slot, SlotTable,
+};
 use crate::ip_lists::{Links, Table};
 use alloc::collections::TryReserveError;
 use alloc::vec::Vec;
@@ -32,7 +34,10 @@ fn links(count: usize) -> Result<[Vec<u32>; 2], TryReserveError> {
 impl DefragmenterMemory {
     /// Returns memory for so many packets at a time, all of it free. Each takes 72 KB. Returns an error if there is no
     /// such memory.
-    pub fn try_new(packets: u16, settings: Settings) -> Result<DefragmenterMemory, TryReserveError> {
+    pub fn try_new(
+        packets: u16,
+        settings: Settings,
+    ) -> Result<DefragmenterMemory, TryReserveError> {
         let count = usize::from(packets);
         let mut memory = DefragmenterMemory {
             places: u32::from(packets),

@@ -1,7 +1,9 @@
 //! Headers and chains written to any writer of the standard library. The proved calls make the bytes.
 
 use crate::err::{ipv4_exts, ipv6_exts};
-use crate::{IpAuthHeader, IpNumber, Ipv4Extensions, Ipv6Extensions, Ipv6FragmentHeader, Ipv6RawExtHeader};
+use crate::{
+    IpAuthHeader, IpNumber, Ipv4Extensions, Ipv6Extensions, Ipv6FragmentHeader, Ipv6RawExtHeader,
+};
 use alloc::vec::Vec;
 use std::io::{self, Write};
 
@@ -35,7 +37,9 @@ impl Ipv4Extensions {
     ) -> Result<(), ipv4_exts::HeaderWriteError> {
         let mut bytes = Vec::new();
         self.append_to(&mut bytes, start_ip_number)?;
-        writer.write_all(&bytes).map_err(ipv4_exts::HeaderWriteError::Io)
+        writer
+            .write_all(&bytes)
+            .map_err(ipv4_exts::HeaderWriteError::Io)
     }
 }
 
@@ -48,6 +52,8 @@ impl Ipv6Extensions {
     ) -> Result<(), ipv6_exts::HeaderWriteError> {
         let mut bytes = Vec::new();
         self.append_to(&mut bytes, first_header)?;
-        writer.write_all(&bytes).map_err(ipv6_exts::HeaderWriteError::Io)
+        writer
+            .write_all(&bytes)
+            .map_err(ipv6_exts::HeaderWriteError::Io)
     }
 }

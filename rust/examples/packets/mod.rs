@@ -4,7 +4,10 @@
 fn bytes_of(line: &str) -> Vec<u8> {
     let digit = |c: char| c.to_digit(16).expect("a hexadecimal digit") as u8;
     let digits: Vec<u8> = line.trim().chars().map(digit).collect();
-    digits.chunks(2).map(|pair| pair[0] * 16 + pair[1]).collect()
+    digits
+        .chunks(2)
+        .map(|pair| pair[0] * 16 + pair[1])
+        .collect()
 }
 
 /// Returns the packets of all lines.

@@ -93,7 +93,6 @@ PCAP_SHARED = libwolfaren-pcap.so.0.$(call checksum,programs/ipcap/wolfaren-pcap
 
 rust:
 	$(PYTHON_IS_THERE)
-	$(CARGO_IS_THERE)
 	scripts/rust
 	scripts/check-rust
 

@@ -121,6 +121,7 @@ fn failures_of_writers() {
         .write(&mut Failing, IpNumber(0))
         .expect_err("a failure");
     assert_eq!(error.io().map(|it| it.kind()), Some(ErrorKind::BrokenPipe));
+    assert_eq!(error.to_string(), "broken pipe");
     // The fragment header leads past the authentication header.
     if let Some(fragment) = &mut headers.fragment {
         fragment.next_header = ip_number::UDP;

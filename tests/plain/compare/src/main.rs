@@ -1,7 +1,7 @@
 //! Compares COUNT answers of the program PROGRAM, which is tests/plain, with those of etherparse 0.19.0, and COUNT filters
 //! of the plain Rust package with a plain program: compare PROGRAM SEED COUNT
-use diff::compare::{Outcome, lines_of_tool};
-use diff::filters::{Answer, all_filters};
+use diff::compare::{lines_of_tool, Outcome};
+use diff::filters::{all_filters, Answer};
 use wolfaren::filter::Filter;
 
 /// Returns the package's result for a text and a packet.
@@ -27,7 +27,13 @@ fn main() {
     let [program, seed, count] = &std::env::args().skip(1).collect::<Vec<_>>()[..] else {
         panic!("usage: compare PROGRAM SEED COUNT");
     };
-    let (seed, count) = (seed.parse().expect("a number"), count.parse().expect("a number"));
-    report("lines", lines_of_tool(program, seed, count).expect("answers"));
+    let (seed, count) = (
+        seed.parse().expect("a number"),
+        count.parse().expect("a number"),
+    );
+    report(
+        "lines",
+        lines_of_tool(program, seed, count).expect("answers"),
+    );
     report("filters", all_filters(answer, seed, count));
 }

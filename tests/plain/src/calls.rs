@@ -1,10 +1,10 @@
-//! Answers lines by calls of the plain Rust package. `calls` is told by its argument what the lines are:
+//! Answers lines by calls of the plain Rust package. The argument says what the lines are:
 //!
-//!     count       a packet after `p`, or a frame without one (`o`) or a truncated one (`t`), as tests/c/statistics.c reads
-//!                 them; after the last line, all counts
-//!     defragment  a context, a time in nanoseconds and a packet: the whole packet, if there is one now, or `-`
-//!     rewrite     a call, whether checks may become invalid (0 or 1), a number, an index, other bytes and a packet: the new
-//!                 packet and whether checksums hold, or the error
+//!     `count`       a packet after `p`, or a frame without one (`o`) or a truncated one (`t`), as tests/c/statistics.c reads
+//!                   them; after the last line, all counts
+//!     `defragment`  a context, a time in nanoseconds and a packet: the whole packet, if there is one now, or `-`
+//!     `rewrite`     a call, whether checks may become invalid (0 or 1), a number, an index, other bytes and a packet: the new
+//!                   packet and whether checksums hold, or the error
 //!
 //! Bytes are in hexadecimal, after an `x`.
 use etherparse::defragment::{Defragmenter, DefragmenterMemory, Outcome, Settings};

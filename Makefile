@@ -24,6 +24,7 @@
 # make deb            make Debian packages of libraries, headers, programs and Python package, in build/
 #                     (MAINTAINER='NAME <ADDRESS>')
 # make test-c         test the library, ipcap, and the packages in bindings/rust and bindings/python
+# make rust           make the plain Rust package in build/rust, without Rattle and without proofs
 # make docs           write pages in build/docs/: the documents, each crate's calls with their contracts, the definitions, and,
 #                     where doxygen, Cargo and sphinx are there, the C interface and the packages. Needs Python's markdown
 # make page           build the files that page/index.html needs
@@ -45,7 +46,7 @@
 # The last eight and make test-c take CARGO_FLAGS="..", additional flags for Cargo, such as one that locates the crate
 # on a machine without network access. So does make test, or ETHERPARSE=.., a program that makes a package of the crate in the
 # folder that it is given, and prints those flags.
-.PHONY: run try test quick lib lib-x86_64 lib-aarch64 programs portable wheel wheel-x86_64 wheel-aarch64 install install-lib install-pcap-lib uninstall dist deb test-c docs page test-page mutants memory bench bench-border cost diff diff-test diff-fields fuzz fuzz-test
+.PHONY: run try test quick rust lib lib-x86_64 lib-aarch64 programs portable wheel wheel-x86_64 wheel-aarch64 install install-lib install-pcap-lib uninstall dist deb test-c docs page test-page mutants memory bench bench-border cost diff diff-test diff-fields fuzz fuzz-test
 .SILENT:
 
 CC_IS_THERE = command -v $(firstword $(1)) >/dev/null || { \
@@ -99,6 +100,11 @@ ARM64_AR = $(shell $(ARM64_CC) -print-prog-name=ar)
 checksum = $(shell sed -n 's/^\#define WOLFAREN_\(PCAP_\)*ABI 0x\([0-9a-f]*\)u$$/\2/p' $(1) 2>/dev/null)
 SHARED = libwolfaren.so.0.$(or $(call checksum,$(BUILD)/wolfaren.h),$(call checksum,include/wolfaren.h))
 PCAP_SHARED = libwolfaren-pcap.so.0.$(call checksum,programs/ipcap/wolfaren-pcap.h)
+
+rust:
+	$(PYTHON_IS_THERE)
+	scripts/rust
+	scripts/check-rust
 
 lib: lib-$(TARGET)
 

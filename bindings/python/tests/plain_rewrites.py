@@ -1,9 +1,10 @@
-"""Changes packets by RFC 791, RFC 4302 and RFC 8200, in plain Python that shares no code with the library."""
+"""Changes packets by RFC 791, RFC 2675, RFC 4302 and RFC 8200, in plain Python that shares no code with the library."""
 
 import struct
 
 HOP_BY_HOP, ROUTING, FRAGMENT, AUTHENTICATION, DESTINATION_OPTIONS = 0, 43, 44, 51, 60
 EXTENSIONS = (HOP_BY_HOP, ROUTING, FRAGMENT, AUTHENTICATION, DESTINATION_OPTIONS)
+JUMBO_PAYLOAD = 0xC2
 
 
 class Refused(Exception):
@@ -39,6 +40,18 @@ def has_reserved(header):
 
 def has_segments(header):
     return header[0] == ROUTING and header[1][3] != 0
+
+
+def options_of(header):
+    """Returns the options of a hop-by-hop options header, each with its offset, type and data, up to one that doesn't fit."""
+    found, at = [], 2
+    while at < len(header):
+        size = 1 if header[at] == 0 else 2 + (header[at + 1] if at + 1 < len(header) else len(header))
+        if at + size > len(header):
+            break
+        found.append((at, header[at], header[at + 2:at + size]))
+        at += size
+    return found
 
 
 class Packet:
@@ -84,12 +97,32 @@ class Packet:
         self.number = data[0]
         return data[size:]
 
+    def following_len(self):
+        """Returns how many bytes follow the base header."""
+        return sum(len(it) for _, it in self.headers) + len(self.payload)
+
+    def jumbo_offset(self):
+        """Returns the offset of the jumbo payload option in the first header, or `None` if the packet is no jumbogram (RFC 2675,
+        sections 2 and 3)."""
+        numbers = [number for number, _ in self.headers]
+        if self.states_length or self.following_len() <= 65535 or FRAGMENT in numbers or numbers[:1] != [HOP_BY_HOP]:
+            return None
+        options = options_of(self.headers[0][1])
+        offsets = [at for at, kind, _ in options if kind == JUMBO_PAYLOAD]
+        states = (JUMBO_PAYLOAD, self.following_len().to_bytes(4, "big")) in [it[1:] for it in options]
+        return offsets[0] if len(offsets) == 1 and states else None
+
     def written(self, headers, number, payload):
         """Returns the packet with these headers and this payload instead."""
         numbers = [it for it, _ in headers] + [number]
         chain = b"".join(bytes([following]) + data[1:] for (_, data), following in zip(headers, numbers[1:]))
         base, counted = bytearray(self.base), len(chain) + len(payload) + (len(self.base) if self.version == 4 else 0)
-        if not self.states_length and len(chain) + len(payload) != sum(len(it) for _, it in self.headers) + len(self.payload):
+        jumbo = self.jumbo_offset()
+        if jumbo is not None:
+            if counted <= 65535 or FRAGMENT in numbers[:-1] or numbers[0] != HOP_BY_HOP:
+                raise Refused("NOT_A_JUMBOGRAM")
+            chain = chain[:jumbo + 2] + counted.to_bytes(4, "big") + chain[jumbo + 6:]
+        elif not self.states_length and len(chain) + len(payload) != self.following_len():
             raise Refused("NO_LENGTH")
         if self.states_length and counted > 65535:
             raise Refused("TOO_LONG")

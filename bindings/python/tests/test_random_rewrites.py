@@ -59,8 +59,20 @@ def random_ipv6(rng):
     return base + rest
 
 
+def random_jumbogram(rng):
+    """An IPv6 packet of more than 65,535 bytes (RFC 2675), whose option mostly states its length."""
+    numbers = rng.choices([plain.ROUTING, plain.DESTINATION_OPTIONS], k=rng.randrange(3)) + [17]
+    rest = b"".join(random_header(rng, number, following) for number, following in zip(numbers, numbers[1:])) + bytes(65530)
+    stated = len(rest) + 8 + (rng.randrange(8) == 0)
+    base = bytearray(rng.randbytes(40))
+    base[0], base[6], base[4:6] = 6 << 4 | base[0] & 15, plain.HOP_BY_HOP, b"\0\0"
+    return bytes(base + bytes([numbers[0], 0, 0xC2, 4]) + stated.to_bytes(4, "big") + rest)
+
+
 def random_packet(rng):
     """Bytes that start with a packet, mostly a whole one: sometimes with another length field, truncated, or with other bytes."""
+    if rng.randrange(100) == 0:
+        return random_jumbogram(rng)
     packet = random_ipv4(rng) if rng.randrange(4) == 0 else random_ipv6(rng)
     at = 2 if packet[0] >> 4 == 4 else 4
     kind = rng.randrange(24)

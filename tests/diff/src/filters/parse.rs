@@ -18,6 +18,7 @@ pub fn parse(text: &[u8]) -> Result<Formula, Refusal> {
         end: text.len(),
         terms: 0,
         level: 0,
+        qualifiers: Vec::new(),
     };
     let formula = parser.disjunction()?;
     match parser.words.get(parser.at) {
@@ -72,6 +73,8 @@ struct Parser {
     end: usize,
     terms: usize,
     level: usize,
+    /// The words of the last primitive before its identifier; none if it had no identifier.
+    qualifiers: Vec<String>,
 }
 
 impl Parser {
@@ -142,7 +145,7 @@ impl Parser {
         let formula = if self.is_at(&["("]) {
             self.group()?
         } else {
-            Formula::Term(self.counted_term()?)
+            self.primitive()?
         };
         Ok((0..nots).fold(formula, |formula, _| Formula::Not(Box::new(formula))))
     }
@@ -162,10 +165,72 @@ impl Parser {
         Ok(formula)
     }
 
-    fn counted_term(&mut self) -> Result<Term, Refusal> {
-        let term = self.term()?;
-        self.terms += 1;
-        Ok(term)
+    /// Takes qualifiers and an identifier, an identifier alone, or a term.
+    fn primitive(&mut self) -> Result<Formula, Refusal> {
+        let names_protocol = self
+            .word()
+            .is_some_and(|word| protocol_term(word).is_some());
+        let next = self.words.get(self.at + 1).map(|(_, word)| word.as_str());
+        if names_protocol && next.is_some_and(is_qualifier) {
+            let protocol = self.words[self.at].1.clone();
+            self.at += 1;
+            if self.terms + 2 > MOST_TERMS {
+                return self.refuse(Expected::FewerTerms);
+            }
+            return self.qualified(vec![protocol]);
+        }
+        if self.word().is_some_and(is_qualifier) {
+            return self.qualified(Vec::new());
+        }
+        let at = self.at;
+        match self.term() {
+            Ok(term) => {
+                self.terms += 1;
+                self.qualifiers.clear();
+                Ok(Formula::Term(term))
+            }
+            Err((_, Expected::Operand)) if at < self.words.len() => {
+                self.identifier(Expected::Operand)
+            }
+            Err(refusal) => Err(refusal),
+        }
+    }
+
+    /// Takes qualifiers, after that of a protocol if there is one, and an identifier.
+    fn qualified(&mut self, mut qualifiers: Vec<String>) -> Result<Formula, Refusal> {
+        let first = self.words[self.at].1.clone();
+        let is_side = first == "src" || first == "dst";
+        self.at += 1;
+        let mut last = first.clone();
+        qualifiers.push(first);
+        if is_side && self.is_at(&["host", "net", "port", "portrange"]) {
+            last = self.words[self.at].1.clone();
+            qualifiers.push(last.clone());
+            self.at += 1;
+        }
+        self.qualifiers = qualifiers;
+        self.identifier(match last.as_str() {
+            "host" => Expected::Address,
+            "net" => Expected::Network,
+            "port" | "portrange" => Expected::Ports,
+            "proto" => Expected::Protocol,
+            _ => Expected::NetworkOrPort,
+        })
+    }
+
+    /// Takes an identifier after the qualifiers.
+    fn identifier(&mut self, expected: Expected) -> Result<Formula, Refusal> {
+        let found = self.word().and_then(|word| said(&self.qualifiers, word));
+        let Some(formula) = found else {
+            return self.refuse(expected);
+        };
+        let terms = count(&formula);
+        if self.terms + terms > MOST_TERMS {
+            return self.refuse(Expected::FewerTerms);
+        }
+        self.terms += terms;
+        self.at += 1;
+        Ok(formula)
     }
 
     fn term(&mut self) -> Result<Term, Refusal> {
@@ -177,8 +242,6 @@ impl Parser {
         let number = |word: &str| number(word, u32::MAX.into());
         Ok(match word.as_str() {
             "version" => Term::Version(self.take(version, Expected::Version)?),
-            "ip" => Term::Version(4),
-            "ip6" => Term::Version(6),
             "header" => Term::Header(self.take(header, Expected::Header)?),
             "leads-to" => Term::LeadsTo(self.take(protocol, Expected::Protocol)?),
             "fragment" => Term::Fragment,
@@ -199,17 +262,11 @@ impl Parser {
             },
             "spi" => Term::Spi(self.take(number, Expected::Number)?),
             "id" => Term::Id(self.take(number, Expected::Number)?),
-            "src" | "dst" => self.side(word == "src")?,
-            "net" => Term::Either(self.take(network, Expected::Network)?),
-            "host" => Term::Either(self.take(host, Expected::Address)?),
-            "port" => Term::Port(self.take(ports, Expected::Ports)?),
             "no-transport" => Term::NoTransport,
             "no-length" => Term::NoLength,
             "option" => Term::Option(self.take(byte, Expected::Byte)?),
             "routing-type" => Term::RoutingType(self.take(byte, Expected::Byte)?),
             "segments-left" => Term::SegmentsLeft(self.comparison()?),
-            "icmp" => Term::Icmp,
-            "icmp6" => Term::Icmp6,
             "icmp6-type" => Term::Icmp6Type(self.take(icmp6_type, Expected::Icmp6Type)?),
             "icmp6-code" => Term::Icmp6Code(self.take(byte, Expected::Byte)?),
             "icmp-type" => Term::IcmpType(self.take(icmp_type, Expected::IcmpType)?),
@@ -221,8 +278,8 @@ impl Parser {
 
     /// Takes the rest of a term that begins with the name of a protocol or of a number of packets.
     fn named_term(&mut self, word: &str) -> Result<Term, Refusal> {
-        if let Some(number) = upper_layer(word) {
-            return Ok(Term::LeadsTo(number));
+        if let Some(term) = protocol_term(word) {
+            return Ok(term);
         }
         match quantity(word) {
             Some(quantity) => Ok(Term::Compared(quantity, self.comparison()?)),
@@ -233,25 +290,6 @@ impl Parser {
         }
     }
 
-    /// Takes the network or the ports after `src` or `dst`.
-    fn side(&mut self, is_source: bool) -> Result<Term, Refusal> {
-        if self.is_at(&["port"]) {
-            self.at += 1;
-            let ports = self.take(ports, Expected::Ports)?;
-            return Ok(if is_source {
-                Term::SourcePort(ports)
-            } else {
-                Term::DestinationPort(ports)
-            });
-        }
-        let network = self.take(network, Expected::NetworkOrPort)?;
-        Ok(if is_source {
-            Term::Source(network)
-        } else {
-            Term::Destination(network)
-        })
-    }
-
     fn comparison(&mut self) -> Result<Comparison, Refusal> {
         let signs = ["=", "!=", "<", "<=", ">", ">="];
         let sign = self.take(
@@ -260,6 +298,83 @@ impl Parser {
         )?;
         let number = self.take(|word| number(word, u64::MAX), Expected::Count)?;
         Ok(Comparison { sign, number })
+    }
+}
+
+fn is_qualifier(word: &str) -> bool {
+    ["src", "dst", "host", "net", "port", "portrange", "proto"].contains(&word)
+}
+
+/// Returns the term that the name of a version or a protocol is by itself.
+fn protocol_term(word: &str) -> Option<Term> {
+    match word {
+        "ip" => Some(Term::Version(4)),
+        "ip6" => Some(Term::Version(6)),
+        "icmp" => Some(Term::Icmp),
+        "icmp6" => Some(Term::Icmp6),
+        _ => upper_layer(word).map(Term::LeadsTo),
+    }
+}
+
+/// Returns what the words say with an identifier, if it is one for them.
+fn said(qualifiers: &[String], identifier: &str) -> Option<Formula> {
+    if let Some(term) = qualifiers.first().and_then(|word| protocol_term(word)) {
+        let formula = said(&qualifiers[1..], identifier)?;
+        return Some(Formula::And(
+            Box::new(Formula::Term(term)),
+            Box::new(formula),
+        ));
+    }
+    let has = |wanted: &str| qualifiers.iter().any(|word| word == wanted);
+    if qualifiers.is_empty() {
+        return None;
+    }
+    if has("proto") {
+        let number = protocol(identifier)?;
+        let leads = Formula::Term(Term::LeadsTo(number));
+        return Some(match [0, 43, 44, 51, 60].contains(&number) {
+            true => Formula::Or(
+                Box::new(Formula::Term(Term::Header(number))),
+                Box::new(leads),
+            ),
+            false => leads,
+        });
+    }
+    let side = |source: Term, destination: Term, either: Term| match (has("src"), has("dst")) {
+        (true, _) => source,
+        (_, true) => destination,
+        _ => either,
+    };
+    let term = if has("port") || has("portrange") {
+        let made = || ports(identifier);
+        side(
+            Term::SourcePort(made()?),
+            Term::DestinationPort(made()?),
+            Term::Port(made()?),
+        )
+    } else {
+        let made = || {
+            if has("host") {
+                host(identifier)
+            } else {
+                network(identifier)
+            }
+        };
+        side(
+            Term::Source(made()?),
+            Term::Destination(made()?),
+            Term::Either(made()?),
+        )
+    };
+    Some(Formula::Term(term))
+}
+
+/// Returns the number of terms.
+fn count(formula: &Formula) -> usize {
+    match formula {
+        Formula::Term(_) => 1,
+        Formula::Not(formula) => count(formula),
+        Formula::And(first, second) | Formula::Or(first, second) => count(first) + count(second),
     }
 }
 

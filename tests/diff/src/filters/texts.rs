@@ -167,6 +167,12 @@ fn term(packet: &[u8], random: &mut Random, words: &mut Vec<String>) {
             ];
             word(words, one_of(&numbers, random));
         }
+        7 if random.percent(50) => {
+            protocol_before(random, words);
+            word(words, "proto");
+            word(words, protocol(random));
+            alone(random, words, protocol);
+        }
         7 => {
             word(words, "leads-to");
             word(words, protocol(random));
@@ -176,8 +182,15 @@ fn term(packet: &[u8], random: &mut Random, words: &mut Vec<String>) {
             word(words, field(packet, random));
         }
         9..11 => {
-            word(words, one_of(&["src", "dst", "net"], random));
+            protocol_before(random, words);
+            let side = one_of(&["src", "dst", "net"], random);
+            let is_side = side != "net";
+            word(words, side);
+            if is_side && random.percent(30) {
+                word(words, one_of(&["net", "host"], random));
+            }
             word(words, network(packet, random));
+            alone(random, words, |random| network(packet, random));
         }
         11..14 => {
             let names = ["headers", "chain-bytes", "payload"];
@@ -188,12 +201,14 @@ fn term(packet: &[u8], random: &mut Random, words: &mut Vec<String>) {
         14 => word(words, one_of(&NAMES, random)),
         15 => base_field(packet, random, words),
         16..18 => {
+            protocol_before(random, words);
             let side = one_of(&["src", "dst", ""], random);
             if !side.is_empty() {
                 word(words, side);
             }
-            word(words, "port");
+            word(words, one_of(&["port", "port", "portrange"], random));
             word(words, ports(packet, random));
+            alone(random, words, |random| ports(packet, random));
         }
         18 if random.percent(30) => {
             word(words, "option");
@@ -243,6 +258,27 @@ fn term(packet: &[u8], random: &mut Random, words: &mut Vec<String>) {
             let address = network.split('/').next().unwrap_or_default().to_owned();
             word(words, if random.percent(90) { address } else { network });
         }
+    }
+}
+
+/// Appends the name of a version or a protocol, which the packet has to have, too.
+fn protocol_before(random: &mut Random, words: &mut Vec<String>) {
+    match random.below(8) {
+        0 => word(words, one_of(&["ip", "ip6"], random)),
+        1 => word(words, one_of(&NAMES, random)),
+        2 => word(words, one_of(&["tcp", "udp", "sctp"], random)),
+        _ => {}
+    }
+}
+
+/// Appends identifiers that take the qualifiers before them.
+fn alone(random: &mut Random, words: &mut Vec<String>, made: impl Fn(&mut Random) -> String) {
+    while random.percent(20) {
+        word(words, one_of(&["and", "or", "&&", "||"], random));
+        if random.percent(20) {
+            word(words, "not");
+        }
+        word(words, made(random));
     }
 }
 
@@ -464,6 +500,8 @@ fn spoil_words(words: &mut Vec<String>, random: &mut Random) {
                 "port",
                 "host",
                 "tcp",
+                "src",
+                "proto",
                 "&",
                 "|||",
             ];

@@ -60,19 +60,23 @@ def random_ipv6(rng):
 
 
 def random_jumbogram(rng):
-    """An IPv6 packet of more than 65,535 bytes (RFC 2675), whose option mostly states its length."""
-    numbers = rng.choices([plain.ROUTING, plain.DESTINATION_OPTIONS], k=rng.randrange(3)) + [17]
-    rest = b"".join(random_header(rng, number, following) for number, following in zip(numbers, numbers[1:])) + bytes(65530)
-    stated = len(rest) + 8 + (rng.randrange(8) == 0)
+    """A packet with a jumbo payload option (RFC 2675, section 2). Some are no jumbograms: they are too short, have a fragment header
+    or state another length."""
+    numbers = [plain.HOP_BY_HOP] + rng.choices([plain.ROUTING, plain.FRAGMENT, *[plain.DESTINATION_OPTIONS] * 3], k=rng.choice([0, 1, 2])) + [17]
+    rest = b"".join(random_header(rng, number, following) for number, following in zip(numbers[1:], numbers[2:]))
+    rest += bytes(rng.randrange(65500, 65800))
+    padding = rng.choice([b"", b"\1\6" + bytes(6)])
+    length = 8 + len(padding) + len(rest)
+    options = bytes([numbers[1], len(padding) // 8]) + padding + bytes([plain.JUMBO_PAYLOAD, 4]) + (length + rng.choice([0, 0, 0, 1])).to_bytes(4, "big")
     base = bytearray(rng.randbytes(40))
-    base[0], base[6], base[4:6] = 6 << 4 | base[0] & 15, plain.HOP_BY_HOP, b"\0\0"
-    return bytes(base + bytes([numbers[0], 0, 0xC2, 4]) + stated.to_bytes(4, "big") + rest)
+    base[0], base[6], base[4:6] = 6 << 4 | base[0] & 15, numbers[0], b"\0\0"
+    return base + options + rest
 
 
 def random_packet(rng):
     """Bytes that start with a packet, mostly a whole one: sometimes with another length field, truncated, or with other bytes."""
-    if rng.randrange(100) == 0:
-        return random_jumbogram(rng)
+    if rng.randrange(64) == 0:
+        return bytes(random_jumbogram(rng))
     packet = random_ipv4(rng) if rng.randrange(4) == 0 else random_ipv6(rng)
     at = 2 if packet[0] >> 4 == 4 else 4
     kind = rng.randrange(24)

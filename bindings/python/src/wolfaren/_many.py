@@ -10,8 +10,9 @@ from ._optional import import_for
 _FORMATS = {"size_t": "u8", "uint64_t": "u8", "int64_t": "i8", "uint32_t": "u4", "int32_t": "i4", "uint16_t": "u2",
             "uint8_t": "u1", "_Bool": "?"}
 
-# The only number of a dissection that may be above those of the signed type of its length.
-_WIDE = "identification"
+# The numbers of a dissection that are elsewhere in an array than in the struct: `identification` needs 64 bits to have a sign,
+# so it takes those of `fragment_offset` after it, which takes the upper half of `missing`. That is below 2^17.
+_WIDE, _MOVED, _HALVED = "identification", "fragment_offset", "missing"
 
 # How many packets are passed to the library at a time. In between, Python runs the handlers of signals.
 _TOGETHER = 1 << 11
@@ -43,14 +44,21 @@ def dtype_of(numpy: Any, kind: Any) -> Any:
 
 
 def signed(numpy: Any, kind: Any) -> Any:
-    """Returns numpy's type of a C struct whose numbers have signs. The one that needs 64 bits for that is last, after the struct."""
-    names = [it for it in kind.names if it != _WIDE]
-    fields = [kind.fields[it] for it in names]
-    formats = [signed(numpy, it) if it.names else it.str.replace("u", "i") for it, *_ in fields]
-    offsets, size = [offset for _, offset, *_ in fields], kind.itemsize
-    if _WIDE in kind.names:
-        names, formats, offsets, size = [*names, _WIDE], [*formats, "i8"], [*offsets, size], size + 8
-    return numpy.dtype({"names": names, "formats": formats, "offsets": offsets, "itemsize": size})
+    """Returns numpy's type of a C struct whose numbers have signs, some of them elsewhere than in the struct."""
+    fields = {name: (signed(numpy, it) if it.names else it.str.replace("u", "i"), at) for name, (it, at) in kind.fields.items()}
+    if _WIDE in fields:
+        fields |= {_WIDE: ("i8", fields[_WIDE][1]), _HALVED: ("i4", fields[_HALVED][1]), _MOVED: ("i4", fields[_HALVED][1] + 4)}
+    names = sorted(fields, key=lambda it: fields[it][1])
+    formats, offsets = zip(*(fields[it] for it in names))
+    return numpy.dtype({"names": names, "formats": formats, "offsets": offsets, "itemsize": kind.itemsize})
+
+
+def _move(numpy: Any, structs: Any) -> None:
+    """Moves the numbers of structs to where `signed` has them."""
+    words = structs.view(numpy.uint32).reshape(len(structs), -1)
+    moved, halved = (structs.dtype.fields[it][1] // 4 for it in (_MOVED, _HALVED))
+    words[:, halved + 1] = words[:, moved]
+    words[:, moved] = 0
 
 
 class Packets:
@@ -106,7 +114,8 @@ def dissect_many(buffer: Buffer, offsets: Any, lengths: Any) -> Any:
         headers                 i8   the number of extension headers
         payload_offset          i8   where the payload begins, in bytes from the start of the packet
         payload_len             i8   the number of payload bytes that are present
-        missing                 i8   the number of bytes of the stated length that aren't present
+        missing                 i4   the number of bytes of the stated length that aren't present
+        fragment_offset         i4   where the fragment lies in the payload, in bytes
         padding                 i8   the number of bytes after the packet
         fault.required_len      i8   the number of bytes that a layer needs
         fault.len               i8   the number of bytes that are available to it
@@ -116,12 +125,11 @@ def dissect_many(buffer: Buffer, offsets: Any, lengths: Any) -> Any:
         fault.layer             i1   the layer that needs the bytes, a `Layer`
         fault.len_source        i1   where `fault.len` comes from, a `LenSource`
         fault.value             i4   the invalid version or internet header length
-        fragment_offset         i4   where the fragment lies in the payload, in bytes
+        identification          i8   a number that all fragments of a packet share, or 0
         version                 i2   4 or 6, or 0 if there is no IP header
         payload_number          i2   the protocol number of what follows the headers
         fragment                i2   which fragment the packet is, a `FragmentKind`
         end                     i2   why the headers end, an `End`
-        identification          i8   a number that all fragments of a packet share, or 0
 
     The column of a name with a dot is `array["fault"]["kind"]`. Numbers that don't apply are 0. A packet whose length field is
     0 states no length, and all bytes after its headers are its payload: before you trust a row, test its `stated_len`, which
@@ -134,17 +142,9 @@ def dissect_many(buffer: Buffer, offsets: Any, lengths: Any) -> Any:
     packets = Packets("wolfaren.dissect_many", buffer, offsets, lengths)
     numpy = packets.numpy
     kind = dtype_of(numpy, ffi.typeof("struct wolfaren_dissection"))
-    parts = numpy.empty(packets.count, signed(numpy, kind))
-    structs = numpy.empty(min(packets.count, _TOGETHER), kind)
+    structs = numpy.empty(packets.count, kind)
     for start in range(0, packets.count, _TOGETHER):
-        some = parts[start:start + _TOGETHER]
-        filled = structs[:len(some)]
-        packets.pass_to(lib.wolfaren_dissect_packets, array=ffi.from_buffer("struct wolfaren_dissection[]", filled), start=start)
-        _rows(numpy, some)[:, :kind.itemsize] = _rows(numpy, filled)
-        some[_WIDE] = filled[_WIDE]
-    return parts
-
-
-def _rows(numpy: Any, structs: Any) -> Any:
-    """Returns the bytes of each struct of an array, as a row."""
-    return structs.view(numpy.uint8).reshape(len(structs), structs.itemsize)
+        some = structs[start:start + _TOGETHER]
+        packets.pass_to(lib.wolfaren_dissect_packets, array=ffi.from_buffer("struct wolfaren_dissection[]", some), start=start)
+        _move(numpy, some)
+    return structs.view(signed(numpy, kind))

@@ -45,7 +45,8 @@ def dtype_of(numpy: Any, kind: Any) -> Any:
 
 def signed(numpy: Any, kind: Any) -> Any:
     """Returns numpy's type of a C struct whose numbers have signs, some of them elsewhere than in the struct."""
-    fields = {name: (signed(numpy, it) if it.names else it.str.replace("u", "i"), at) for name, (it, at) in kind.fields.items()}
+    fields: dict[str, tuple[Any, int]] = {
+        name: (signed(numpy, it) if it.names else it.str.replace("u", "i"), at) for name, (it, at) in kind.fields.items()}
     if _WIDE in fields:
         fields |= {_WIDE: ("i8", fields[_WIDE][1]), _HALVED: ("i4", fields[_HALVED][1]), _MOVED: ("i4", fields[_HALVED][1] + 4)}
     names = sorted(fields, key=lambda it: fields[it][1])

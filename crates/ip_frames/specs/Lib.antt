@@ -1,0 +1,10 @@
+pub mod Numbers
+pub mod Reading
+pub mod Ieee
+pub mod Radio
+pub mod System
+pub mod Serial
+pub mod Juniper
+pub mod LinkTypes
+pub mod Headers
+pub mod Fields

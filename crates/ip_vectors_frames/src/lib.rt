@@ -1,0 +1,5 @@
+//! Test vectors for frames of link layers.
+#![tactic(auto)]
+
+#[cfg(test)]
+mod frames;

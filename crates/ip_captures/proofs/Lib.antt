@@ -1,0 +1,6 @@
+mod NumberLemmas
+mod PieceLemmas
+mod RecordLemmas
+mod OptionLemmas
+mod BlockLemmas
+mod BlockLists

@@ -1,0 +1,16 @@
+pub mod Numbers
+pub mod Pieces
+pub mod Frame
+pub mod Next
+pub mod ClassicHeader
+pub mod ClassicRecord
+pub mod ClassicNext
+pub mod ClassicFrames
+pub mod Options
+pub mod Interface
+pub mod Block
+pub mod BlockGiven
+pub mod PcapngNext
+pub mod PcapngCapture
+pub mod Capture
+pub mod ClassicWriter

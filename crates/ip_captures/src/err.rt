@@ -1,0 +1,88 @@
+//! What is wrong with a capture.
+use thiserror::Error;
+
+/// An error in a capture. Offsets count from the start of the capture.
+#[derive(Clone, Copy, Debug, PartialEq, Eq, Hash, Error)]
+pub enum CaptureError {
+    /// The first 4 bytes are no magic number of a capture file (draft-ietf-opsawg-pcap, section 4).
+    #[error("file header at offset 0 begins with no magic number of capture files")]
+    UnknownMagic,
+    /// The major version isn't 2 (draft-ietf-opsawg-pcap, section 4).
+    #[error("file header at offset 0 states version {major}, not 2")]
+    UnknownVersion {
+        /// The major version.
+        major: u16,
+    },
+    /// A record states more captured bytes than the caller allows (draft-ietf-opsawg-pcap, section 5).
+    #[error("record at offset {offset} states {captured_len} bytes, more than {limit}")]
+    LongRecord {
+        /// The offset of the record, in bytes.
+        offset: u64,
+        /// The number of captured bytes that it states.
+        captured_len: u32,
+        /// The greatest number that the caller allows.
+        limit: u32,
+    },
+    /// A block of pcapng isn't as it should be (draft-ietf-opsawg-pcapng, section 3).
+    #[error("block at offset {offset} {error}")]
+    Block {
+        /// The offset of the block, in bytes.
+        offset: u64,
+        /// What is wrong with it.
+        error: BlockError,
+    },
+}
+
+/// What is wrong with a block of pcapng.
+#[derive(Clone, Copy, Debug, PartialEq, Eq, Hash, Error)]
+pub enum BlockError {
+    /// A section header has no byte-order magic (draft-ietf-opsawg-pcapng, section 4.1).
+    #[error("has no byte-order magic")]
+    UnknownByteOrder,
+    /// The total length is less than the fields of the block have, or no multiple of 4 (section 3.1).
+    #[error("states {len} bytes, which is too few or no multiple of 4")]
+    Length {
+        /// The total length.
+        len: u32,
+    },
+    /// The total length is greater than the caller allows (section 3.1).
+    #[error("states {len} bytes, more than {limit}")]
+    Long {
+        /// The total length.
+        len: u32,
+        /// The greatest length that the caller allows.
+        limit: u32,
+    },
+    /// The two total lengths differ (section 3.1).
+    #[error("states {first} bytes at its start and {last} at its end")]
+    Lengths {
+        /// The total length at the start.
+        first: u32,
+        /// The total length at the end.
+        last: u32,
+    },
+    /// The major version of a section isn't 1 (section 4.1).
+    #[error("states version {major}, not 1")]
+    UnknownVersion {
+        /// The major version.
+        major: u16,
+    },
+    /// The caller has no memory for another interface of the section (section 4.2).
+    #[error("describes one interface more than the {room} that there is memory for")]
+    TooManyInterfaces {
+        /// The number of interfaces that there is memory for.
+        room: usize,
+    },
+    /// The section describes no such interface before the packet (sections 4.3 and 4.4).
+    #[error("has a packet of interface {interface}, which isn't described")]
+    UnknownInterface {
+        /// The number of the interface.
+        interface: u32,
+    },
+    /// The block has fewer captured bytes than it states (sections 4.3 and 4.4).
+    #[error("states {captured_len} captured bytes, more than it has")]
+    LongPacket {
+        /// The number of captured bytes that it states.
+        captured_len: u32,
+    },
+}

@@ -21,7 +21,7 @@ pub front_len : (l : ℕ) (b : List ℕ) (c : List ExtHeader) (m : ℕ) → leng
 front_len l b c m = omega (arith, joined_len c m, length-append (slice_set b l (number_of_first c m)) (bytes_of (linked_headers m c)), length-set b l (number_of_first c m))
 
 -- the number of what follows is within them
-link_less : (l : ℕ) (b : List ℕ) (c : List ExtHeader) → l < length b → AreHeaders c → link_of l b c < length b + length (bytes_of c)
+pub link_less : (l : ℕ) (b : List ℕ) (c : List ExtHeader) → l < length b → AreHeaders c → link_of l b c < length b + length (bytes_of c)
 link_less l b [] less a = omega arith
 link_less l b (h ∷ c) less a =
     let least : 0 < length h.bytes = omega (arith, header-least h.number h.bytes a.0) in

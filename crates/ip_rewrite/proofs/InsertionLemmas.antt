@@ -98,7 +98,7 @@ header_is n b e = elim (cases_Bool (n == 44)) [
 ]
 
 -- all of some headers and one more
-all_inserted : (P : ExtHeader → Type 0) (i : ℕ) (c : List ExtHeader) (h : ExtHeader) → AllByRecursion P c → P h → AllByRecursion P (inserted i h c)
+pub all_inserted : (P : ExtHeader → Type 0) (i : ℕ) (c : List ExtHeader) (h : ExtHeader) → AllByRecursion P c → P h → AllByRecursion P (inserted i h c)
 all_inserted P i c h a p = joined (take i c) (drop i c) (subst (AllByRecursion P) (sym (take-append-drop i c)) a)
   where
     joined : (d e : List ExtHeader) → AllByRecursion P (d ++ e) → AllByRecursion P (d ++ h ∷ e)
@@ -155,14 +155,14 @@ one_inserted i c h none named = record {
 }
 
 -- what is known of a header that can be inserted
-record IsInserted (i : ℕ) (h : ExtHeader) (p : DissectedParts) : Type 0 where
-  before : list_any fragments (take i p.headers) ≡ false
-  whole : is_header h.number h.bytes ≡ true
+pub record IsInserted (i : ℕ) (h : ExtHeader) (p : DissectedParts) : Type 0 where
+  pub before : list_any fragments (take i p.headers) ≡ false
+  pub whole : is_header h.number h.bytes ≡ true
   fragments : fragments h ≡ false
   misplaced : is_misplaced i h p ≡ false
   other : ((p.version == 4) && not (h.number == 51)) ≡ false
 
-insertable : (a : Authentication) (i : ℕ) (h : ExtHeader) (p : DissectedParts) → header_fault a i h p ≡ None → IsInserted i h p
+pub insertable : (a : Authentication) (i : ℕ) (h : ExtHeader) (p : DissectedParts) → header_fault a i h p ≡ None → IsInserted i h p
 insertable a i h p e = record { whole = grind (arith, common_steps); fragments = grind (arith, common_steps); misplaced = grind (arith, common_steps); other = grind (arith, common_steps); before = grind (arith, common_steps) }
 
 auth_only : (v n : ℕ) → ((v == 4) && not (n == 51)) ≡ false → v ≡ 4 → n ≡ 51

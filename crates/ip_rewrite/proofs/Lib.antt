@@ -14,6 +14,7 @@ pub mod WrittenLemmas
 pub mod FirstHeaderLemmas
 pub mod PayloadLemmas
 pub mod ClearingLemmas
+pub mod ReservedLemmas
 pub mod InsertionLemmas
 pub mod RestoringLemmas
 pub mod ChecksumLawLemmas

@@ -1,5 +1,5 @@
 -- The order that is recommended is one: what is put in order is in order, and stays as it is.
-use Rattle.ip_spec.proofs.Common.{◌≡◌, ℕ, ◌+◌, ◌≤◌, ◌<◌, List, [], ◌∷◌, ◌++◌, take, drop, take-append-drop, inl, inr, subst, refl, sym, ◌∙◌, ap, arith, common_steps, Bool, true, false, false≢true, cases_Bool, eqb-true, eq-eqb, cond-true, cond-false, ◌&&◌, ◌||◌, ◌==◌, nat_lt, nat_le, list_any, append_assoc, AllByRecursion, ExtHeader}
+use Rattle.ip_spec.proofs.Common.{◌≡◌, ◌↔◌, ℕ, ◌+◌, ◌≤◌, ◌<◌, List, [], ◌∷◌, ◌++◌, take, drop, take-append-drop, inl, inr, subst, refl, sym, ◌∙◌, ap, arith, common_steps, Bool, true, false, false≢true, cases_Bool, eqb-true, eq-eqb, cond-true, cond-false, ◌&&◌, ◌||◌, ◌==◌, nat_lt, nat_le, list_any, append_assoc, AllByRecursion, ExtHeader}
 use Rattle.std.proofs.Common.{add-one}
 use Rattle.std.proofs.lemmas.List.Folds.{list_any-append}
 use Rattle.ip_rewrite.specs.Headers.{linked_headers}
@@ -186,6 +186,9 @@ in_order_same k (h ∷ c) e =
 linked_routing : (m : ℕ) (c : List ExtHeader) → list_any is_routing (linked_headers m c) ≡ list_any is_routing c
 linked_routing m [] = refl
 linked_routing m (h ∷ c) = ap (λ b. is_routing h || b) (linked_routing m c)
+
+pub order_stays : (r : Bool) (c : List ExtHeader) → r ≡ is_in_order c → r ≡ true ↔ (in_order c ≡ c)
+order_stays r c is = (λ e. in_order_same 0 c (sym is ∙ e), λ e. is ∙ (ap is_in_order (sym e) ∙ in_order_rises c))
 
 pub linked_rises : (k m : ℕ) (c : List ExtHeader) → rises_from k (linked_headers m c) ≡ rises_from k c
 linked_rises k m [] = refl

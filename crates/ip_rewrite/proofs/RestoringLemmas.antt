@@ -32,7 +32,7 @@ use Rattle.ip_rewrite.proofs.DissectLemmas.{none_first, field_fits, field_statin
 use Rattle.ip_rewrite.proofs.InsertionLemmas.{header_is, inserted_len, index_within, has_inserted, insertion_first, inserted_option}
 
 -- the base header, changed twice
-word_set : (b : List ℕ) (i n j x : ℕ) → i ≢ j → i + 1 ≢ j → slice_set (with_word b i n) j x ≡ with_word (slice_set b j x) i n
+pub word_set : (b : List ℕ) (i n j x : ℕ) → i ≢ j → i + 1 ≢ j → slice_set (with_word b i n) j x ≡ with_word (slice_set b j x) i n
 word_set b i n j x p q = set_comm (slice_set b i (n / 256)) (i + 1) j (n % 256) x q ∙ ap (λ l. slice_set l (i + 1) (n % 256)) (set_comm b i j (n / 256) x p)
 
 pub word_word : (b : List ℕ) (i n m : ℕ) → with_word (with_word b i n) i m ≡ with_word b i m

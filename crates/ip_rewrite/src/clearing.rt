@@ -1,5 +1,5 @@
 //! Packets whose reserved bits are cleared.
-ghost use Rattle.std.specs.Prelude.{◌≡◌, ◌≤◌, ◌<◌, ◌+◌, ◌^◌, ◌++◌, ◌==◌, ◌||◌, ℕ, List, length, drop, take, true, false, None, if◌then◌else◌, IfOk, OnOk, OnErr};
+ghost use Rattle.std.specs.Prelude.{◌≡◌, ◌≤◌, ◌<◌, ◌+◌, ◌^◌, ◌++◌, ◌==◌, ◌||◌, ◌↔◌, ℕ, List, length, drop, take, true, false, None, if◌then◌else◌, IfOk, OnOk, OnErr};
 ghost use Rattle.std.specs.List.{list_any};
 ghost use Rattle.std.specs.Result.{result_err};
 ghost use Rattle.std.proofs.Common.{rules};
@@ -22,7 +22,7 @@ use ip_base::{IpNumber, ip_number};
 use ip_dissect::{HeaderVisitor, Outline, Packet};
 
 /// What was seen of the reserved bits of a packet's headers.
-#[derive(Clone, Copy, Debug)]
+#[derive(Clone, Copy, Debug, Default)]
 struct Reserved {
     /// There is an authentication header.
     has_authentication: bool,
@@ -221,6 +221,18 @@ fn write_cleared(packet: &Packet<'_>, last: usize, field: u16, out: &mut [u8])
     );
 }
 
+/// Returns whether a reserved bit of an extension header is 1 (RFC 8200, section 4.5; RFC 4302, section 2.3): whether
+/// `cleared` would change a header. If the headers end with an error, those before it count.
+#[tactic(auto, using(crate::proofs::ReservedLemmas::unchanged))]
+pub fn has_reserved_bits(packet: &[u8]) -> bool
+    ensures found { result ≡ list_any has_reserved (dissected packet.now).headers }
+    ensures unchanged { let c = (dissected packet.now).headers in result ≡ false ↔ (cleared_chain c ≡ c) }
+{
+    let mut reserved = Reserved::default();
+    Packet::walk(packet, &mut reserved);
+    reserved.is_set
+}
+
 /// Writes a packet to the front of `out` with the reserved bits of its extension headers set to zero (RFC 8200,
 /// section 4.5; RFC 4302, section 2.3), and nothing else changed.
 #[tactic(auto, using(crate::proofs::ClearingLemmas::cleared_len))]
@@ -240,14 +252,7 @@ pub fn cleared(
         dissected (take r.len out.new) ≡ rewritten_parts p (cleared_chain p.headers) p.number p.payload) }
     ensures stays { OnErr result (out.new ≡ out.old) }
 {
-    let mut reserved = Reserved {
-        has_authentication: false,
-        is_fragmented: false,
-        is_set: false,
-        is_set_fragmented: false,
-        is_set_covered: false,
-        last: 0,
-    };
+    let mut reserved = Reserved::default();
     let packet = Packet::walk(packet, &mut reserved);
     match test(&packet, &reserved, authentication, out.len()) {
         Ok(field) => {

@@ -17,19 +17,22 @@ pub enum RewriteError {
     /// The bytes aren't one extension header of the number, or it can't be in a packet of the version.
     #[error("the bytes are no extension header for the packet")]
     NotAHeader,
-    /// The header can't be at the place (RFC 8200, section 4.1).
+    /// The header can't be at the place (RFC 8200, section 4.1): the index is too high, hop-by-hop options would follow a header,
+    /// or an IPv4 packet would have two.
     #[error("the header can't be at this place")]
     Misplaced,
     /// No header is selected.
     #[error("the packet has no such header")]
     NoHeader,
-    /// The header is the fragment header of a fragment.
+    /// The header says that the packet is a fragment. That of an atomic fragment can be removed.
     #[error("the header is that of a fragment")]
     FragmentHeader,
-    /// The change is in the part of the packet that is fragmented.
+    /// The change is in the part of the packet that is fragmented: after the fragment header of a fragment, or in an IPv4
+    /// fragment. `with_payload` changes no fragment but an atomic one, and `in_order` no fragment's order.
     #[error("the change is in the part that is fragmented")]
     Fragmented,
-    /// An authentication header covers what is changed (RFC 4302, section 3.3.3).
+    /// `Authentication::Valid` was asked for, and an authentication header covers what is changed (RFC 4302, section 3.3.3): one
+    /// that is kept, or one after a later fragment's header. It covers all but fragment headers before it; for `with_header`, all.
     #[error("an authentication header covers the change")]
     Authenticated,
     /// The payload would be read as an extension header.

@@ -1,5 +1,5 @@
 //! Packets whose extension headers are in the recommended order.
-ghost use Rattle.std.specs.Prelude.{◌≡◌, ◌≤◌, ◌<◌, ◌+◌, ◌^◌, ◌++◌, ◌==◌, ◌||◌, ◌&&◌, ℕ, List, length, drop, take, true, if◌then◌else◌, IfOk, OnOk, OnErr};
+ghost use Rattle.std.specs.Prelude.{◌≡◌, ◌≤◌, ◌<◌, ◌+◌, ◌^◌, ◌++◌, ◌==◌, ◌||◌, ◌&&◌, ◌↔◌, ℕ, List, length, drop, take, true, if◌then◌else◌, IfOk, OnOk, OnErr, IsTrue};
 ghost use Rattle.std.specs.List.{list_any};
 ghost use Rattle.std.specs.Result.{result_err};
 ghost use Rattle.std.proofs.Common.{rules, refl, subst, sym, append-nil};
@@ -100,7 +100,7 @@ impl HeaderVisitor for Order {
 
 /// Returns whether the headers of a packet are in the recommended order.
 #[inline(always)]
-fn is_in_order(packet: &Packet<'_>, last_routing: usize) -> bool
+fn are_in_order(packet: &Packet<'_>, last_routing: usize) -> bool
     requires { last_routing ≡ routing_index (dissected packet.now.bytes.now).headers }
     ensures { result ≡ is_in_order (dissected packet.now.bytes.now).headers }
 {
@@ -254,7 +254,7 @@ fn test(
 {
     let outline = &packet.outline;
     test_packet(outline)?;
-    let ordered = is_in_order(packet, contents.last_routing);
+    let ordered = are_in_order(packet, contents.last_routing);
     test_order(contents, ordered, authentication)?;
     test_room(packet, outline.extensions_len, outline.payload_len, room)
 }
@@ -290,6 +290,18 @@ fn write_ordered(packet: &Packet<'_>, last_routing: usize, field: u16, out: &mut
         field,
         out,
     );
+}
+
+/// Returns whether the extension headers of a packet are in the order that RFC 8200, section 4.1, recommends: whether
+/// `in_order` would leave them as they are. If the headers end with an error, those before it count.
+#[tactic(auto, using(crate::proofs::OrderLawLemmas::order_stays))]
+pub fn is_in_order(packet: &[u8]) -> bool
+    ensures ranks { result ≡ is_in_order (dissected packet.now).headers }
+    ensures unchanged { let c = (dissected packet.now).headers in IsTrue result ↔ (in_order c ≡ c) }
+{
+    let mut contents = Contents::default();
+    let packet = Packet::walk(packet, &mut contents);
+    are_in_order(&packet, contents.last_routing)
 }
 
 /// Writes a packet to the front of `out` with the same extension headers in the order that RFC 8200, section 4.1,

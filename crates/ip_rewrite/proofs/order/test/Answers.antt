@@ -26,7 +26,7 @@ returns-clause-fault c =
     let p : DissectedParts = dissected c.args.packet.now.bytes.now in
     let d : List ExtHeader = in_order p.headers in
     let packet : packet_fault p ≡ None = sym (c.in_ok-test_packet.ensures.fault p c.args.packet.now.outline_is) in
-    let order : order_fault c.args.authentication p ≡ None = sym (c.in_ok-test_order.ensures p c.requires.authentication c.requires.fragmented c.is_in_order-ordered.ensures) in
+    let order : order_fault c.args.authentication p ≡ None = sym (c.in_ok-test_order.ensures p c.requires.authentication c.requires.fragmented c.are_in_order-ordered.ensures) in
     let size : c.args.packet.now.outline.extensions_len ≡ length (bytes_of d) = ap (λ (o : Outline). o.extensions_len) c.args.packet.now.outline_is ∙ sym (ordered_len p.headers) in
     let payload : c.args.packet.now.outline.payload_len ≡ length p.payload = ap (λ (o : Outline). o.payload_len) c.args.packet.now.outline_is in
     c.test_room.ensures.fault d p.payload size payload ∙ sym (both_none (packet_fault p) (order_fault c.args.authentication p) (room_fault p d p.payload c.args.room) packet order)

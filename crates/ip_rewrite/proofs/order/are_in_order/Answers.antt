@@ -2,7 +2,7 @@ use Rattle.ip_spec.proofs.Common.{◌∙◌, ap}
 use Rattle.ip_dissect.specs.Dissection.{dissected}
 use Rattle.ip_rewrite.specs.Writing.{rises_at}
 use Rattle.ip_rewrite.proofs.OrderLemmas.{rises_is}
-use Rattle.ip_rewrite.proofs.order.is_in_order.Goals as goal
+use Rattle.ip_rewrite.proofs.order.are_in_order.Goals as goal
 
 pub returns : goal.returns
 returns c =

@@ -11,12 +11,13 @@ use Rattle.ip_filter.specs.declared.parse_error.Expected.TheVariants as expects
 use Rattle.ip_filter.specs.Words.{Word}
 use Rattle.ip_filter.specs.Formula.{terms_of}
 use Rattle.ip_filter.specs.Qualifiers.{says, plain}
-use Rattle.ip_filter.specs.Grammar.{Operand, Conjunction, Disjunction, a_primitive, a_negation, a_group, an_operand, an_and, a_conjunction, an_or, operand_words, conjunction_words, filter_words, IsOperand, IsConjunction, IsDisjunction, operand_terms, conjunction_terms, terms_in, operand_depth, conjunction_depth, depth_of, IsFilter, IsPrimitive, is_and, is_or}
+use Rattle.ip_filter.specs.Operators.{is_and, is_or}
+use Rattle.ip_filter.specs.Grammar.{Operand, Conjunction, Disjunction, a_primitive, a_negation, a_group, an_operand, an_and, a_conjunction, an_or, operand_words, conjunction_words, filter_words, IsOperand, IsConjunction, IsDisjunction, operand_terms, conjunction_terms, terms_in, operand_depth, conjunction_depth, depth_of, IsFilter, IsPrimitive}
 use Rattle.ip_filter.specs.Reading.{ends_term, WantsArgument}
 use Rattle.ip_filter.specs.Parsing.{Open, State, before, after, nothing_open, HasRoom, Moves, by_not, by_open, by_primitive, by_and, by_or, by_close, may_follow, LeadsTo, ends, goes_on, with_operand, and_joined, or_joined, negate, open_terms, group_terms, state_terms, state_words, or_leaves, group_leaves, NeedsOperand, IsWhole, EndsGroup, GoesOnWith, IsDue}
 use Rattle.ip_filter.specs.Parsed.{AreFilter, BeginFilter, BeginLongFilter, IsExpected}
 use Rattle.ip_filter.proofs.CountLemmas.{some_in_operand, some_in_conjunction}
-use Rattle.ip_filter.proofs.QualifierLemmas.{later_last}
+use Rattle.ip_filter.proofs.QualifierLemmas.{later}
 use Rattle.ip_filter.proofs.StateLemmas.{Good, good_spelled, good_whole, good_operand, move_good, move_room, move_words, with_words, or_joined_words, or_joined_terms}
 
 -- ---- what ends a term
@@ -174,7 +175,7 @@ module _ (s : State) (good : Good s) (room : HasRoom s) (front next : List Word)
         )
     | inr g ↦ inr (subst BeginLongFilter (sym (append_assoc (state_words s) front next)) (goes_on_long s good (front ++ next) g))
   ]
-  due_is_expected e due = later_last (state_words s) front _ due
+  due_is_expected e due = later e (state_words s) front due
 
 -- an argument is expected in any state
 pub argument_is_due : (s : State) (front next : List Word) (e : Expected) → WantsArgument front e → IsDue s front next e

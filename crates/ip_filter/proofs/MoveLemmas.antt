@@ -12,7 +12,8 @@ use Rattle.ip_filter.specs.declared.keyword.Keyword.{Keyword}
 use Rattle.ip_filter.specs.declared.qualifiers.Qualifiers.{Qualifiers}
 use Rattle.ip_filter.specs.declared.qualifiers.Primitive.{Primitive}
 use Rattle.ip_filter.specs.Words.{Word, words}
-use Rattle.ip_filter.specs.Grammar.{Operand, Disjunction, Conjunction, a_primitive, keyword_of, IsPrimitive, is_not, filter_words, conjunction_words}
+use Rattle.ip_filter.specs.Operators.{is_not}
+use Rattle.ip_filter.specs.Grammar.{Operand, Disjunction, Conjunction, a_primitive, keyword_of, IsPrimitive, filter_words, conjunction_words}
 use Rattle.ip_filter.specs.Reading.{IsPlace, IsFirstWord, ReadsPrimitive, RefusesPrimitive, IsDueIn, ends_term}
 use Rattle.ip_filter.specs.Parsing.{Open, State, before, nothing_open, Moves, by_not, by_open, by_primitive, may_follow, LeadsTo, with_operand, group_leaves, IsDue, open_terms, group_terms, group_words, open_words, CountsFit, Holds, HoldsOperand, ReadsOn, RefusesFrom, level_of, levels_of, group_formulas, state_terms}
 use Rattle.arrayvec.specs.declared.array_vec.ArrayVec.{ArrayVec}

@@ -8,8 +8,8 @@ use Rattle.std.specs.Prelude.{Option}
 use Rattle.std.specs.Net.Grammar.{IsIpv4Text, IsIpv6Text}
 use Rattle.std.specs.declared.net.ipv4_addr.Ipv4Addr.{Ipv4Addr}
 use Rattle.std.specs.declared.net.ipv6_addr.Ipv6Addr.{Ipv6Addr}
-use Rattle.ip_spec.proofs.Common.{◌≡◌, ℕ, ◌≤◌, ◌-◌, List, [], ◌∷◌, ◌++◌, length, take, drop, refl, sym, ap, ◌∙◌, arith, take_rest}
-use Rattle.ip_filter.specs.Numbers.{slash_index, prefix_bits, IsNetworkText, IsHostText}
+use Rattle.ip_spec.proofs.Common.{◌≡◌, ℕ, ◌≤◌, ◌-◌, List, [], ◌∷◌, ◌++◌, length, take, drop, refl, sym, ap, ◌∙◌, arith, take_rest, inl, inr}
+use Rattle.ip_filter.specs.Numbers.{slash_index, prefix_bits, IsNetworkText, IsNetworkOrFront, IsHostText}
 use Rattle.ip_filter.specs.declared.network.Network.{Network}
 use Rattle.ip_filter.specs.declared.network.Network.TheVariants as network
 
@@ -69,3 +69,10 @@ one_network w (network.Ipv6 a j) (network.Ipv6 b k) p q =
     let address : a ≡ b = p.2 ∙ ap ipv6_bits same ∙ sym q.2 in
     let len : j ≡ k = same_bits _ _ j k refl p.3 q.3 in
     cc
+
+-- a word writes one network or front
+pub one_network_or_front : (w : List ℕ) (m n : Network) → IsNetworkOrFront w m → IsNetworkOrFront w n → m ≡ n
+one_network_or_front w m n p q = elim p [
+  | inl x ↦ elim q [ inl y ↦ one_network w m n x y | inr y ↦ absurd (y.0 m x) ]
+  | inr x ↦ elim q [ inl y ↦ absurd (x.0 n y) | inr y ↦ cc (sym x.1 ∙ y.1) ]
+]

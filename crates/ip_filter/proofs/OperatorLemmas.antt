@@ -14,7 +14,8 @@ use Rattle.ip_filter.specs.declared.compile.Compiler.{Compiler}
 use Rattle.ip_filter.specs.Words.{Word, words}
 use Rattle.ip_filter.specs.Formula.{Formula, either, terms_of}
 use Rattle.ip_filter.specs.Compiled.{terms_of_all, HasCompiled}
-use Rattle.ip_filter.specs.Grammar.{Operand, Conjunction, Disjunction, a_group, conjunction_formula, formula_of, conjunction_leaves, leaves_of, is_and, is_or}
+use Rattle.ip_filter.specs.Operators.{is_and, is_or}
+use Rattle.ip_filter.specs.Grammar.{Operand, Conjunction, Disjunction, a_group, conjunction_formula, formula_of, conjunction_leaves, leaves_of}
 use Rattle.ip_filter.specs.Reading.{IsFirstWord, IsOperator}
 use Rattle.ip_filter.specs.Parsing.{Open, State, before, after, Moves, by_and, by_or, by_close, with_operand, or_joined, or_formulas, group_formulas, state_terms, level_of, levels_of, CountsFit, Holds, HoldsOperand, HoldsGroup, IsFinished, ReadsOn, RefusesFrom, IsWhole, EndsGroup, IsDue}
 use Rattle.ip_filter.proofs.CountLemmas.{filter_count, group_count}

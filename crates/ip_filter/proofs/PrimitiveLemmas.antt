@@ -1,10 +1,13 @@
 -- Primitives: what begins with a word.
 use Rattle.std.specs.Prelude.{Option}
+use Rattle.std.specs.Option.{option_map, option_map_or}
 use Rattle.std.specs.Str.{bytes_eq}
 use Rattle.std.proofs.Common.{Some, None, is_some, codes, IsTrue}
 use Rattle.std.proofs.lemmas.List.{append_cancel_right}
-use Rattle.ip_spec.proofs.Common.{◌≡◌, ℕ, ◌+◌, ◌-◌, ◌<◌, ◌≤◌, List, [], ◌∷◌, ◌++◌, length, take, drop, refl, sym, ap, ◌∙◌, subst, arith, Bool, true, false, not, ◌&&◌, ◌||◌, inl, inr, cases_Bool, false≢true, append_assoc, append-nil, nat_le, nat_tests}
+use Rattle.ip_spec.proofs.Common.{◌≡◌, ℕ, ◌+◌, ◌-◌, ◌<◌, ◌≤◌, List, [], ◌∷◌, ◌++◌, length, take, drop, refl, sym, ap, ◌∙◌, subst, arith, Bool, true, false, not, ◌&&◌, ⊤, ◌||◌, inl, inr, if◌then◌else◌, cases_Bool, false≢true, append_assoc, append-nil}
 use Rattle.ip_filter.specs.declared.words.Word.{Word as FirstWord}
+use Rattle.ip_filter.specs.declared.network.Network.{Network}
+use Rattle.ip_filter.specs.declared.term.Ports.{Ports}
 use Rattle.ip_filter.specs.declared.parse_error.Expected.{Expected}
 use Rattle.ip_filter.specs.declared.parse_error.Expected.TheVariants as expects
 use Rattle.ip_filter.specs.declared.term.Term.{Term}
@@ -13,6 +16,7 @@ use Rattle.ip_filter.specs.declared.keyword.Keyword.{Keyword}
 use Rattle.ip_filter.specs.declared.keyword.Keyword.TheVariants as keyword
 use Rattle.ip_filter.specs.declared.qualifiers.Protocol.{Protocol}
 use Rattle.ip_filter.specs.declared.qualifiers.Direction.{Direction}
+use Rattle.ip_filter.specs.declared.qualifiers.Direction.TheVariants as direction
 use Rattle.ip_filter.specs.declared.qualifiers.Kind.{Kind}
 use Rattle.ip_filter.specs.declared.qualifiers.Kind.TheVariants as kind
 use Rattle.ip_filter.specs.declared.qualifiers.Qualifiers.{Qualifiers}
@@ -23,28 +27,25 @@ use Rattle.ip_filter.specs.declared.primitive.Head.{Head}
 use Rattle.ip_filter.specs.Words.{Word, words}
 use Rattle.ip_filter.specs.Numbers.{ports_of, protocol_of}
 use Rattle.ip_filter.specs.Formula.{terms_of}
-use Rattle.ip_filter.specs.Qualifiers.{protocol_named, protocol_term, direction_named, kind_of, sided, side_or_kind_at, qualifiers_at, network_term, ports_term, protocol_said, wanted, Identifies, says, says_named, plain, qualified}
-use Rattle.ip_filter.specs.Grammar.{alone, keyword_of, AreArguments, is_identifier, IsQualified, IsCarried, IsPrimitive, is_not, is_and, is_or}
-use Rattle.ip_filter.specs.Reading.{IsPlace, IsFirstWord, ReadsTerm, RefusesTerm, WantsArgument, ends_term, EndsBefore, ReadsQualifiers, ReadsPrimitive, RefusesPrimitive, BeginsPrimitive, IsDueIn}
+use Rattle.ip_filter.specs.Qualifiers.{protocol_named, protocol_term, multicast_term, multicast_with, direction_named, kind_of, of_any_protocol, directions_at, side_at, sided, side_or_kind_at, with_protocol, after_protocol, qualifiers_at, network_said, ports_said, protocol_said, wanted, Identifies, says, says_named, plain, qualified}
+use Rattle.ip_filter.specs.Operators.{is_not, is_and, is_or}
+use Rattle.ip_filter.specs.Grammar.{alone, keyword_of, AreArguments, is_identifier, IsQualified, IsCarried, IsPrimitive}
+use Rattle.ip_filter.specs.Reading.{IsPlace, IsSuffix, IsFirstWord, ReadsTerm, RefusesTerm, WantsArgument, ends_term, begins_no_operator, EndsBefore, fewest_named, fewest_terms, BeginsNoQualifiers, RefusesDirections, IsDueInSide, BeginSide, RefusesSide, ReadsQualifiers, ReadsPrimitive, RefusesPrimitive, BeginsPrimitive, IsDueIn}
 use Rattle.ip_filter.proofs.WordLemmas.{or_cases, either_word, same_word}
-use Rattle.ip_filter.proofs.PlaceLemmas.{end_of_end, place_in_end, from_place}
-use Rattle.ip_filter.proofs.NetworkTextLemmas.{one_network, some_network, some_host}
+use Rattle.ip_filter.proofs.PlaceLemmas.{whole, end_of_end, place_in_end, from_place}
+use Rattle.ip_filter.proofs.NetworkTextLemmas.{one_network, one_network_or_front, some_network, some_host}
 use Rattle.ip_filter.proofs.TermLemmas.{found_once}
-use Rattle.ip_filter.proofs.QualifierLemmas.{same_pair, ends_alike, qualifiers_more, has_protocol, none_with, none_after}
+use Rattle.ip_filter.proofs.QualifierLemmas.{no_word, later, ends_alike, direction_ends, side_without_kind, alone_at, same_pair, from_directions, from_map, qualifiers_more, has_protocol, none_after, direction_of_side, kind_of_side, first_of_side}
 
 -- ---- words that are something
 
--- a word that isn't this one
-no_word : {A : Type 0} (find : Word → Option A) (a : A) (w v : Word) → find w ≡ Some a → find v ≡ None → bytes_eq w v ≡ false
-no_word find a w v found none = elim (cases_Bool (bytes_eq w v)) [ inl t ↦ absurd (cc (sym found ∙ ap find (same_word w v t) ∙ none)) | inr f ↦ f ]
-
 -- a protocol is a keyword
-pub protocol_keyword : (w : Word) (p : Protocol) → protocol_named w ≡ Some p → keyword_of w ≡ Some (keyword.Alone (protocol_term p))
+pub protocol_keyword : (w : Word) (p : Protocol) → protocol_named w ≡ Some p → keyword_of w ≡ Some (keyword.Protocol p)
 protocol_keyword w p found =
     let bad = λ (v : Word) (none : protocol_named v ≡ None). no_word protocol_named p w v found none in
-    let is_alone : alone w ≡ Some (protocol_term p)
-    = grind (arith, bad (codes "fragment") refl, bad (codes "first-fragment") refl, bad (codes "later-fragment") refl, bad (codes "incomplete") refl, bad (codes "no-transport") refl, bad (codes "no-length") refl, found) in
-    grind (arith, bad (codes "fault") refl, bad (codes "truncated") refl, bad (codes "segments-left") refl, is_alone)
+    let is_none : alone w ≡ None
+    = grind (arith, bad (codes "fragment") refl, bad (codes "first-fragment") refl, bad (codes "later-fragment") refl, bad (codes "incomplete") refl, bad (codes "no-transport") refl, bad (codes "no-length") refl) in
+    grind (arith, bad (codes "fault") refl, bad (codes "truncated") refl, bad (codes "segments-left") refl, is_none, found)
 
 -- the words of qualifiers are bad keywords
 no_direction : (w : Word) (k : Keyword) → keyword_of w ≡ Some k → direction_named w ≡ None
@@ -73,6 +74,13 @@ side_goes_on w ws side e =
 starts_on : (ws : List Word) (w : Word) → IsTrue (is_some (side_or_kind_at (w ∷ []))) → IsTrue (ends_term ws) → take 1 ws ≡ w ∷ [] → ⊥
 starts_on [] w side e first = cc first
 starts_on (v ∷ ws) w side e first = let same : v ≡ w = cc first in side_goes_on v ws (subst (λ u. IsTrue (is_some (side_or_kind_at (u ∷ [])))) (sym same) side) e
+
+-- nor does `multicast`
+no_multicast : (p : Protocol) (w : Word) (t : Term) → multicast_with p w ≡ Some t → IsTrue (is_some (side_or_kind_at (w ∷ []))) → ⊥
+no_multicast p w t found side = elim (cases_Bool (bytes_eq w (codes "multicast"))) [
+  | inl is ↦ false≢true (sym (ap (λ u. is_some (side_or_kind_at (u ∷ []))) (same_word w (codes "multicast") is)) ∙ side)
+  | inr f ↦ cc (sym found ∙ ap (λ b. if b then multicast_term p else None) f)
+]
 
 -- ---- identifiers
 
@@ -117,20 +125,46 @@ no_protocol w none = here (protocol_named w) refl where
 
 -- an identifier is one
 pub identified_once : (k : Kind) (d : Direction) (w : Word) (m n : Named) → Identifies k d w m → Identifies k d w n → m ≡ n
-identified_once kind.Side d w m n p q = p.2 ∙ ap (λ a. named.Term (network_term d a)) (one_network w p.0 q.0 p.1 q.1) ∙ sym q.2
-identified_once kind.Network d w m n p q = p.2 ∙ ap (λ a. named.Term (network_term d a)) (one_network w p.0 q.0 p.1 q.1) ∙ sym q.2
-identified_once kind.Host d w m n p q = p.2 ∙ ap (λ a. named.Term (network_term d a)) (one_network w p.0 q.0 p.1.0 q.1.0) ∙ sym q.2
-identified_once kind.Ports d w m n p q = p.2 ∙ ap (λ r. named.Term (ports_term d r)) (found_once ports_of w p.0 q.0 p.1 q.1) ∙ sym q.2
+identified_once kind.Side d w m n p q = p.2 ∙ ap (network_said d) (one_network w p.0 q.0 p.1 q.1) ∙ sym q.2
+identified_once kind.Network d w m n p q = p.2 ∙ ap (network_said d) (one_network_or_front w p.0 q.0 p.1 q.1) ∙ sym q.2
+identified_once kind.Host d w m n p q = p.2 ∙ ap (network_said d) (one_network w p.0 q.0 p.1.0 q.1.0) ∙ sym q.2
+identified_once kind.Ports d w m n p q = p.2 ∙ ap (ports_said d) (found_once ports_of w p.0 q.0 p.1 q.1) ∙ sym q.2
 identified_once kind.Protocol d w m n p q = p.2 ∙ ap protocol_said (found_once protocol_of w p.0 q.0 p.1 q.1) ∙ sym q.2
 
--- some word is an identifier, which says one term
-pub some_identifier : (k : Kind) (d : Direction) → (w : Word) × (n : Named) × Identifies k d w n × EndsBefore k (w ∷ []) × (terms_of (says_named n) ≡ 1)
+one_at_least : (d : Direction) → 1 ≤ fewest_named d
+one_at_least direction.Both = omega arith
+one_at_least direction.Source = omega arith
+one_at_least direction.Destination = omega arith
+one_at_least direction.Either = omega arith
+
+-- networks and ports say two terms of both directions
+network_terms : (d : Direction) (a : Network) → terms_of (says_named (network_said d a)) ≡ fewest_named d
+network_terms direction.Source a = refl
+network_terms direction.Destination a = refl
+network_terms direction.Either a = refl
+network_terms direction.Both a = refl
+
+ports_terms : (d : Direction) (r : Ports) → terms_of (says_named (ports_said d r)) ≡ fewest_named d
+ports_terms direction.Source r = refl
+ports_terms direction.Destination r = refl
+ports_terms direction.Either r = refl
+ports_terms direction.Both r = refl
+
+side_terms : (k : Kind) (d : Direction) (w : Word) (m : Named) → (k ≡ kind.Protocol → ⊥) → Identifies k d w m → terms_of (says_named m) ≡ fewest_named d
+side_terms kind.Side d w m bad is = ap (λ x. terms_of (says_named x)) is.2 ∙ network_terms d is.0
+side_terms kind.Host d w m bad is = ap (λ x. terms_of (says_named x)) is.2 ∙ network_terms d is.0
+side_terms kind.Network d w m bad is = ap (λ x. terms_of (says_named x)) is.2 ∙ network_terms d is.0
+side_terms kind.Ports d w m bad is = ap (λ x. terms_of (says_named x)) is.2 ∙ ports_terms d is.0
+side_terms kind.Protocol d w m bad is = absurd (bad refl)
+
+-- some word is an identifier, which says few terms, and no operator
+pub some_identifier : (k : Kind) (d : Direction) → (w : Word) × (n : Named) × Identifies k d w n × EndsBefore d k (w ∷ []) × (terms_of (says_named n) ≤ fewest_named d) × IsTrue (begins_no_operator (w ∷ []))
 unfolding some_network some_host
-some_identifier kind.Side d = (some_network.0, named.Term (network_term d some_network.1), (some_network.1, some_network.2, refl), refl, refl)
-some_identifier kind.Network d = (some_network.0, named.Term (network_term d some_network.1), (some_network.1, some_network.2, refl), tt, refl)
-some_identifier kind.Host d = (some_host.0, named.Term (network_term d some_host.1), (some_host.1, some_host.2, refl), tt, refl)
-some_identifier kind.Ports d = (codes "0", named.Term (ports_term d (record { first = 0; last = 0 })), (record { first = 0; last = 0 }, refl, refl), tt, refl)
-some_identifier kind.Protocol d = (codes "6", named.Term (term.LeadsTo 6), (6, refl, refl), tt, refl)
+some_identifier kind.Side d = (some_network.0, network_said d some_network.1, (some_network.1, some_network.2, refl), (direction_ends d (some_network.0 ∷ []) refl, refl), omega (arith, network_terms d some_network.1), refl)
+some_identifier kind.Network d = (some_network.0, network_said d some_network.1, (some_network.1, inl some_network.2, refl), tt, omega (arith, network_terms d some_network.1), refl)
+some_identifier kind.Host d = (some_host.0, network_said d some_host.1, (some_host.1, some_host.2, refl), tt, omega (arith, network_terms d some_host.1), refl)
+some_identifier kind.Ports d = (codes "0", ports_said d (record { first = 0; last = 0 }), (record { first = 0; last = 0 }, refl, refl), tt, omega (arith, ports_terms d (record { first = 0; last = 0 })), refl)
+some_identifier kind.Protocol d = (codes "6", named.Term (term.LeadsTo 6), (6, refl, refl), tt, omega (arith, one_at_least d), refl)
 
 -- ---- terms
 
@@ -146,7 +180,7 @@ fragment_begins x k few =
     (codes "fragment", [], codes "fragment" ∷ [], plain term.Fragment, inl (term.Fragment, (keyword.Alone term.Fragment, refl, (refl, refl)), refl), omega (arith, few), refl)
 
 module _ (x : Option Qualifiers) (n : ℕ) (text : List ℕ) (w : FirstWord) (is : IsFirstWord text w) where
-  module _ (k : Keyword) (known : Some k ≡ keyword_of w.bytes.now) (none : (ws : List Word) → take 1 ws ≡ take 1 (words w.rest.now) → qualifiers_at (w.bytes.now ∷ ws) ≡ None) where
+  module _ (k : Keyword) (known : Some k ≡ keyword_of w.bytes.now) (none : BeginsNoQualifiers w.bytes.now w.rest.now) where
     -- what begins with the keyword is a term
     term_only : (q : Primitive) (v : Word) (vs more tail : List Word) → IsPrimitive x v vs q → v ∷ (vs ++ more) ≡ w.bytes.now ∷ tail → take 1 tail ≡ take 1 (words w.rest.now)
         → (v ≡ w.bytes.now) × (vs ++ more ≡ tail) × ((u : Term) × AreArguments k vs u × (q ≡ plain u))
@@ -160,7 +194,7 @@ module _ (x : Option Qualifiers) (n : ℕ) (text : List ℕ) (w : FirstWord) (is
               let one : t.0 ≡ k = cc (sym t.1 ∙ key) in
               (head, rest, (plain_term.0, subst (λ y. AreArguments y vs plain_term.0) one t.2, plain_term.2))
           | inr others ↦ elim others [
-            | inl y ↦ absurd (cc (sym (qualifiers_more (v ∷ vs) more y.0 y.1 [] y.3) ∙ ap qualifiers_at same ∙ none tail first))
+            | inl y ↦ absurd (cc (sym (qualifiers_more (v ∷ vs) more y.0 y.1 [] y.3) ∙ ap qualifiers_at same ∙ none.none tail first))
             | inr c ↦ absurd (cc (sym (identifier_no_keyword v c.4) ∙ key))
           ]
         ]
@@ -255,14 +289,14 @@ module _ (x : Option Qualifiers) (n : ℕ) (text : List ℕ) (w : FirstWord) (is
         expected = rw next_is (w.bytes.now, [], [], qualified y m, inr (inr (y, m, taken, refl, identifier, says_it, refl)), tt, refl);
       }
 
-  pub carried_refused : keyword_of w.bytes.now ≡ None → ((ws : List Word) → take 1 ws ≡ take 1 (words w.rest.now) → qualifiers_at (w.bytes.now ∷ ws) ≡ None) → bytes_eq w.bytes.now (codes "(") ≡ false
+  pub carried_refused : keyword_of w.bytes.now ≡ None → BeginsNoQualifiers w.bytes.now w.rest.now → bytes_eq w.bytes.now (codes "(") ≡ false
       → ((vs : List Word) (q : Primitive) → IsCarried x w.bytes.now vs q → ⊥) → RefusesPrimitive x n text w.left expects.Operand
   carried_refused none none2 sign bad = record {
     front = [];
     place = is.place;
     begins = λ few. fragment_begins x n few;
     none = λ q v vs ws more prim small ends same next.
-        bad vs q (carried_only none (λ us. none_with w.bytes.now (words w.rest.now) us (no_protocol w.bytes.now none) (none2 (words w.rest.now) refl)) q v vs (at_it v vs more ws same next) prim);
+        bad vs q (carried_only none (λ us. none_after w.bytes.now us (no_protocol w.bytes.now none) none2.side) q v vs (at_it v vs more ws same next) prim);
     expected = (refl, λ e. let same : w.bytes.now ≡ codes "(" = cc (sym next_is ∙ e) in false≢true (sym sign ∙ ap (λ u. bytes_eq u (codes "(")) same));
   }
 
@@ -280,33 +314,52 @@ same_terms y n e = ap (λ o. terms_of (says (qualified (record y { protocol = o 
 
 some_terms_named : (n : Named) → 1 ≤ terms_of (says_named n)
 some_terms_named (named.Term t) = omega arith
-some_terms_named (named.Header k) = omega arith
+some_terms_named (named.Both t u) = omega arith
+some_terms_named (named.Either t u) = omega arith
 
-module _ (x : Option Qualifiers) (n : ℕ) (text : List ℕ) (h : Head) (r : ReadsQualifiers text h) where
-  -- what begins with the qualifiers is bad term, and bad identifier alone
+fewer_terms : (y : Qualifiers) (n : Named) → terms_of (says_named n) ≤ terms_of (says (qualified y n))
+fewer_terms y n = here y.protocol refl where
+  here : (o : Option Protocol) → y.protocol ≡ o → terms_of (says_named n) ≤ terms_of (says (qualified y n))
+  here None e = omega (arith, same_terms y n e)
+  here (Some p) e = omega (arith, more_terms y p n e)
+
+-- what begins with a direction or a kind is qualified
+module _ (x : Option Qualifiers) (q : Primitive) (v : Word) (vs more : List Word) (prim : IsPrimitive x v vs q) where
+  side_only : IsTrue (is_some (side_or_kind_at (v ∷ []))) → IsQualified (v ∷ vs) q
+  side_only side = elim prim [
+    | inl t ↦ absurd (false≢true (sym (ap is_some (no_side_keyword v t.1.0 [] t.1.1)) ∙ side))
+    | inr others ↦ elim others [ inl y ↦ y | inr c ↦ absurd (false≢true (sym (ap is_some (identifier_no_side v c.4)) ∙ side)) ]
+  ]
+
+  -- after a protocol, too
+  protocol_only : (p : Protocol) → protocol_named v ≡ Some p → IsTrue (ends_term more) → (first : Word) (tail : List Word) → IsTrue (is_some (side_or_kind_at (first ∷ []))) → vs ++ more ≡ first ∷ tail
+      → IsQualified (v ∷ vs) q
+  protocol_only p named ends first tail side rest =
+      let known : keyword_of v ≡ Some (keyword.Protocol p) = protocol_keyword v p named in
+      elim prim [
+        | inl t ↦
+            let one : t.1.0 ≡ keyword.Protocol p = cc (sym t.1.1 ∙ known) in
+            absurd (elim (subst (λ y. AreArguments y vs t.0) one t.1.2) [
+              | inl none ↦ side_goes_on first tail side (subst (λ us. IsTrue (ends_term us)) (ap (λ us. us ++ more) (sym none.0) ∙ rest) ends)
+              | inr m ↦
+                  let head : m.1.0 ≡ first = cc (sym (ap (λ us. us ++ more) m.1.1) ∙ rest) in
+                  no_multicast p m.1.0 m.0 m.1.2 (subst (λ u. IsTrue (is_some (side_or_kind_at (u ∷ [])))) (sym head) side)
+            ])
+        | inr others ↦ elim others [ inl y ↦ y | inr c ↦ absurd (cc (sym (identifier_no_keyword v c.4) ∙ known)) ]
+      ]
+
+module _ (x : Option Qualifiers) (n : ℕ) (text : List ℕ) (h : Head) (r : ReadsQualifiers n text h) where
+  -- what begins with the qualifiers is no term, and no identifier alone
   qualified_only : (q : Primitive) (v : Word) (vs ws more : List Word) → IsPrimitive x v vs q → IsTrue (ends_term more) → v ∷ (vs ++ more) ≡ r.word ∷ (r.front ++ ws) → IsQualified (v ∷ vs) q
   qualified_only q v vs ws more p ends same =
       let head : v ≡ r.word = cc same in
       let rest : vs ++ more ≡ r.front ++ ws = cc same in
       by_protocol h.qualifiers.protocol refl head rest where
         by_protocol : (o : Option Protocol) → h.qualifiers.protocol ≡ o → v ≡ r.word → vs ++ more ≡ r.front ++ ws → IsQualified (v ∷ vs) q
-        by_protocol None e head rest =
-            let side = subst (λ u. IsTrue (is_some (side_or_kind_at (u ∷ [])))) (sym head) (r.any e) in
-            elim p [
-              | inl t ↦ absurd (false≢true (sym (ap is_some (no_side_keyword v t.1.0 [] t.1.1)) ∙ side))
-              | inr others ↦ elim others [ inl y ↦ y | inr c ↦ absurd (false≢true (sym (ap is_some (identifier_no_side v c.4)) ∙ side)) ]
-            ]
+        by_protocol None e head rest = side_only x q v vs more p (subst (λ u. IsTrue (is_some (side_or_kind_at (u ∷ [])))) (sym head) (r.any e))
         by_protocol (Some o) e head rest =
             let w = r.with o e in
-            let known : keyword_of v ≡ Some (keyword.Alone (protocol_term o)) = ap keyword_of head ∙ protocol_keyword r.word o w.3 in
-            elim p [
-              | inl t ↦
-                  let one : t.1.0 ≡ keyword.Alone (protocol_term o) = cc (sym t.1.1 ∙ known) in
-                  let none = subst (λ y. AreArguments y vs t.0) one t.1.2 in
-                  let after : more ≡ w.0 ∷ (w.1 ++ ws) = ap (λ us. us ++ more) (sym none.0) ∙ rest ∙ ap (λ us. us ++ ws) w.2 in
-                  absurd (side_goes_on w.0 (w.1 ++ ws) w.4 (subst (λ us. IsTrue (ends_term us)) after ends))
-              | inr others ↦ elim others [ inl y ↦ y | inr c ↦ absurd (cc (sym (identifier_no_keyword v c.4) ∙ known)) ]
-            ]
+            protocol_only x q v vs more p o (ap protocol_named head ∙ w.3) ends w.0 (w.1 ++ ws) w.4 (rest ∙ ap (λ us. us ++ ws) w.2)
 
   -- it is these qualifiers and an identifier
   identifier_after : (q : Primitive) (v : Word) (vs ws more : List Word) → IsPrimitive x v vs q → IsTrue (ends_term more) → v ∷ (vs ++ more) ≡ r.word ∷ (r.front ++ ws)
@@ -315,7 +368,7 @@ module _ (x : Option Qualifiers) (n : ℕ) (text : List ℕ) (h : Head) (r : Rea
   identifier_after q v vs ws more p ends same next =
       let y = qualified_only q v vs ws more p ends same in
       let left = qualifiers_more (v ∷ vs) more y.0 y.1 [] y.3 in
-      let right = r.at ws (ends_alike h.qualifiers.kind ws (words h.rest.now) next r.ends) in
+      let right = r.at ws (ends_alike h.qualifiers.direction h.qualifiers.kind ws (words h.rest.now) next r.ends) in
       let pair = same_pair (y.0, y.1 ∷ more) (h.qualifiers, ws) (sym left ∙ ap qualifiers_at same ∙ right) in
       let one : y.0 ≡ h.qualifiers = ap (λ g. g.0) pair in
       (y.1, y.2, sym (ap (λ g. g.1) pair), subst (λ z. Identifies z.kind z.direction y.1 y.2) one y.4, y.5 ∙ ap (λ z. qualified z y.2) one)
@@ -326,7 +379,7 @@ module _ (x : Option Qualifiers) (n : ℕ) (text : List ℕ) (h : Head) (r : Rea
     word = r.word;
     args = r.front ++ (w.bytes.now ∷ []);
     begins = r.begins ∙ ap (λ ws. r.word ∷ (r.front ++ ws)) is.begins ∙ ap (λ ws. r.word ∷ ws) (sym (append_assoc r.front (w.bytes.now ∷ []) (words w.rest.now)));
-    is = inr (inl (h.qualifiers, w.bytes.now, m, r.at (w.bytes.now ∷ []) (ends_alike h.qualifiers.kind (w.bytes.now ∷ []) (words h.rest.now) (ap (take 1) (sym is.begins)) r.ends), says_it, that));
+    is = inr (inl (h.qualifiers, w.bytes.now, m, r.at (w.bytes.now ∷ []) (ends_alike h.qualifiers.direction h.qualifiers.kind (w.bytes.now ∷ []) (words h.rest.now) (ap (take 1) (sym is.begins)) r.ends), says_it, that));
     few = λ room. few;
     end = end_of_end text h.rest.now r.end w.rest.now is.end;
     only = λ q v vs ws more prim ends same next.
@@ -340,105 +393,248 @@ module _ (x : Option Qualifiers) (n : ℕ) (text : List ℕ) (h : Head) (r : Rea
   }
 
   -- some identifier can follow
-  some_follows : (o : Option Protocol) → h.qualifiers.protocol ≡ o → (is_some o ≡ true → n < 63) → n < 64 → BeginsPrimitive x (r.word ∷ r.front) (λ p. n + terms_of (says p) ≤ 64)
-  some_follows o e fewer few =
+  some_follows : n < 64 → BeginsPrimitive x (r.word ∷ r.front) (λ p. n + terms_of (says p) ≤ 64)
+  some_follows few =
       let id = some_identifier h.qualifiers.kind h.qualifiers.direction in
-      (r.word, r.front ++ (id.0 ∷ []), id.0 ∷ [], qualified h.qualifiers id.1, inr (inl (h.qualifiers, id.0, id.1, r.at (id.0 ∷ []) id.3, id.2, refl)), small o e fewer id.1 id.4, refl) where
-        small : (o : Option Protocol) → h.qualifiers.protocol ≡ o → (is_some o ≡ true → n < 63) → (m : Named) → terms_of (says_named m) ≡ 1 → n + terms_of (says (qualified h.qualifiers m)) ≤ 64
-        small None e fewer m one = omega (arith, few, one, same_terms h.qualifiers m e)
-        small (Some p) e fewer m one = omega (arith, fewer refl, one, more_terms h.qualifiers p m e)
+      (r.word, r.front ++ (id.0 ∷ []), id.0 ∷ [], qualified h.qualifiers id.1, inr (inl (h.qualifiers, id.0, id.1, r.at (id.0 ∷ []) id.3, id.2, refl)), small h.qualifiers.protocol refl id.1 id.4 (r.room few), refl) where
+        small : (o : Option Protocol) → h.qualifiers.protocol ≡ o → (m : Named) → terms_of (says_named m) ≤ fewest_named h.qualifiers.direction → n + fewest_terms h.qualifiers ≤ 64
+            → n + terms_of (says (qualified h.qualifiers m)) ≤ 64
+        small None e m one room = omega (arith, one, room, same_terms h.qualifiers m e)
+        small (Some p) e m one room = omega (arith, one, subst (λ o. n + (option_map_or (λ p. 1) o 0 + fewest_named h.qualifiers.direction) ≤ 64) e room, more_terms h.qualifiers p m e)
 
-  module _ (fewer : is_some h.qualifiers.protocol ≡ true → n < 63) where
-    -- bad identifier that the text has there can follow
-    module _ (left : ℕ) (place : IsPlace h.rest.now [] left)
-        (bad : (id : Word) (m : Named) → take 1 (words h.rest.now) ≡ id ∷ [] → Identifies h.qualifiers.kind h.qualifiers.direction id m → n + terms_of (says (qualified h.qualifiers m)) ≤ 64 → ⊥) where
-      pub identifier_refused : (e : Expected) → IsDueIn x (r.word ∷ r.front) (take 1 (words h.rest.now)) e → RefusesPrimitive x n text left e
-      identifier_refused e due =
-          let at : words h.rest.now ≡ words (drop (length text - left) text) = place.words_before ∙ ap words (from_place text h.rest.now r.end left place.within) in
-          record {
-            front = r.word ∷ r.front;
-            place = subst (λ us. IsPlace text us left) (nothing_after (r.word ∷ r.front)) (place_in_end text h.rest.now r.end (r.word ∷ r.front) [] left r.begins place);
-            begins = λ few. some_follows h.qualifiers.protocol refl fewer few;
-            none = λ q v vs ws more prim small ends same next.
-                let found = identifier_after q v vs ws more prim ends same (next ∙ ap (take 1) (sym at)) in
-                bad found.0 found.1 (ap (take 1) at ∙ sym next ∙ ap (take 1) found.2) found.3 (subst (λ z. n + terms_of (says z) ≤ 64) found.4 small);
-            expected = subst (λ us. IsDueIn x (r.word ∷ r.front) (take 1 us) e) at due;
-          } where
-            nothing_after : (us : List Word) → us ++ [] ≡ us
-            nothing_after [] = refl
-            nothing_after (u ∷ us) = ap (λ vs. u ∷ vs) (nothing_after us)
+  -- bad identifier that the text has there can follow
+  module _ (left : ℕ) (place : IsPlace h.rest.now [] left)
+      (bad : (id : Word) (m : Named) → take 1 (words h.rest.now) ≡ id ∷ [] → Identifies h.qualifiers.kind h.qualifiers.direction id m → n + terms_of (says (qualified h.qualifiers m)) ≤ 64 → ⊥) where
+    pub identifier_refused : (e : Expected) → IsDueIn x (r.word ∷ r.front) (take 1 (words h.rest.now)) e → RefusesPrimitive x n text left e
+    identifier_refused e due =
+        let at : words h.rest.now ≡ words (drop (length text - left) text) = place.words_before ∙ ap words (from_place text h.rest.now r.end left place.within) in
+        record {
+          front = r.word ∷ r.front;
+          place = subst (λ us. IsPlace text us left) (nothing_after (r.word ∷ r.front)) (place_in_end text h.rest.now r.end (r.word ∷ r.front) [] left r.begins place);
+          begins = λ few. some_follows few;
+          none = λ q v vs ws more prim small ends same next.
+              let found = identifier_after q v vs ws more prim ends same (next ∙ ap (take 1) (sym at)) in
+              bad found.0 found.1 (ap (take 1) at ∙ sym next ∙ ap (take 1) found.2) found.3 (subst (λ z. n + terms_of (says z) ≤ 64) found.4 small);
+          expected = subst (λ us. IsDueIn x (r.word ∷ r.front) (take 1 us) e) at due;
+        } where
+          nothing_after : (us : List Word) → us ++ [] ≡ us
+          nothing_after [] = refl
+          nothing_after (u ∷ us) = ap (λ vs. u ∷ vs) (nothing_after us)
 
-    pub identifier_missing : (left : ℕ) (e : Expected) → (words h.rest.now ≡ []) × IsPlace h.rest.now [] left × (e ≡ wanted h.qualifiers.kind) → RefusesPrimitive x n text left e
-    identifier_missing left e a =
-        identifier_refused left a.1 (λ id m next says_it few. cc (sym next ∙ ap (take 1) a.0)) e
-        (due_argument x (r.word ∷ r.front) _ e (subst (WantsArgument (r.word ∷ r.front)) (sym a.2) r.wants))
+  pub identifier_missing : (left : ℕ) (e : Expected) → (words h.rest.now ≡ []) × IsPlace h.rest.now [] left × (e ≡ wanted h.qualifiers.kind) → RefusesPrimitive x n text left e
+  identifier_missing left e a =
+      identifier_refused left a.1 (λ id m next says_it few. cc (sym next ∙ ap (take 1) a.0)) e
+      (due_argument x (r.word ∷ r.front) _ e (subst (WantsArgument (r.word ∷ r.front)) (sym a.2) r.wants))
 
-    pub other_identifier : (w : FirstWord) → IsFirstWord h.rest.now w → ((m : Named) → Identifies h.qualifiers.kind h.qualifiers.direction w.bytes.now m → ⊥)
-        → RefusesPrimitive x n text w.left (wanted h.qualifiers.kind)
-    other_identifier w is bad =
-        identifier_refused w.left is.place
-        (λ id m next says_it few. let same : id ≡ w.bytes.now = cc (sym next ∙ ap (take 1) is.begins) in bad m (subst (λ u. Identifies h.qualifiers.kind h.qualifiers.direction u m) same says_it))
-        (wanted h.qualifiers.kind) (due_argument x (r.word ∷ r.front) _ (wanted h.qualifiers.kind) r.wants)
+  pub other_identifier : (w : FirstWord) → IsFirstWord h.rest.now w → ((m : Named) → Identifies h.qualifiers.kind h.qualifiers.direction w.bytes.now m → ⊥)
+      → RefusesPrimitive x n text w.left (wanted h.qualifiers.kind)
+  other_identifier w is bad =
+      identifier_refused w.left is.place
+      (λ id m next says_it few. let same : id ≡ w.bytes.now = cc (sym next ∙ ap (take 1) is.begins) in bad m (subst (λ u. Identifies h.qualifiers.kind h.qualifiers.direction u m) same says_it))
+      (wanted h.qualifiers.kind) (due_argument x (r.word ∷ r.front) _ (wanted h.qualifiers.kind) r.wants)
 
-    pub long_identifier : (w : FirstWord) → IsFirstWord h.rest.now w → (m : Named) → Identifies h.qualifiers.kind h.qualifiers.direction w.bytes.now m → (p : Primitive) → p ≡ qualified h.qualifiers m
-        → 64 < n + terms_of (says p) → RefusesPrimitive x n text w.left expects.FewerTerms
-    long_identifier w is m says_it p that long =
-        let first : take 1 (words h.rest.now) ≡ w.bytes.now ∷ [] = ap (take 1) is.begins in
-        identifier_refused w.left is.place
-        (λ id o next other few.
-        let same : id ≡ w.bytes.now = cc (sym next ∙ first) in
-        let one = identified_once h.qualifiers.kind h.qualifiers.direction w.bytes.now o m (subst (λ u. Identifies h.qualifiers.kind h.qualifiers.direction u o) same other) says_it in
-        omega (arith, long, few, ap (λ z. terms_of (says (qualified h.qualifiers z))) one, ap (λ z. terms_of (says z)) that))
-        expects.FewerTerms (rw first (
-          r.word,
-          r.front ++ (w.bytes.now ∷ []),
-          [],
-          qualified h.qualifiers m,
-          inr (inl (h.qualifiers, w.bytes.now, m, r.at (w.bytes.now ∷ []) (ends_alike h.qualifiers.kind (w.bytes.now ∷ []) (words h.rest.now) (sym first) r.ends), says_it, refl)),
-          tt,
-          sym (append-nil ((r.word ∷ r.front) ++ (w.bytes.now ∷ []))),
-        ))
+  pub long_identifier : (w : FirstWord) → IsFirstWord h.rest.now w → (m : Named) → Identifies h.qualifiers.kind h.qualifiers.direction w.bytes.now m → (p : Primitive) → p ≡ qualified h.qualifiers m
+      → 64 < n + terms_of (says p) → RefusesPrimitive x n text w.left expects.FewerTerms
+  long_identifier w is m says_it p that long =
+      let first : take 1 (words h.rest.now) ≡ w.bytes.now ∷ [] = ap (take 1) is.begins in
+      identifier_refused w.left is.place
+      (λ id o next other few.
+      let same : id ≡ w.bytes.now = cc (sym next ∙ first) in
+      let one = identified_once h.qualifiers.kind h.qualifiers.direction w.bytes.now o m (subst (λ u. Identifies h.qualifiers.kind h.qualifiers.direction u o) same other) says_it in
+      omega (arith, long, few, ap (λ z. terms_of (says (qualified h.qualifiers z))) one, ap (λ z. terms_of (says z)) that))
+      expects.FewerTerms (rw first (
+        r.word,
+        r.front ++ (w.bytes.now ∷ []),
+        [],
+        qualified h.qualifiers m,
+        inr (inl (h.qualifiers, w.bytes.now, m, r.at (w.bytes.now ∷ []) (ends_alike h.qualifiers.direction h.qualifiers.kind (w.bytes.now ∷ []) (words h.rest.now) (sym first) r.ends), says_it, refl)),
+        tt,
+        sym (append-nil ((r.word ∷ r.front) ++ (w.bytes.now ∷ []))),
+      ))
+
+-- ---- where no qualifiers go on
+
+-- Around qualifiers of any protocol: the words `pre` before them, and what those make of them.
+record IsAround (pre : List Word) (c : ℕ) (around : Qualifiers → Qualifiers) (first : Word) : Type 0 where
+  kind : (y : Qualifiers) → (around y).kind ≡ y.kind
+  direction : (y : Qualifiers) → (around y).direction ≡ y.direction
+  terms : (y : Qualifiers) (m : Named) → y.protocol ≡ None → terms_of (says (qualified (around y) m)) ≡ c + terms_of (says_named m)
+  some_terms : (y : Qualifiers) (m : Named) → c + terms_of (says_named m) ≤ terms_of (says (qualified (around y) m))
+  there : (us : List Word) (y : Qualifiers) (vs : List Word) → side_or_kind_at (first ∷ us) ≡ Some (y, vs) → qualifiers_at (pre ++ first ∷ us) ≡ Some (around y, vs)
+  back : (us : List Word) (z : Qualifiers) (vs : List Word) → qualifiers_at (pre ++ first ∷ us) ≡ Some (z, vs) → (y : Qualifiers) × (side_or_kind_at (first ∷ us) ≡ Some (y, vs)) × (z ≡ around y)
+  only : (x : Option Qualifiers) (q : Primitive) (v : Word) (vs more us : List Word) → IsPrimitive x v vs q → IsTrue (ends_term more) → v ∷ (vs ++ more) ≡ pre ++ first ∷ us → IsQualified (v ∷ vs) q
+  word : Word
+  args : List Word → List Word
+  split : (us : List Word) → pre ++ first ∷ us ≡ word ∷ args us
+
+side_no_protocol : (w : Word) → IsTrue (is_some (side_or_kind_at (w ∷ []))) → protocol_named w ≡ None
+side_no_protocol w side = here (protocol_named w) refl where
+  here : (o : Option Protocol) → protocol_named w ≡ o → protocol_named w ≡ None
+  here None e = e
+  here (Some p) e = absurd (false≢true (sym (ap is_some (no_side_keyword w (keyword.Protocol p) [] (protocol_keyword w p e))) ∙ side))
+
+nothing_around : (first : Word) → IsTrue (is_some (side_or_kind_at (first ∷ []))) → IsAround [] 0 (λ y. y) first
+nothing_around first side =
+    let none = side_no_protocol first side in
+    record {
+      kind = λ y. refl;
+      direction = λ y. refl;
+      terms = λ y m e. omega (arith, same_terms y m e);
+      some_terms = λ y m. omega (arith, fewer_terms y m);
+      there = λ us y vs e. ap (λ o. after_protocol o first us) none ∙ e;
+      back = λ us z vs e. (z, ap (λ o. after_protocol o first us) (sym none) ∙ e, refl);
+      only = λ x q v vs more us prim ends same. let head : v ≡ first = cc same in side_only x q v vs more prim (subst (λ u. IsTrue (is_some (side_or_kind_at (u ∷ [])))) (sym head) side);
+      word = first;
+      args = λ us. us;
+      split = λ us. refl;
+    }
+
+abbrev of_protocol : Protocol → Qualifiers → Qualifiers
+of_protocol p y = record { protocol = Some p; direction = y.direction; kind = y.kind }
+
+protocol_around : (w : Word) (p : Protocol) → protocol_named w ≡ Some p → (first : Word) → IsTrue (is_some (side_or_kind_at (first ∷ []))) → IsAround (w ∷ []) 1 (of_protocol p) first
+protocol_around w p named first side = record {
+  kind = λ y. refl;
+  direction = λ y. refl;
+  terms = λ y m e. more_terms (of_protocol p y) p m refl;
+  some_terms = λ y m. omega (arith, more_terms (of_protocol p y) p m refl);
+  there = λ us y vs e. ap (λ o. after_protocol o w (first ∷ us)) named ∙ ap (option_map (with_protocol p)) e;
+  back = λ us z vs e. let found = from_map p (side_or_kind_at (first ∷ us)) z vs (ap (λ o. after_protocol o w (first ∷ us)) (sym named) ∙ e) in (found.0, found.1, sym found.2);
+  only = λ x q v vs more us prim ends same.
+      let head : v ≡ w = cc same in
+      let rest : vs ++ more ≡ first ∷ us = cc same in
+      protocol_only x q v vs more prim p (ap protocol_named head ∙ named) ends first us side rest;
+  word = w;
+  args = λ us. first ∷ us;
+  split = λ us. refl;
+}
+
+module _ (pre : List Word) (c : ℕ) (around : Qualifiers → Qualifiers) (first : Word) (a : IsAround pre c around first) (x : Option Qualifiers) where
+  begin_primitive : (Is : Primitive → Type 0) (ws rest : List Word) (y : Qualifiers) (id : Word) (m : Named) → side_or_kind_at (first ∷ (ws ++ rest)) ≡ Some (y, id ∷ []) → Identifies y.kind y.direction id m
+      → Is (qualified (around y) m) → BeginsPrimitive x (pre ++ first ∷ ws) Is
+  begin_primitive Is ws rest y id m e is holds =
+      let there : qualifiers_at (a.word ∷ a.args (ws ++ rest)) ≡ Some (around y, id ∷ []) = ap qualifiers_at (sym (a.split (ws ++ rest))) ∙ a.there (ws ++ rest) y (id ∷ []) e in
+      let identifies = subst (λ d. Identifies (around y).kind d id m) (sym (a.direction y)) (subst (λ k. Identifies k y.direction id m) (sym (a.kind y)) is) in
+      (a.word, a.args (ws ++ rest), rest, qualified (around y) m, inr (inl (around y, id, m, there, identifies, refl)), holds, sym (a.split (ws ++ rest)) ∙ sym (append_assoc pre (first ∷ ws) rest))
+
+module _ (x : Option Qualifiers) (n c k : ℕ) (text rest : List ℕ) (e : IsSuffix text rest) (pre : List Word) (before : words text ≡ pre ++ words rest) (around : Qualifiers → Qualifiers) (left : ℕ) (wanted : Expected)
+    (r : RefusesSide k rest left wanted) (a : IsAround pre c around r.first) (counts : k ≡ c + n) (fits : n < 64 → k < 64) where
+  at_place : drop (length rest - left) rest ≡ drop (length text - left) text
+  at_place = from_place text rest e left r.place.within
+
+  longer : (q : Primitive) (v : Word) (vs ws more : List Word) → IsPrimitive x v vs q → n + terms_of (says q) ≤ 64 → IsTrue (ends_term more) → v ∷ (vs ++ more) ≡ (pre ++ r.first ∷ r.front) ++ ws
+      → take 1 ws ≡ take 1 (words (drop (length text - left) text)) → ⊥
+  longer q v vs ws more prim small ends same next =
+      let all : v ∷ (vs ++ more) ≡ pre ++ r.first ∷ (r.front ++ ws) = same ∙ append_assoc pre (r.first ∷ r.front) ws in
+      let y = a.only x q v vs more (r.front ++ ws) prim ends all in
+      let b = a.back (r.front ++ ws) y.0 (y.1 ∷ more) (sym (ap qualifiers_at all) ∙ qualifiers_more (v ∷ vs) more y.0 y.1 [] y.3) in
+      let identifies = subst (λ k. Identifies k b.0.direction y.1 y.2) (a.kind b.0) (subst (λ d. Identifies (around b.0).kind d y.1 y.2) (a.direction b.0) (subst (λ z. Identifies z.kind z.direction y.1 y.2) b.2 y.4)) in
+      let long = r.none ws more b.0 y.1 y.2 (next ∙ ap (λ s. take 1 (words s)) (sym at_place)) b.1 identifies in
+      omega (arith, long, small, counts, ap (λ z. terms_of (says z)) y.5, ap (λ z. terms_of (says (qualified z y.2))) b.2, a.some_terms b.0 y.2)
+
+  due : (next : List Word) → IsDueInSide (r.first ∷ r.front) wanted (BeginSide (r.first ∷ (r.front ++ next)) (λ m. ⊤)) → IsDueIn x (pre ++ r.first ∷ r.front) next wanted
+  due next d = elim d [
+    | inl wants ↦ due_argument x (pre ++ r.first ∷ r.front) next wanted (later wanted pre (r.first ∷ r.front) wants)
+    | inr long ↦
+        let b = long.1 in
+        let begins = begin_primitive pre c around r.first a x (λ p. ⊤) (r.front ++ next) b.0 b.1 b.2 b.3 b.4 b.5 tt in
+        subst (IsDueIn x (pre ++ r.first ∷ r.front) next) (sym long.0) (subst (λ ws. BeginsPrimitive x ws (λ p. ⊤)) (sym (append_assoc pre (r.first ∷ r.front) next)) begins)
+  ]
+
+  refused_around : RefusesPrimitive x n text left wanted
+  refused_around = record {
+    front = pre ++ r.first ∷ r.front;
+    place = place_in_end text rest e pre (r.first ∷ r.front) left before r.place;
+    begins = λ few. let b = r.begins (fits few) in
+        begin_primitive pre c around r.first a x (λ p. n + terms_of (says p) ≤ 64) r.front b.0 b.1 b.2 b.3 b.4 b.5 (let small = b.7 in omega (arith, small, counts, a.terms b.1 b.3 b.6));
+    none = longer;
+    expected = due (take 1 (words (drop (length text - left) text))) (subst (λ s. IsDueInSide (r.first ∷ r.front) wanted (BeginSide (r.first ∷ (r.front ++ take 1 (words s))) (λ m. ⊤))) at_place r.expected);
+  }
+
+pub side_refused : (x : Option Qualifiers) (n : ℕ) (text : List ℕ) (left : ℕ) (e : Expected) → RefusesSide n text left e → RefusesPrimitive x n text left e
+side_refused x n text left e r = refused_around x n 0 n text text (whole text) [] refl (λ y. y) left e r (nothing_around r.first r.some) (omega arith) (λ few. few)
+
+module _ (x : Option Qualifiers) (n : ℕ) (text : List ℕ) (w : FirstWord) (is : IsFirstWord text w) (p : Protocol) (named : Some p ≡ protocol_named w.bytes.now) where
+  pub protocol_refused : (k left : ℕ) (e : Expected) → k ≡ n + 1 → n < 63 → RefusesSide k w.rest.now left e → RefusesPrimitive x n text left e
+  protocol_refused k left e counts fewer r =
+      refused_around x n 1 k text w.rest.now is.end (w.bytes.now ∷ []) is.begins (of_protocol p) left e r (protocol_around w.bytes.now p (sym named) r.first r.some) (omega (arith, counts)) (λ few. omega (arith, counts, fewer))
 
   -- after 63 terms nothing follows a protocol but what may follow a term
-  pub protocol_long : (p : Protocol) → h.qualifiers.protocol ≡ Some p → 63 ≤ n → RefusesPrimitive x n text h.left expects.FewerTerms
-  protocol_long p e many =
-      let w = r.with p e in
-      let place = w.5 in
-      let all : words text ≡ r.word ∷ w.0 ∷ (w.1 ++ words h.rest.now) = r.begins ∙ ap (λ us. r.word ∷ (us ++ words h.rest.now)) w.2 in
-      let after : words (drop (length text - h.left) text) ≡ w.0 ∷ (w.1 ++ words h.rest.now) = cc (sym place.words_before ∙ all) in
-      let first : take 1 (words (drop (length text - h.left) text)) ≡ w.0 ∷ [] = ap (take 1) after in
-      let id = some_identifier h.qualifiers.kind h.qualifiers.direction in
+  module _ (next : FirstWord) (after : IsFirstWord w.rest.now next) (side : IsTrue (is_some (side_or_kind_at (next.bytes.now ∷ [])))) (many : 63 ≤ n) where
+    next_there : take 1 (words (drop (length text - next.left) text)) ≡ next.bytes.now ∷ []
+    next_there = ap (λ s. take 1 (words s)) (sym (from_place text w.rest.now is.end next.left after.place.within)) ∙ ap (take 1) (sym after.place.words_before ∙ after.begins)
+
+    too_long : (q : Primitive) (v : Word) (vs ws more : List Word) → IsPrimitive x v vs q → n + terms_of (says q) ≤ 64 → IsTrue (ends_term more) → v ∷ (vs ++ more) ≡ w.bytes.now ∷ ws → take 1 ws ≡ next.bytes.now ∷ [] → ⊥
+    too_long q v vs [] more prim small ends same e = cc e
+    too_long q v vs (u ∷ us) more prim small ends same e =
+        let head : v ≡ w.bytes.now = cc same in
+        let rest : vs ++ more ≡ u ∷ us = cc same in
+        let first : u ≡ next.bytes.now = cc e in
+        let named_there : protocol_named v ≡ Some p = ap protocol_named head ∙ sym named in
+        let y = protocol_only x q v vs more prim p named_there ends u us (subst (λ l. IsTrue (is_some (side_or_kind_at (l ∷ [])))) (sym first) side) rest in
+        let two = more_terms y.0 p y.2 (has_protocol v vs p y.0 (y.1 ∷ []) named_there y.3) in
+        omega (arith, many, small, two, some_terms_named y.2, ap (λ z. terms_of (says z)) y.5)
+
+    begins_long : BeginsPrimitive x (w.bytes.now ∷ next.bytes.now ∷ []) (λ p. ⊤)
+    begins_long = elim (first_of_side next.bytes.now side) [
+      | inl d ↦
+          let id = some_identifier kind.Side d.0 in
+          from (of_any_protocol d.0 kind.Side) id.0 id.1
+          (ap (λ o. sided o (kind_of next.bytes.now) (id.0 ∷ [])) d.1 ∙ ap (option_map (λ f. side_at f.0 f.1)) (alone_at d.0 (id.0 ∷ []) id.5) ∙ ap Some (side_without_kind d.0 (id.0 ∷ []) id.3.1)) id.2
+      | inr k ↦
+          let id = some_identifier k.0 direction.Either in
+          from (of_any_protocol direction.Either k.0) id.0 id.1 (ap (λ o. sided o (kind_of next.bytes.now) (id.0 ∷ [])) k.1 ∙ ap (λ o. sided None o (id.0 ∷ [])) k.2) id.2
+    ] where
+      from : (y : Qualifiers) (id : Word) (m : Named) → side_or_kind_at (next.bytes.now ∷ id ∷ []) ≡ Some (y, id ∷ []) → Identifies y.kind y.direction id m → BeginsPrimitive x (w.bytes.now ∷ next.bytes.now ∷ []) (λ p. ⊤)
+      from y id m e identifies = begin_primitive (w.bytes.now ∷ []) 1 (of_protocol p) next.bytes.now (protocol_around w.bytes.now p (sym named) next.bytes.now side) x (λ p. ⊤) [] (id ∷ []) y id m e identifies tt
+
+    pub protocol_full : RefusesPrimitive x n text next.left expects.FewerTerms
+    protocol_full = record {
+      front = w.bytes.now ∷ [];
+      place = place_in_end text w.rest.now is.end (w.bytes.now ∷ []) [] next.left is.begins after.place;
+      begins = λ few. (w.bytes.now, [], [], plain (protocol_term p), inl (protocol_term p, (keyword.Protocol p, protocol_keyword w.bytes.now p (sym named), inl (refl, refl)), refl), omega (arith, few), refl);
+      none = λ q v vs ws more prim small ends same e. too_long q v vs ws more prim small ends same (e ∙ next_there);
+      expected = rw next_there begins_long;
+    }
+
+-- ---- where directions don't go on
+
+module _ (n : ℕ) (text : List ℕ) (w : FirstWord) (is : IsFirstWord text w) (d : Direction) (named : Some d ≡ direction_named w.bytes.now) where
+  by_directions : (ws : List Word) → side_or_kind_at (w.bytes.now ∷ ws) ≡ option_map (λ f. side_at f.0 f.1) (directions_at d ws)
+  by_directions ws = ap (λ o. sided o (kind_of w.bytes.now) ws) (sym named)
+
+  begin_side : (Is : Named → Type 0) (ws more : List Word) (f : Direction) → ((us : List Word) → directions_at d (ws ++ (more ++ us)) ≡ Some (f, us))
+      → ((m : Named) → terms_of (says_named m) ≤ fewest_named f → Is m) → BeginSide (w.bytes.now ∷ ws) Is
+  begin_side Is ws more f e holds =
+      let id = some_identifier kind.Side f in (
+        more ++ (id.0 ∷ []),
+        of_any_protocol f kind.Side,
+        id.0,
+        id.1,
+        by_directions (ws ++ (more ++ (id.0 ∷ []))) ∙ ap (option_map (λ f. side_at f.0 f.1)) (e (id.0 ∷ [])) ∙ ap Some (side_without_kind f (id.0 ∷ []) id.3.1),
+        id.2,
+        refl,
+        holds id.1 id.4,
+      )
+
+  pub directions_refused : (left : ℕ) (e : Expected) → RefusesDirections w.bytes.now d n w.rest.now left e → RefusesSide n text left e
+  directions_refused left e r =
+      let at = from_place text w.rest.now is.end left r.place.within in
       record {
-        front = r.word ∷ [];
-        place = place;
-        begins = λ few. (r.word, [], [], plain (protocol_term p), inl (protocol_term p, (keyword.Alone (protocol_term p), protocol_keyword r.word p w.3, (refl, refl)), refl), omega (arith, few), refl);
-        none = λ q v vs ws more prim small ends same next. nothing w.0 w.3 w.4 q v vs ws more prim small ends (cc same) (cc same) (next ∙ first);
-        expected = rw first (r.word, r.front ++ (id.0 ∷ []), w.1 ++ (id.0 ∷ []), qualified h.qualifiers id.1, inr (inl (h.qualifiers, id.0, id.1, r.at (id.0 ∷ []) id.3, id.2, refl)), tt, ap (λ us. r.word ∷ (us ++ (id.0 ∷ []))) w.2);
-      } where
-        nothing : (first : Word) → protocol_named r.word ≡ Some p → IsTrue (is_some (side_or_kind_at (first ∷ []))) → (q : Primitive) (v : Word) (vs ws more : List Word) → IsPrimitive x v vs q
-            → n + terms_of (says q) ≤ 64 → IsTrue (ends_term more) → v ≡ r.word → vs ++ more ≡ ws → take 1 ws ≡ first ∷ [] → ⊥
-        nothing first named side q v vs ws more prim small ends head rest next =
-            let known : keyword_of v ≡ Some (keyword.Alone (protocol_term p)) = ap keyword_of head ∙ protocol_keyword r.word p named in
-            elim prim [
-              | inl t ↦
-                  let one : t.1.0 ≡ keyword.Alone (protocol_term p) = cc (sym t.1.1 ∙ known) in
-                  let none = subst (λ y. AreArguments y vs t.0) one t.1.2 in
-                  let after : take 1 more ≡ first ∷ [] = ap (λ us. take 1 (us ++ more)) (sym none.0) ∙ ap (take 1) rest ∙ next in
-                  starts_on more first side ends after
-              | inr others ↦ elim others [
-                | inl y ↦
-                    let two = more_terms y.0 p y.2 (has_protocol v vs p y.0 (y.1 ∷ []) (ap protocol_named head ∙ named) y.3) in
-                    omega (arith, many, small, two, some_terms_named y.2, ap (λ z. terms_of (says z)) y.5)
-                | inr c ↦ absurd (cc (sym (identifier_no_keyword v c.4) ∙ known))
-              ]
-            ]
-
-  pub protocol_full : (is_some h.qualifiers.protocol && nat_le 63 n) ≡ true → RefusesPrimitive x n text h.left expects.FewerTerms
-  protocol_full full = here h.qualifiers.protocol refl full where
-    here : (o : Option Protocol) → h.qualifiers.protocol ≡ o → (is_some o && nat_le 63 n) ≡ true → RefusesPrimitive x n text h.left expects.FewerTerms
-    here None e full = absurd (false≢true full)
-    here (Some p) e full = protocol_long p e (grind (arith, nat_tests, full))
-
-pub few_of : (o : Option Protocol) (n : ℕ) → (is_some o && nat_le 63 n) ≡ false → is_some o ≡ true → n < 63
-few_of None n room some = absurd (false≢true some)
-few_of (Some p) n room some = grind (arith, nat_tests, room)
+        first = w.bytes.now;
+        front = r.front;
+        place = place_in_end text w.rest.now is.end (w.bytes.now ∷ []) r.front left is.begins r.place;
+        some = ap (λ o. is_some (sided o (kind_of w.bytes.now) [])) (sym named);
+        begins = λ few. let b = r.begins few in let room = b.3 in begin_side (λ m. n + terms_of (says_named m) ≤ 64) r.front b.0 b.1 b.2 (λ m small. omega (arith, room, small));
+        none = λ ws more x id m next there identifies.
+            let f = from_directions (directions_at d (r.front ++ ws)) x (id ∷ more) (sym (by_directions (r.front ++ ws)) ∙ there) in
+            let long = r.none ws f.1 f.0 (next ∙ ap (λ s. take 1 (words s)) (sym at)) f.2 in
+            let both_sides : x.direction ≡ direction.Both = ap (λ g. g.0.direction) (sym f.3) ∙ direction_of_side f.0 f.1 ∙ long.0 in
+            let two = side_terms x.kind x.direction id m (λ p. kind_of_side f.0 f.1 (ap (λ g. g.0.kind) f.3 ∙ p)) identifies in
+            let many = long.1 in
+            omega (arith, many, two, ap fewest_named both_sides);
+        expected = elim r.expected [
+          | inl wants ↦ inl wants
+          | inr b ↦ inr (b.0, subst (λ s. BeginSide (w.bytes.now ∷ (r.front ++ take 1 (words s))) (λ m. ⊤)) at (begin_side (λ m. ⊤) _ b.1.0 b.1.1 b.1.2 (λ m small. tt)))
+        ];
+      }

@@ -5,7 +5,8 @@ use Rattle.std.specs.Option.{option_map_or}
 use Rattle.ip_spec.proofs.Common.{◌≡◌, ℕ, ◌+◌, ◌≤◌, List, [], ◌∷◌, ◌++◌, length, refl, sym, ap, ◌∙◌, arith, append_assoc, append-nil}
 use Rattle.ip_filter.specs.Words.{Word}
 use Rattle.ip_filter.specs.declared.qualifiers.Qualifiers.{Qualifiers}
-use Rattle.ip_filter.specs.Grammar.{Operand, Conjunction, Disjunction, a_primitive, a_group, operand_words, conjunction_words, filter_words, IsOperand, IsConjunction, IsDisjunction, terms_in, conjunction_terms, operand_depth, conjunction_depth, depth_of, is_not, is_and, is_or, IsFilter}
+use Rattle.ip_filter.specs.Operators.{is_not, is_and, is_or}
+use Rattle.ip_filter.specs.Grammar.{Operand, Conjunction, Disjunction, a_primitive, a_group, operand_words, conjunction_words, filter_words, IsOperand, IsConjunction, IsDisjunction, terms_in, conjunction_terms, operand_depth, conjunction_depth, depth_of, IsFilter}
 use Rattle.ip_filter.specs.Parsing.{Open, State, before, after, Moves, by_not, by_open, by_primitive, by_and, by_or, by_close, with_operand, and_joined, or_joined, negate, or_leaves, and_leaves, group_leaves, HasRoom, open_words, group_words, state_words}
 use Rattle.ip_filter.proofs.OperandLemmas.{joined_terms}
 

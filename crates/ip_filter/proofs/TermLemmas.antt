@@ -2,7 +2,7 @@
 use Rattle.std.specs.Prelude.{Option}
 use Rattle.std.specs.Str.{bytes_eq}
 use Rattle.std.proofs.Common.{Some, None, is_some, codes, IsTrue}
-use Rattle.ip_spec.proofs.Common.{◌≡◌, ℕ, List, [], ◌∷◌, ◌++◌, take, refl, sym, ap, ◌∙◌, subst, ◌||◌, inl, inr}
+use Rattle.ip_spec.proofs.Common.{◌≡◌, ℕ, List, [], ◌∷◌, ◌++◌, take, refl, sym, ap, ◌∙◌, subst, ◌||◌, ◌⊎◌, inl, inr}
 use Rattle.ip_filter.specs.declared.term.Comparison.{Comparison}
 use Rattle.ip_filter.specs.declared.term.Comparison.TheVariants as by
 use Rattle.ip_filter.specs.declared.term.Quantity.{Quantity}
@@ -12,6 +12,7 @@ use Rattle.ip_filter.specs.declared.term.Term.TheVariants as term
 use Rattle.ip_filter.specs.declared.keyword.Keyword.{Keyword}
 use Rattle.ip_filter.specs.declared.keyword.Keyword.TheVariants as keyword
 use Rattle.ip_filter.specs.declared.keyword.NumberKeyword.TheVariants as number
+use Rattle.ip_filter.specs.declared.qualifiers.Protocol.{Protocol}
 use Rattle.ip_filter.specs.declared.parse_error.Expected.{Expected}
 use Rattle.ip_filter.specs.declared.parse_error.Expected.TheVariants as expects
 use Rattle.ip_base.specs.declared.err.layer.Layer.{Layer}
@@ -22,7 +23,9 @@ use Rattle.ip_filter.specs.declared.layers.LayerError.TheVariants as error
 use Rattle.ip_filter.specs.Words.{Word, words}
 use Rattle.ip_filter.specs.Numbers.{version_named, header_named, protocol_of, number_up_to, tcp_flags_of, names_in, comparison_of, fault_kind_of}
 use Rattle.ip_filter.specs.IcmpTypes.{icmp_type_of, icmp6_type_of}
-use Rattle.ip_filter.specs.Grammar.{AreArguments, IsOne, Finds, Make, AreCompared, layer_with, is_and, is_or}
+use Rattle.ip_filter.specs.Qualifiers.{protocol_term, multicast_with}
+use Rattle.ip_filter.specs.Operators.{is_and, is_or}
+use Rattle.ip_filter.specs.Grammar.{AreArguments, IsOne, Finds, Make, AreCompared, layer_with}
 use Rattle.ip_filter.specs.Reading.{IsFirstWord, BeginsOtherwise, ReadsArgument, RefusesArgument, ReadsArguments, RefusesArguments, ReadsTerm, RefusesTerm, WantsArgument, IsKeyword, IsCountKeyword, IsNumberKeyword, IsByteKeyword, ends_term}
 use Rattle.ip_filter.proofs.WordLemmas.{or_cases, either_word, same_word}
 use Rattle.ip_filter.proofs.PlaceLemmas.{whole, end_of_end, from_place, place_in_end}
@@ -160,38 +163,67 @@ no_word_is_no_layer x text e = no_word (layer_with x) text e
 pub other_is_no_layer : (x : LayerError) (text : List ℕ) (w : FirstWord) → IsFirstWord text w → None ≡ layer_with x w.bytes.now → BeginsOtherwise (layer_with x) text
 other_is_no_layer x text w is none = other_word (layer_with x) text w is none
 
--- ---- `truncated`, which a layer may follow
+pub no_word_is_no_multicast : (p : Protocol) (text : List ℕ) → words text ≡ [] → BeginsOtherwise (multicast_with p) text
+no_word_is_no_multicast p text e = no_word (multicast_with p) text e
+
+pub other_is_no_multicast : (p : Protocol) (text : List ℕ) (w : FirstWord) → IsFirstWord text w → None ≡ multicast_with p w.bytes.now → BeginsOtherwise (multicast_with p) text
+other_is_no_multicast p text w is none = other_word (multicast_with p) text w is none
+
+-- ---- a keyword that one word may follow
+
+-- The keyword k alone is the term `plain`, and with a word in which `find` finds a value the term that `make` makes of it.
+abbrev MayHaveOne : {A : Type 0} → (Word → Option A) → (A → Term) → Term → List Word → Term → Type 0
+MayHaveOne find make plain args t = ((args ≡ []) × (t ≡ plain)) ⊎ Make (IsOne (Finds find)) make args t
+
+module _ {A : Type 0} (k : Keyword) (find : Word → Option A) (make : A → Term) (plain : Term) (spelled : (us : List Word) (t : Term) → MayHaveOne find make plain us t → AreArguments k us t)
+    (inverts : (us : List Word) (t : Term) → AreArguments k us t → MayHaveOne find make plain us t) where
+  with_one : ((w : Word) (ws : List Word) (a : A) → find w ≡ Some a → IsTrue (ends_term (w ∷ ws)) → ⊥) → (text rest : List ℕ) (a : A) → ReadsArgument (Finds find) text a rest
+      → ReadsTerm k text (make a) rest
+  with_one goes text rest a r = record {
+    args = r.word ∷ [];
+    begins = r.begins;
+    arguments = spelled (r.word ∷ []) (make a) (inr (a, (r.word, refl, r.writes), refl));
+    end = r.end;
+    only = λ u us ws more au ends same next. elim (inverts us u au) [
+      | inl alone ↦
+          let all : more ≡ r.word ∷ ws = sym (ap (λ x. x ++ more) alone.0) ∙ same in
+          absurd (goes r.word ws a r.writes (subst (λ x. IsTrue (ends_term x)) all ends))
+      | inr f ↦
+          let head : f.1.0 ≡ r.word = cc (sym (ap (λ x. x ++ more) f.1.1) ∙ same) in
+          let again : f.0 ≡ a = found_once find r.word f.0 a (subst (λ x. Finds find x f.0) head f.1.2) r.writes in
+          (f.2 ∙ ap make again, f.1.1 ∙ ap (λ x. x ∷ []) head)
+    ];
+  }
+
+  without_one : (text : List ℕ) → BeginsOtherwise find text → ReadsTerm k text plain text
+  without_one text none = record {
+    args = [];
+    begins = refl;
+    arguments = spelled [] plain (inl (refl, refl));
+    end = whole text;
+    only = λ u us ws more au ends same next. elim (inverts us u au) [
+      | inl alone ↦ (alone.1, alone.0)
+      | inr f ↦
+          let head : take 1 (words text) ≡ f.1.0 ∷ [] = sym next ∙ ap (take 1) (sym same) ∙ ap (λ x. take 1 (x ++ more)) f.1.1 in
+          absurd (cc (sym f.1.2 ∙ none f.1.0 head))
+    ];
+  }
 
 pub truncated_at : (text rest : List ℕ) (l : Layer) → ReadsArgument (Finds (layer_with error.Truncated)) text l rest → ReadsTerm keyword.Truncated text (term.TruncatedAt l) rest
-truncated_at text rest l r = record {
-  args = r.word ∷ [];
-  begins = r.begins;
-  arguments = inr (l, (r.word, refl, r.writes), refl);
-  end = r.end;
-  only = λ u us ws more au ends same next. elim au [
-    | inl plain ↦
-        let all : more ≡ r.word ∷ ws = sym (ap (λ x. x ++ more) plain.0) ∙ same in
-        absurd (layer_goes_on error.Truncated r.word ws l r.writes (subst (λ x. IsTrue (ends_term x)) all ends))
-    | inr f ↦
-        let head : f.1.0 ≡ r.word = cc (sym (ap (λ x. x ++ more) f.1.1) ∙ same) in
-        let again : f.0 ≡ l = found_once (layer_with error.Truncated) r.word f.0 l (subst (λ x. Finds (layer_with error.Truncated) x f.0) head f.1.2) r.writes in
-        (f.2 ∙ ap term.TruncatedAt again, f.1.1 ∙ ap (λ x. x ∷ []) head)
-  ];
-}
+truncated_at = with_one keyword.Truncated (layer_with error.Truncated) term.TruncatedAt term.Truncated (λ us t m. m) (λ us t m. m) (layer_goes_on error.Truncated)
 
 pub plain_truncated : (text : List ℕ) → BeginsOtherwise (layer_with error.Truncated) text → ReadsTerm keyword.Truncated text term.Truncated text
-plain_truncated text none = record {
-  args = [];
-  begins = refl;
-  arguments = inl (refl, refl);
-  end = whole text;
-  only = λ u us ws more au ends same next. elim au [
-    | inl plain ↦ (plain.1, plain.0)
-    | inr f ↦
-        let head : take 1 (words text) ≡ f.1.0 ∷ [] = sym next ∙ ap (take 1) (sym same) ∙ ap (λ x. take 1 (x ++ more)) f.1.1 in
-        absurd (cc (sym f.1.2 ∙ none f.1.0 head))
-  ];
-}
+plain_truncated = without_one keyword.Truncated (layer_with error.Truncated) term.TruncatedAt term.Truncated (λ us t m. m) (λ us t m. m)
+
+module _ (p : Protocol) where
+  multicast_goes_on : (w : Word) (ws : List Word) (t : Term) → multicast_with p w ≡ Some t → IsTrue (ends_term (w ∷ ws)) → ⊥
+  multicast_goes_on = goes_on (multicast_with p) refl refl refl refl refl
+
+  pub multicast_read : (text rest : List ℕ) (t : Term) → ReadsArgument (Finds (multicast_with p)) text t rest → ReadsTerm (keyword.Protocol p) text t rest
+  multicast_read = with_one (keyword.Protocol p) (multicast_with p) (λ u. u) (protocol_term p) (λ us t m. m) (λ us t m. m) multicast_goes_on
+
+  pub plain_protocol : (text : List ℕ) → BeginsOtherwise (multicast_with p) text → ReadsTerm (keyword.Protocol p) text (protocol_term p) text
+  plain_protocol = without_one (keyword.Protocol p) (multicast_with p) (λ u. u) (protocol_term p) (λ us t m. m) (λ us t m. m)
 
 -- ---- `fault`, which a kind may follow, and then a layer
 

@@ -20,10 +20,11 @@ use Rattle.ip_filter.specs.declared.layers.LayerError.{LayerError}
 use Rattle.ip_filter.specs.declared.layers.LayerError.TheVariants as error
 use Rattle.ip_filter.specs.Layers.{can_have}
 use Rattle.ip_filter.specs.Words.{Word}
+use Rattle.ip_filter.specs.Operators.{is_not, is_and, is_or}
 use Rattle.ip_filter.specs.Numbers.{version_named, header_named, protocol_of, number_up_to, tcp_flags_of, comparison_of, fault_kind_of, layer_named}
 use Rattle.ip_filter.specs.IcmpTypes.{icmp_type_of, icmp6_type_of}
 use Rattle.ip_filter.specs.Formula.{Formula, negation, both, either, terms_of}
-use Rattle.ip_filter.specs.Qualifiers.{protocol_term, protocol_named, side_or_kind_at, qualifiers_at, Identifies, says, plain, qualified}
+use Rattle.ip_filter.specs.Qualifiers.{protocol_term, multicast_with, protocol_named, side_or_kind_at, qualifiers_at, Identifies, says, plain, qualified}
 
 -- ---- keywords
 
@@ -36,7 +37,7 @@ alone w =
     else if bytes_eq w (codes "incomplete") then Some term.Incomplete
     else if bytes_eq w (codes "no-transport") then Some term.NoTransport
     else if bytes_eq w (codes "no-length") then Some term.NoLength
-    else option_map protocol_term (protocol_named w)
+    else None
 
 abbrev pub quantity_named : Word → Option Quantity
 quantity_named w =
@@ -78,7 +79,8 @@ keyword_of w =
     else if bytes_eq w (codes "truncated") then Some keyword.Truncated
     else if bytes_eq w (codes "segments-left") then Some keyword.SegmentsLeft
     else option_or (option_map keyword.Alone (alone w))
-    (option_or (option_map keyword.Compared (quantity_named w)) (option_map keyword.Number (number_keyword_of w)))
+    (option_or (option_map keyword.Protocol (protocol_named w))
+    (option_or (option_map keyword.Compared (quantity_named w)) (option_map keyword.Number (number_keyword_of w))))
 
 -- ---- terms
 
@@ -124,6 +126,7 @@ AreNumberArguments number.TcpFlags args t = Make (IsOne (Finds tcp_flags_of)) te
 
 abbrev pub AreArguments : Keyword → List Word → Term → Type 0
 AreArguments (keyword.Alone u) args t = (args ≡ []) × (t ≡ u)
+AreArguments (keyword.Protocol p) args t = ((args ≡ []) × (t ≡ protocol_term p)) ⊎ Make (IsOne (Finds (multicast_with p))) (λ u. u) args t
 AreArguments keyword.Truncated args t = ((args ≡ []) × (t ≡ term.Truncated)) ⊎ Make (IsOne (Finds (layer_with error.Truncated))) term.TruncatedAt args t
 AreArguments keyword.Fault args t =
     ((args ≡ []) × (t ≡ term.Fault))
@@ -135,17 +138,6 @@ AreArguments keyword.SegmentsLeft args t = Make AreCompared (λ c. term.Segments
 -- the word w is a keyword, and writes the term t with the words after it
 abbrev pub IsTerm : Word → List Word → Term → Type 0
 IsTerm w args t = (k : Keyword) × (keyword_of w ≡ Some k) × AreArguments k args t
-
--- ---- words that join
-
-abbrev pub is_not : Word → Bool
-is_not w = bytes_eq w (codes "not") || bytes_eq w (codes "!")
-
-abbrev pub is_and : Word → Bool
-is_and w = bytes_eq w (codes "and") || bytes_eq w (codes "&&")
-
-abbrev pub is_or : Word → Bool
-is_or w = bytes_eq w (codes "or") || bytes_eq w (codes "||")
 
 -- ---- primitives
 

@@ -14,6 +14,7 @@ pub mod Formula
 pub mod Words
 pub mod Numbers
 pub mod IcmpTypes
+pub mod Operators
 pub mod Qualifiers
 pub mod Grammar
 pub mod Reading

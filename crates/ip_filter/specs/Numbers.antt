@@ -1,7 +1,7 @@
 -- How a filter's text writes numbers, protocols, comparisons, kinds of fault and networks.
-use Rattle.std.specs.Prelude.{◌≡◌, ◌≤◌, ℕ, List, [], ◌∷◌, length, take, drop, Bool, false, not, ◌==◌, ◌&&◌, ◌||◌, nat_le, nat_lt, bit_and, bit_or, Option, Some, None, codes, if◌then◌else◌}
+use Rattle.std.specs.Prelude.{◌≡◌, ◌⊎◌, ◌*◌, ◌+◌, ◌≤◌, ℕ, List, [], ◌∷◌, length, take, drop, Bool, false, not, ◌==◌, ◌&&◌, ◌||◌, nat_le, nat_lt, bit_and, bit_or, Option, Some, None, codes, if◌then◌else◌}
 use Rattle.std.specs.List.{list_all, prefix_len}
-use Rattle.std.specs.Option.{option_or, option_and_then}
+use Rattle.std.specs.Option.{option_map, option_or, option_and_then}
 use Rattle.std.specs.Char.{is_digit}
 use Rattle.std.specs.Str.{bytes_eq}
 use Rattle.std.specs.Str.Parse.{digits_value}
@@ -206,6 +206,42 @@ IsNetworkText w (network.Ipv4 address len) =
 IsNetworkText w (network.Ipv6 address len) =
     (a : Ipv6Addr) × IsIpv6Text (take (slash_index w) w) a × (address ≡ ipv6_bits a)
     × (prefix_bits 128 (drop (slash_index w) w) ≡ Some len)
+
+-- In what follows, one, two or three numbers of 8 bits with dots between them: the front of an IPv4 address, with how many bits
+-- it has. The other numbers of the address are 0.
+
+abbrev pub ipv4_front : ℕ → ℕ → ℕ → ℕ
+ipv4_front a b c = a * 16777216 + b * 65536 + c * 256
+
+abbrev pub dot_index : Word → ℕ
+dot_index w = index_of 46 w
+
+abbrev pub third_number : ℕ → ℕ → List ℕ → Option (ℕ × ℕ)
+third_number a b [] = Some (ipv4_front a b 0, 16)
+third_number a b (dot ∷ w) = option_map (λ c. (ipv4_front a b c, 24)) (number_up_to 255 w)
+
+abbrev pub second_number : ℕ → List ℕ → Option (ℕ × ℕ)
+second_number a [] = Some (ipv4_front a 0 0, 8)
+second_number a (dot ∷ w) = option_and_then (λ b. third_number a b (drop (dot_index w) w)) (number_up_to 255 (take (dot_index w) w))
+
+abbrev pub front_of : Word → Option (ℕ × ℕ)
+front_of w = option_and_then (λ a. second_number a (drop (dot_index w) w)) (number_up_to 255 (take (dot_index w) w))
+
+-- how many bits count: those of the front, or those after a slash
+abbrev pub front_bits : ℕ → List ℕ → Option ℕ
+front_bits bits [] = Some bits
+front_bits bits (slash ∷ digits) = number_up_to 32 digits
+
+abbrev pub with_bits : ℕ → Option ℕ → Option Network
+with_bits address len = option_map (network.Ipv4 address) len
+
+abbrev pub front_network : Word → Option Network
+front_network w =
+    option_and_then (λ f. with_bits f.0 (front_bits f.1 (drop (slash_index w) w))) (front_of (take (slash_index w) w))
+
+-- a network, or else the front of an IPv4 address (pcap-filter(7))
+abbrev pub IsNetworkOrFront : Word → Network → Type 0
+IsNetworkOrFront w n = IsNetworkText w n ⊎ (((m : Network) → IsNetworkText w m → ⊥) × (front_network w ≡ Some n))
 
 -- an address, and no number of bits
 abbrev pub IsHostText : Word → Network → Type 0

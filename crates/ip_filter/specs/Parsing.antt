@@ -12,7 +12,8 @@ use Rattle.ip_filter.specs.Words.{Word, words}
 use Rattle.ip_filter.specs.Formula.{Formula, terms_of}
 use Rattle.ip_filter.specs.Qualifiers.{says}
 use Rattle.ip_filter.specs.Compiled.{HasCompiled}
-use Rattle.ip_filter.specs.Grammar.{Operand, Conjunction, Disjunction, a_primitive, a_negation, a_group, an_operand, an_and, a_conjunction, an_or, IsPrimitive, operand_leaves, conjunction_leaves, leaves_of, is_not, is_and, is_or, conjunction_words, filter_words, operand_terms, conjunction_terms, terms_in, operand_formula, conjunction_formula, formula_of}
+use Rattle.ip_filter.specs.Operators.{is_not, is_and, is_or}
+use Rattle.ip_filter.specs.Grammar.{Operand, Conjunction, Disjunction, a_primitive, a_negation, a_group, an_operand, an_and, a_conjunction, an_or, IsPrimitive, operand_leaves, conjunction_leaves, leaves_of, conjunction_words, filter_words, operand_terms, conjunction_terms, terms_in, operand_formula, conjunction_formula, formula_of}
 use Rattle.ip_filter.specs.Reading.{ends_term, IsSuffix, IsPlace, WantsArgument, IsOperator, BeginsPrimitive}
 
 -- ---- the parts that are read

@@ -1,8 +1,9 @@
 -- Qualifiers: the words before an identifier, which say what it is compared with (pcap-filter(7)).
-use Rattle.std.specs.Prelude.{◌≡◌, ℕ, List, [], ◌∷◌, ◌||◌, Option, Some, None, is_some, codes, if◌then◌else◌}
+use Rattle.std.specs.Prelude.{◌≡◌, ◌==◌, ℕ, List, [], ◌∷◌, ◌||◌, Option, Some, None, is_some, codes, if◌then◌else◌}
 use Rattle.std.specs.Option.{option_map}
 use Rattle.std.specs.Str.{bytes_eq}
 use Rattle.ip_filter.specs.declared.network.Network.{Network}
+use Rattle.ip_filter.specs.declared.network.Network.TheVariants as network
 use Rattle.ip_filter.specs.declared.term.Ports.{Ports}
 use Rattle.ip_filter.specs.declared.term.Term.{Term}
 use Rattle.ip_filter.specs.declared.term.Term.TheVariants as term
@@ -19,7 +20,8 @@ use Rattle.ip_filter.specs.declared.qualifiers.Named.{Named}
 use Rattle.ip_filter.specs.declared.qualifiers.Named.TheVariants as named
 use Rattle.ip_filter.specs.declared.qualifiers.Primitive.{Primitive}
 use Rattle.ip_filter.specs.Words.{Word}
-use Rattle.ip_filter.specs.Numbers.{header_numbered, upper_layer_of, protocol_of, ports_of, IsNetworkText, IsHostText}
+use Rattle.ip_filter.specs.Operators.{is_and, is_or}
+use Rattle.ip_filter.specs.Numbers.{header_numbered, upper_layer_of, protocol_of, ports_of, IsNetworkText, IsNetworkOrFront, IsHostText}
 use Rattle.ip_filter.specs.Formula.{Formula, single, both, either}
 
 -- ---- what primitives say
@@ -30,9 +32,21 @@ protocol_term protocol.Icmp = term.Icmp
 protocol_term protocol.Icmp6 = term.Icmp6
 protocol_term (protocol.LeadsTo n) = term.LeadsTo n
 
+-- The destination is in 224.0.0.0/3, or in ff00::/8: what libpcap's `multicast` asks after `ip` and `ip6`.
+abbrev pub multicast_term : Protocol → Option Term
+multicast_term (protocol.Version v) =
+    if v == 4 then Some (term.Destination (network.Ipv4 3758096384 3))
+    else Some (term.Destination (network.Ipv6 338953138925153547590470800371487866880 8))
+multicast_term p = None
+
+-- the term that a word after the protocol makes of it
+abbrev pub multicast_with : Protocol → Word → Option Term
+multicast_with p w = if bytes_eq w (codes "multicast") then multicast_term p else None
+
 abbrev pub says_named : Named → Formula
 says_named (named.Term t) = single t
-says_named (named.Header n) = either (single (term.Header n)) (single (term.LeadsTo n))
+says_named (named.Both t u) = both (single t) (single u)
+says_named (named.Either t u) = either (single t) (single u)
 
 -- the formula f of packets of this protocol
 abbrev pub of_protocol : Option Protocol → Formula → Formula
@@ -81,19 +95,40 @@ kind_of w = if bytes_eq w (codes "proto") then Some kind.Protocol else kind_name
 abbrev pub of_any_protocol : Direction → Kind → Qualifiers
 of_any_protocol d k = record { protocol = None; direction = d; kind = k }
 
+-- the other one of `src` and `dst`
+abbrev pub other_side : Direction → Word
+other_side direction.Source = codes "dst"
+other_side d = codes "src"
+
+-- e, which joins both directions, if the word w is the other one than d
+abbrev pub joined_by : Direction → Direction → Word → Option Direction
+joined_by d e w = if bytes_eq w (other_side d) then Some e else None
+
 -- In what follows, the qualifiers that the words begin with, and the words after them.
+
+abbrev pub joined_at : Direction → Direction → List Word → Option (Direction × List Word)
+joined_at d e [] = None
+joined_at d e (w ∷ ws) = option_map (λ f. (f, ws)) (joined_by d e w)
+
+-- after `src` or `dst`: the other one, if `or` or `and` follows
+abbrev pub directions_at : Direction → List Word → Option (Direction × List Word)
+directions_at d [] = Some (d, [])
+directions_at d (w ∷ ws) =
+    if is_or w then joined_at d direction.Either ws
+    else if is_and w then joined_at d direction.Both ws
+    else Some (d, w ∷ ws)
 
 abbrev pub side_with : Direction → Option Kind → Word → List Word → Qualifiers × List Word
 side_with d (Some k) w ws = (of_any_protocol d k, ws)
 side_with d None w ws = (of_any_protocol d kind.Side, w ∷ ws)
 
--- after `src` or `dst`: a network, unless a word says otherwise
+-- after the directions: a network, unless a word says otherwise
 abbrev pub side_at : Direction → List Word → Qualifiers × List Word
 side_at d [] = (of_any_protocol d kind.Side, [])
 side_at d (w ∷ ws) = side_with d (kind_named w) w ws
 
 abbrev pub sided : Option Direction → Option Kind → List Word → Option (Qualifiers × List Word)
-sided (Some d) k ws = Some (side_at d ws)
+sided (Some d) k ws = option_map (λ e. side_at e.0 e.1) (directions_at d ws)
 sided None (Some k) ws = Some (of_any_protocol direction.Either k, ws)
 sided None None ws = None
 
@@ -114,27 +149,34 @@ qualifiers_at (w ∷ ws) = after_protocol (protocol_named w) w ws
 
 -- ---- identifiers
 
-abbrev pub network_term : Direction → Network → Term
-network_term direction.Source n = term.Source n
-network_term direction.Destination n = term.Destination n
-network_term direction.Either n = term.Either n
+abbrev pub network_said : Direction → Network → Named
+network_said direction.Source n = named.Term (term.Source n)
+network_said direction.Destination n = named.Term (term.Destination n)
+network_said direction.Either n = named.Term (term.Either n)
+network_said direction.Both n = named.Both (term.Source n) (term.Destination n)
 
-abbrev pub ports_term : Direction → Ports → Term
-ports_term direction.Source r = term.SourcePort r
-ports_term direction.Destination r = term.DestinationPort r
-ports_term direction.Either r = term.Port r
+abbrev pub ports_said : Direction → Ports → Named
+ports_said direction.Source r = named.Term (term.SourcePort r)
+ports_said direction.Destination r = named.Term (term.DestinationPort r)
+ports_said direction.Either r = named.Term (term.Port r)
+ports_said direction.Both r = named.Both (term.SourcePort r) (term.DestinationPort r)
 
 -- the number of a protocol or of an extension header, which may be truncated or faulty
 abbrev pub protocol_said : ℕ → Named
-protocol_said n = if is_some (header_numbered n) then named.Header n else named.Term (term.LeadsTo n)
+protocol_said n = if is_some (header_numbered n) then named.Either (term.Header n) (term.LeadsTo n) else named.Term (term.LeadsTo n)
 
 -- the word w says n, as an identifier of this kind
 abbrev pub Identifies : Kind → Direction → Word → Named → Type 0
-Identifies kind.Side d w n = (a : Network) × IsNetworkText w a × (n ≡ named.Term (network_term d a))
-Identifies kind.Host d w n = (a : Network) × IsHostText w a × (n ≡ named.Term (network_term d a))
-Identifies kind.Network d w n = (a : Network) × IsNetworkText w a × (n ≡ named.Term (network_term d a))
-Identifies kind.Ports d w n = (r : Ports) × (ports_of w ≡ Some r) × (n ≡ named.Term (ports_term d r))
+Identifies kind.Side d w n = (a : Network) × IsNetworkText w a × (n ≡ network_said d a)
+Identifies kind.Host d w n = (a : Network) × IsHostText w a × (n ≡ network_said d a)
+Identifies kind.Network d w n = (a : Network) × IsNetworkOrFront w a × (n ≡ network_said d a)
+Identifies kind.Ports d w n = (r : Ports) × (ports_of w ≡ Some r) × (n ≡ ports_said d r)
 Identifies kind.Protocol d w n = (k : ℕ) × (protocol_of w ≡ Some k) × (n ≡ protocol_said k)
+
+-- what is expected after a direction and `or` or `and`
+abbrev pub wanted_side : Direction → Expected
+wanted_side direction.Source = expects.Destination
+wanted_side d = expects.Source
 
 -- what is expected of an identifier
 abbrev pub wanted : Kind → Expected

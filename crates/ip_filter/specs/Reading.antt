@@ -1,5 +1,6 @@
 -- What is read of a text, and where it is refused.
 use Rattle.std.specs.Prelude.{◌≡◌, ◌≤◌, ◌<◌, ◌+◌, ◌-◌, ◌⊎◌, ℕ, List, [], ◌∷◌, ◌++◌, length, take, drop, slice_index, Bool, true, false, not, ◌||◌, Option, Some, None, is_some, IsTrue, codes, ⊤}
+use Rattle.std.specs.Option.{option_map_or}
 use Rattle.std.specs.Str.{bytes_eq}
 use Rattle.ip_filter.specs.declared.words.Word.{Word as FirstWord}
 use Rattle.ip_filter.specs.declared.term.Quantity.{Quantity}
@@ -9,9 +10,11 @@ use Rattle.ip_filter.specs.declared.keyword.Keyword.TheVariants as keyword
 use Rattle.ip_filter.specs.declared.keyword.NumberKeyword.TheVariants as number
 use Rattle.ip_filter.specs.declared.qualifiers.Protocol.{Protocol}
 use Rattle.ip_filter.specs.declared.qualifiers.Direction.{Direction}
+use Rattle.ip_filter.specs.declared.qualifiers.Direction.TheVariants as direction
 use Rattle.ip_filter.specs.declared.qualifiers.Kind.{Kind}
 use Rattle.ip_filter.specs.declared.qualifiers.Kind.TheVariants as kind
 use Rattle.ip_filter.specs.declared.qualifiers.Qualifiers.{Qualifiers}
+use Rattle.ip_filter.specs.declared.qualifiers.Named.{Named}
 use Rattle.ip_filter.specs.declared.qualifiers.Primitive.{Primitive}
 use Rattle.ip_filter.specs.declared.primitive.Head.{Head}
 use Rattle.ip_filter.specs.declared.parse_error.Expected.{Expected}
@@ -19,8 +22,9 @@ use Rattle.ip_filter.specs.declared.parse_error.Expected.TheVariants as expects
 use Rattle.ip_filter.specs.Words.{Word, words, is_white_space}
 use Rattle.ip_filter.specs.Numbers.{comparison_of}
 use Rattle.ip_filter.specs.Formula.{terms_of}
-use Rattle.ip_filter.specs.Qualifiers.{protocol_named, direction_named, kind_named, kind_of, of_any_protocol, side_at, side_or_kind_at, qualifiers_at, wanted, says}
-use Rattle.ip_filter.specs.Grammar.{keyword_of, AreArguments, IsPrimitive, is_and, is_or}
+use Rattle.ip_filter.specs.Qualifiers.{protocol_named, direction_named, kind_named, kind_of, of_any_protocol, directions_at, side_at, side_or_kind_at, qualifiers_at, wanted, Identifies, says, says_named}
+use Rattle.ip_filter.specs.Operators.{is_and, is_or}
+use Rattle.ip_filter.specs.Grammar.{keyword_of, AreArguments, IsPrimitive}
 
 -- ---- what follows a keyword
 
@@ -53,6 +57,10 @@ IsKind k w = kind_of w ≡ Some k
 abbrev pub LastIs : (Word → Type 0) → List Word → Type 0
 LastIs Is ws = (front : List Word) × (w : Word) × (ws ≡ front ++ w ∷ []) × Is w
 
+-- the last of the words are this one and `and` or `or`
+abbrev pub AreJoining : Word → List Word → Type 0
+AreJoining side ws = (front : List Word) × (w : Word) × (ws ≡ front ++ side ∷ w ∷ []) × IsTrue (is_and w || is_or w)
+
 -- the last of the words wants this argument
 abbrev pub WantsArgument : List Word → Expected → Type 0
 WantsArgument ws expects.Version = LastIs (IsKeyword (keyword.Number number.Version)) ws
@@ -67,6 +75,8 @@ WantsArgument ws expects.Count = LastIs (λ w. IsTrue (is_some (comparison_of w)
 WantsArgument ws expects.Network = LastIs (IsKind kind.Network) ws
 WantsArgument ws expects.Address = LastIs (IsKind kind.Host) ws
 WantsArgument ws expects.NetworkOrPort = LastIs (λ w. IsTrue (is_some (direction_named w))) ws
+WantsArgument ws expects.Source = AreJoining (codes "dst") ws
+WantsArgument ws expects.Destination = AreJoining (codes "src") ws
 WantsArgument ws expects.Ports = LastIs (IsKind kind.Ports) ws
 WantsArgument ws expects.TcpFlags = LastIs (IsKeyword (keyword.Number number.TcpFlags)) ws
 WantsArgument ws e = ⊥
@@ -160,35 +170,107 @@ abbrev pub begins_no_kind : List Word → Bool
 begins_no_kind [] = true
 begins_no_kind (w ∷ ws) = not (is_some (kind_named w))
 
--- qualifiers of this kind end before the words
-abbrev pub EndsBefore : Kind → List Word → Type 0
-EndsBefore kind.Side ws = IsTrue (begins_no_kind ws)
-EndsBefore k ws = ⊤
+-- no operator follows
+abbrev pub begins_no_operator : List Word → Bool
+begins_no_operator [] = true
+begins_no_operator (w ∷ ws) = not (is_or w || is_and w)
+
+-- the direction ends before the words: after `src` or `dst` alone an operator would go on with it
+abbrev pub EndsDirection : Direction → List Word → Type 0
+EndsDirection direction.Either ws = ⊤
+EndsDirection direction.Both ws = ⊤
+EndsDirection d ws = IsTrue (begins_no_operator ws)
+
+-- qualifiers of this direction and kind end before the words
+abbrev pub EndsBefore : Direction → Kind → List Word → Type 0
+EndsBefore d kind.Side ws = EndsDirection d ws × IsTrue (begins_no_kind ws)
+EndsBefore d k ws = ⊤
+
+-- how few terms an identifier can be, and a primitive
+abbrev pub fewest_named : Direction → ℕ
+fewest_named direction.Both = 2
+fewest_named d = 1
+
+abbrev pub fewest_terms : Qualifiers → ℕ
+fewest_terms x = option_map_or (λ p. 1) x.protocol 0 + fewest_named x.direction
+
+-- The word w begins no qualifiers, nor does a protocol with what follows it.
+pub record BeginsNoQualifiers (w : Word) (rest : List ℕ) : Type 0 where
+  pub side : side_or_kind_at (w ∷ []) ≡ None
+  pub none : (ws : List Word) → take 1 ws ≡ take 1 (words rest) → qualifiers_at (w ∷ ws) ≡ None
+
+-- After `first`, which is the direction d, the text begins with words that make it the direction e, or with none, and `rest`
+-- follows them. After n terms there is room for it.
+pub record ReadsDirections (first : Word) (d : Direction) (n : ℕ) (text : List ℕ) (e : Direction) (rest : List ℕ) : Type 0 where
+  pub front : List Word
+  pub begins : words text ≡ front ++ words rest
+  pub end : IsSuffix text rest
+  pub at : (ws : List Word) → EndsDirection e ws → directions_at d (front ++ ws) ≡ Some (e, ws)
+  pub ends : EndsDirection e (words rest)
+  pub last : LastIs (λ w. IsTrue (is_some (direction_named w))) (first ∷ front)
+  pub room : n < 64 → n + fewest_named e ≤ 64
+
+-- The words go on with directions, whatever follows them.
+abbrev pub BeginDirections : Direction → List Word → (Direction → Type 0) → Type 0
+BeginDirections d ws Is = (more : List Word) × (e : Direction) × ((us : List Word) → directions_at d (ws ++ (more ++ us)) ≡ Some (e, us)) × Is e
+
+-- what is expected in qualifiers after the words `front` instead of `next`: an argument, or fewer terms
+abbrev pub IsDueInSide : List Word → Expected → Type 0 → Type 0
+IsDueInSide front e Long = WantsArgument front e ⊎ ((e ≡ expects.FewerTerms) × Long)
+
+-- After `first`, which is the direction d, and n terms no directions begin like the text, up to the word at the place `left`, or
+-- end there, but both, for which there is no room. Some begin with the words before that place, after which e is expected.
+pub record RefusesDirections (first : Word) (d : Direction) (n : ℕ) (text : List ℕ) (left : ℕ) (e : Expected) : Type 0 where
+  pub front : List Word
+  pub place : IsPlace text front left
+  pub begins : n < 64 → BeginDirections d front (λ f. n + fewest_named f ≤ 64)
+  pub none : (ws more : List Word) (f : Direction) → take 1 ws ≡ take 1 (words (drop (length text - left) text)) → directions_at d (front ++ ws) ≡ Some (f, more)
+      → (f ≡ direction.Both) × (62 < n)
+  pub expected : IsDueInSide (first ∷ front) e (BeginDirections d (front ++ take 1 (words (drop (length text - left) text))) (λ f. ⊤))
 
 -- The text begins with words after which a side's identifier is of this kind, or with none, and `rest` follows them.
 pub record ReadsKind (text : List ℕ) (k : Kind) (rest : List ℕ) : Type 0 where
   pub front : List Word
   pub begins : words text ≡ front ++ words rest
   pub end : IsSuffix text rest
-  pub at : (d : Direction) (ws : List Word) → EndsBefore k ws → side_at d (front ++ ws) ≡ (of_any_protocol d k, ws)
-  pub ends : EndsBefore k (words rest)
+  pub at : (d : Direction) (ws : List Word) → EndsBefore d k ws → (side_at d (front ++ ws) ≡ (of_any_protocol d k, ws)) × EndsDirection d (front ++ ws)
+  pub ends : (d : Direction) → EndsDirection d (words text) → EndsBefore d k (words rest)
   pub wants : (w : Word) → IsTrue (is_some (direction_named w)) → WantsArgument (w ∷ front) (wanted k)
 
--- The text begins with the qualifiers h, of any protocol.
-pub record ReadsSide (text : List ℕ) (h : Head) : Type 0 where
+-- The text begins with the qualifiers h, of any protocol. After n terms there is room for them.
+pub record ReadsSide (n : ℕ) (text : List ℕ) (h : Head) : Type 0 where
   pub first : Word
   pub front : List Word
   pub begins : words text ≡ first ∷ (front ++ words h.rest.now)
   pub end : IsSuffix text h.rest.now
-  pub place : IsPlace text [] h.left
   pub any : h.qualifiers.protocol ≡ None
   pub some : IsTrue (is_some (side_or_kind_at (first ∷ [])))
-  pub at : (ws : List Word) → EndsBefore h.qualifiers.kind ws → side_or_kind_at (first ∷ (front ++ ws)) ≡ Some (h.qualifiers, ws)
-  pub ends : EndsBefore h.qualifiers.kind (words h.rest.now)
+  pub at : (ws : List Word) → EndsBefore h.qualifiers.direction h.qualifiers.kind ws → side_or_kind_at (first ∷ (front ++ ws)) ≡ Some (h.qualifiers, ws)
+  pub ends : EndsBefore h.qualifiers.direction h.qualifiers.kind (words h.rest.now)
   pub wants : WantsArgument (first ∷ front) (wanted h.qualifiers.kind)
+  pub room : n < 64 → n + fewest_named h.qualifiers.direction ≤ 64
 
--- The text begins with the qualifiers h: with a protocol, if they have one, and the others after it.
-pub record ReadsQualifiers (text : List ℕ) (h : Head) : Type 0 where
+-- The words begin qualifiers of any protocol with an identifier.
+abbrev pub BeginSide : List Word → (Named → Type 0) → Type 0
+BeginSide ws Is =
+    (rest : List Word) × (x : Qualifiers) × (id : Word) × (m : Named) × (side_or_kind_at (ws ++ rest) ≡ Some (x, id ∷ []))
+    × Identifies x.kind x.direction id m × (x.protocol ≡ None) × Is m
+
+-- After n terms no qualifiers of any protocol and identifier with few enough terms begin like the text, up to the word at the
+-- place `left`, or end there. Some begin with the words before that place, after which e is expected.
+pub record RefusesSide (n : ℕ) (text : List ℕ) (left : ℕ) (e : Expected) : Type 0 where
+  pub first : Word
+  pub front : List Word
+  pub place : IsPlace text (first ∷ front) left
+  pub some : IsTrue (is_some (side_or_kind_at (first ∷ [])))
+  pub begins : n < 64 → BeginSide (first ∷ front) (λ m. n + terms_of (says_named m) ≤ 64)
+  pub none : (ws more : List Word) (x : Qualifiers) (id : Word) (m : Named) → take 1 ws ≡ take 1 (words (drop (length text - left) text))
+      → side_or_kind_at (first ∷ (front ++ ws)) ≡ Some (x, id ∷ more) → Identifies x.kind x.direction id m → 64 < n + terms_of (says_named m)
+  pub expected : IsDueInSide (first ∷ front) e (BeginSide (first ∷ (front ++ take 1 (words (drop (length text - left) text)))) (λ m. ⊤))
+
+-- The text begins with the qualifiers h: with a protocol, if they have one, and the others after it. After n terms there is room
+-- for them.
+pub record ReadsQualifiers (n : ℕ) (text : List ℕ) (h : Head) : Type 0 where
   pub word : Word
   pub front : List Word
   pub begins : words text ≡ word ∷ (front ++ words h.rest.now)
@@ -196,10 +278,10 @@ pub record ReadsQualifiers (text : List ℕ) (h : Head) : Type 0 where
   pub any : h.qualifiers.protocol ≡ None → IsTrue (is_some (side_or_kind_at (word ∷ [])))
   pub with : (p : Protocol) → h.qualifiers.protocol ≡ Some p
       → (first : Word) × (more : List Word) × (front ≡ first ∷ more) × (protocol_named word ≡ Some p) × IsTrue (is_some (side_or_kind_at (first ∷ [])))
-      × IsPlace text (word ∷ []) h.left
-  pub at : (ws : List Word) → EndsBefore h.qualifiers.kind ws → qualifiers_at (word ∷ (front ++ ws)) ≡ Some (h.qualifiers, ws)
-  pub ends : EndsBefore h.qualifiers.kind (words h.rest.now)
+  pub at : (ws : List Word) → EndsBefore h.qualifiers.direction h.qualifiers.kind ws → qualifiers_at (word ∷ (front ++ ws)) ≡ Some (h.qualifiers, ws)
+  pub ends : EndsBefore h.qualifiers.direction h.qualifiers.kind (words h.rest.now)
   pub wants : WantsArgument (word ∷ front) (wanted h.qualifiers.kind)
+  pub room : n < 64 → n + fewest_terms h.qualifiers ≤ 64
 
 -- After k terms the text begins with the primitive p, and `rest` follows it. No other primitive begins like these words, up
 -- to the word after them.

@@ -9,13 +9,13 @@ ghost use Rattle.ip_filter.specs.Words.{Word as Text};
 ghost use Rattle.ip_filter.specs.Reading.{IsFirstWord};
 ghost use Rattle.ip_filter.specs.Parsing.{Open, State, before, after, nothing_open, with_operand, and_joined, or_joined, or_formulas, and_formulas, state_terms, CountsFit, Holds, HoldsOperand, HoldsGroup, IsFinished, ReadsOn, RefusesFrom, IsDue, IsWhole};
 
+use crate::Expected;
 use crate::arguments::Unexpected;
 use crate::compile::Compiler;
 use crate::operators::{is_and, is_not, is_or};
 use crate::primitive::{MAX_TERMS, read_primitive};
 use crate::qualifiers::{Named, Primitive, Qualifiers};
 use crate::words::Word;
-use crate::{Expected, Term};
 use arrayvec::ArrayVec;
 
 /// The text or an open group: what waits for the next operand there.
@@ -223,9 +223,14 @@ fn add_named(compiler: &mut Compiler, named: Named)
 {
     match named {
         Named::Term(term) => compiler.add(term),
-        Named::Header(number) => {
-            compiler.add(Term::Header(number));
-            compiler.add(Term::LeadsTo(number));
+        Named::Both(first, second) => {
+            compiler.add(first);
+            compiler.add(second);
+            compiler.join(true);
+        }
+        Named::Either(first, second) => {
+            compiler.add(first);
+            compiler.add(second);
             compiler.join(false);
         }
     }

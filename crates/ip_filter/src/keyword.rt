@@ -2,7 +2,7 @@
 ghost use Rattle.std.specs.Prelude.{◌≡◌};
 ghost use Rattle.ip_filter.specs.Grammar.{alone, quantity_named, icmp_keyword_of, number_keyword_of, keyword_of};
 
-use crate::qualifiers::protocol_named;
+use crate::qualifiers::{Protocol, protocol_named};
 use crate::{Quantity, Term};
 
 /// What a keyword is: a term, or the beginning of one.
@@ -10,6 +10,8 @@ use crate::{Quantity, Term};
 pub(crate) enum Keyword {
     /// A term by itself.
     Alone(Term),
+    /// A version or protocol, after which a word may follow.
+    Protocol(Protocol),
     /// A truncated header, whose layer may follow.
     Truncated,
     /// A faulty header, whose kind of fault may follow, and its layer.
@@ -67,6 +69,9 @@ pub(crate) fn keyword_of(word: &[u8]) -> Option<Keyword>
     if let Some(term) = alone(word) {
         return Some(Keyword::Alone(term));
     }
+    if let Some(protocol) = protocol_named(word) {
+        return Some(Keyword::Protocol(protocol));
+    }
     if let Some(quantity) = quantity_named(word) {
         return Some(Keyword::Compared(quantity));
     }
@@ -98,10 +103,7 @@ fn alone(word: &[u8]) -> Option<Term>
     if word == b"no-length".as_slice() {
         return Some(Term::NoLength);
     }
-    match protocol_named(word) {
-        Some(protocol) => Some(protocol.term()),
-        None => None,
-    }
+    None
 }
 
 /// Returns the quantity that the word names.

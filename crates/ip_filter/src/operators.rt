@@ -1,6 +1,6 @@
 //! The words that join operands.
 ghost use Rattle.std.specs.Prelude.{◌≡◌};
-ghost use Rattle.ip_filter.specs.Grammar.{is_not, is_and, is_or};
+ghost use Rattle.ip_filter.specs.Operators.{is_not, is_and, is_or};
 
 /// Returns whether the word is `not`.
 pub(crate) fn is_not(word: &[u8]) -> bool

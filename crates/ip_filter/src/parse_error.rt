@@ -40,6 +40,12 @@ pub enum Expected {
     /// A network, or the ports of one side.
     #[error("an address, a prefix or `port`")]
     NetworkOrPort,
+    /// The word `src`, after `dst` and an operator.
+    #[error("`src`")]
+    Source,
+    /// The word `dst`, after `src` and an operator.
+    #[error("`dst`")]
+    Destination,
     /// An address.
     #[error("an address")]
     Address,

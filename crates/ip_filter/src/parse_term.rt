@@ -1,6 +1,7 @@
 //! Terms, as a filter's text writes them.
 ghost use Rattle.std.specs.Prelude.{◌≡◌, IfOk, IfErr, IfSome, IfNone};
 ghost use Rattle.ip_filter.specs.declared.keyword.Keyword.TheVariants as is;
+ghost use Rattle.ip_filter.specs.Qualifiers.{multicast_with};
 ghost use Rattle.ip_filter.specs.Grammar.{Finds, AreCompared, layer_with};
 ghost use Rattle.ip_filter.specs.Reading.{IsCountKeyword, BeginsOtherwise, ReadsTerm, RefusesTerm, ReadsArgument, ReadsArguments, RefusesArguments};
 
@@ -11,6 +12,7 @@ use crate::arguments::{
 use crate::keyword::{Keyword, NumberKeyword};
 use crate::layers::{LayerError, parse_layer_with};
 use crate::numbers::parse_fault_kind;
+use crate::qualifiers::Protocol;
 use crate::words::first_word;
 use crate::{Comparison, Expected, Term};
 use ip_base::err::Layer;
@@ -29,6 +31,7 @@ pub(crate) fn read_term(keyword: Keyword, text: &[u8]) -> ReadTerm<'_>
 {
     match keyword {
         Keyword::Alone(term) => Ok((term, text)),
+        Keyword::Protocol(protocol) => Ok(read_protocol_term(protocol, text)),
         Keyword::Truncated => Ok(read_truncated(text)),
         Keyword::Fault => Ok(read_fault(text)),
         Keyword::Number(keyword) => read_number_term(keyword, text),
@@ -42,6 +45,32 @@ pub(crate) fn read_term(keyword: Keyword, text: &[u8]) -> ReadTerm<'_>
             Ok(((comparison, number), rest)) => Ok((Term::SegmentsLeft(comparison, number), rest)),
             Err(error) => Err(error),
         },
+    }
+}
+
+/// Reads what follows a version or protocol, which may be `multicast`.
+#[tactic(auto, using(crate::proofs::TermLemmas::multicast_read, crate::proofs::TermLemmas::plain_protocol))]
+fn read_protocol_term(protocol: Protocol, text: &[u8]) -> (Term, &[u8])
+    ensures { ReadsTerm (is.Protocol protocol) text.now result.0 result.1.now }
+{
+    match read_multicast(protocol, text) {
+        Some(read) => read,
+        None => (protocol.term(), text),
+    }
+}
+
+/// Reads `multicast`, if the text begins with it and the protocol takes it.
+#[tactic(auto, using(crate::proofs::ArgumentLemmas::this_word, crate::proofs::TermLemmas::no_word_is_no_multicast, crate::proofs::TermLemmas::other_is_no_multicast))]
+fn read_multicast(protocol: Protocol, text: &[u8]) -> Option<(Term, &[u8])>
+    ensures some { IfSome result (λ r. ReadsArgument (Finds (multicast_with protocol)) text.now r.0 r.1.now) }
+    ensures none { IfNone result (BeginsOtherwise (multicast_with protocol) text.now) }
+{
+    match first_word(text) {
+        Some(word) => match protocol.multicast_with(word.bytes) {
+            Some(term) => Some((term, word.rest)),
+            None => None,
+        },
+        None => None,
     }
 }
 

@@ -1,12 +1,13 @@
 //! Primitives, as a filter's text writes them: a term, or qualifiers and an identifier.
-ghost use Rattle.std.specs.Prelude.{◌≡◌, ◌&&◌, is_some, nat_le, ℕ, List, [], ◌∷◌, take, true, false, Option, None, codes, IfOk, IfErr, IfSome, IfNone};
+ghost use Rattle.std.specs.Prelude.{◌≡◌, is_some, ℕ, List, [], ◌∷◌, false, Option, Some, None, codes, IfOk, IfErr, IfSome, IfNone};
 ghost use Rattle.std.specs.Str.{bytes_eq};
+ghost use Rattle.ip_filter.specs.declared.words.Word.{Word as FirstWord};
+ghost use Rattle.ip_filter.specs.Words.{Word as Text};
 ghost use Rattle.ip_filter.specs.declared.qualifiers.Qualifiers.{Qualifiers as TheQualifiers};
-ghost use Rattle.ip_filter.specs.Words.{Word as Text, words};
 ghost use Rattle.ip_filter.specs.declared.qualifiers.Named.{Named as TheNamed};
-ghost use Rattle.ip_filter.specs.Qualifiers.{Identifies, qualified, of_any_protocol, side_or_kind_at, qualifiers_at};
-ghost use Rattle.ip_filter.specs.Grammar.{keyword_of, is_identifier};
-ghost use Rattle.ip_filter.specs.Reading.{IsFirstWord, ReadsKind, ReadsSide, ReadsQualifiers, ReadsPrimitive, RefusesPrimitive};
+ghost use Rattle.ip_filter.specs.Qualifiers.{Identifies, qualified, of_any_protocol, protocol_named, direction_named, joined_by, wanted_side, side_or_kind_at};
+ghost use Rattle.ip_filter.specs.Grammar.{Finds, keyword_of, is_identifier};
+ghost use Rattle.ip_filter.specs.Reading.{IsFirstWord, ReadsArgument, RefusesArgument, BeginsNoQualifiers, ReadsDirections, RefusesDirections, ReadsKind, ReadsSide, RefusesSide, ReadsQualifiers, ReadsPrimitive, RefusesPrimitive};
 
 use crate::Expected;
 use crate::arguments::{Unexpected, argument};
@@ -30,11 +31,12 @@ pub(crate) type ReadPrimitive<'a> = Result<(Primitive, &'a [u8]), Unexpected>;
 pub(crate) struct Head<'a> {
     /// The qualifiers.
     pub qualifiers: Qualifiers,
-    /// How many bytes there are from the first one after the protocol to the end of the text.
-    pub left: usize,
     /// The bytes after them.
     pub rest: &'a [u8],
 }
+
+/// Qualifiers at the start of a text, if it begins with some.
+type ReadHead<'a> = Result<Option<Head<'a>>, Unexpected>;
 
 /// Reads the primitive that the word begins, after `terms` terms. An identifier takes the qualifiers `before`.
 pub(crate) fn read_primitive<'a>(
@@ -47,21 +49,19 @@ pub(crate) fn read_primitive<'a>(
     ensures err { IfErr result (λ e. (text : List ℕ) → IsFirstWord text word.entry
         → bytes_eq word.entry.bytes.now (codes "(") ≡ false → RefusesPrimitive before terms text e.left e.expected) }
 {
-    match read_qualifiers(&word) {
-        Some(head) => read_qualified(head, terms),
-        None => read_plain(before, terms, word),
+    match read_qualifiers(&word, terms) {
+        Ok(Some(head)) => read_qualified(head, terms),
+        Ok(None) => read_plain(before, terms, word),
+        Err(error) => Err(error),
     }
 }
 
 /// Reads the term that the word begins, or the word as an identifier that takes the qualifiers `before`.
 fn read_plain<'a>(before: Option<Qualifiers>, terms: usize, word: Word<'a>) -> ReadPrimitive<'a>
     ensures ok { IfOk result (λ r. (text : List ℕ) → IsFirstWord text word.entry
-        → ((ws : List Text) → take 1 ws ≡ take 1 (words word.entry.rest.now)
-        → qualifiers_at (word.entry.bytes.now ∷ ws) ≡ None)
-        → ReadsPrimitive before terms text r.0 r.1.now) }
+        → BeginsNoQualifiers word.entry.bytes.now word.entry.rest.now → ReadsPrimitive before terms text r.0 r.1.now) }
     ensures err { IfErr result (λ e. (text : List ℕ) → IsFirstWord text word.entry
-        → ((ws : List Text) → take 1 ws ≡ take 1 (words word.entry.rest.now)
-        → qualifiers_at (word.entry.bytes.now ∷ ws) ≡ None)
+        → BeginsNoQualifiers word.entry.bytes.now word.entry.rest.now
         → bytes_eq word.entry.bytes.now (codes "(") ≡ false → RefusesPrimitive before terms text e.left e.expected) }
 {
     match keyword_of(word.bytes) {
@@ -73,50 +73,132 @@ fn read_plain<'a>(before: Option<Qualifiers>, terms: usize, word: Word<'a>) -> R
     }
 }
 
-/// Reads the qualifiers that the word begins, if it begins some.
-fn read_qualifiers<'a>(word: &Word<'a>) -> Option<Head<'a>>
-    ensures some { IfSome result (λ h. (text : List ℕ) → IsFirstWord text word.now → ReadsQualifiers text h) }
-    ensures none { IfNone result ((ws : List Text) → take 1 ws ≡ take 1 (words word.now.rest.now)
-        → qualifiers_at (word.now.bytes.now ∷ ws) ≡ None) }
+/// Reads the qualifiers that the word begins, after `terms` terms.
+fn read_qualifiers<'a>(word: &Word<'a>, terms: usize) -> ReadHead<'a>
+    ensures some { IfOk result (λ o. IfSome o (λ h. (text : List ℕ) → IsFirstWord text word.now
+        → ReadsQualifiers terms text h)) }
+    ensures none { IfOk result (λ o. IfNone o (BeginsNoQualifiers word.now.bytes.now word.now.rest.now)) }
+    ensures err { IfErr result (λ e. (text : List ℕ) (x : Option TheQualifiers) → IsFirstWord text word.now
+        → RefusesPrimitive x terms text e.left e.expected) }
 {
     let Some(protocol) = protocol_named(word.bytes) else {
-        return read_side_or_kind(word);
+        return match read_side_or_kind(word, terms) {
+            Ok(head) => Ok(head),
+            Err(error) => Err(error),
+        };
     };
-    let Some(next) = first_word(word.rest) else {
-        return None;
-    };
-    match read_side_or_kind(&next) {
-        Some(head) => Some(Head {
+    match first_word(word.rest) {
+        Some(next) => read_after_protocol(protocol, next, terms),
+        None => Ok(None),
+    }
+}
+
+/// Reads the qualifiers that the word begins after a protocol, after `terms` terms. A primitive of the protocol has two terms
+/// at least.
+fn read_after_protocol<'a>(protocol: Protocol, word: Word<'a>, terms: usize) -> ReadHead<'a>
+    ensures some { IfOk result (λ o. IfSome o (λ h. (text : List ℕ) (w : FirstWord) → IsFirstWord text w
+        → Some protocol ≡ protocol_named w.bytes.now → IsFirstWord w.rest.now word.entry
+        → ReadsQualifiers terms text h)) }
+    ensures none { IfOk result (λ o. IfNone o (side_or_kind_at (word.entry.bytes.now ∷ []) ≡ None)) }
+    ensures err { IfErr result (λ e. (text : List ℕ) (x : Option TheQualifiers) (w : FirstWord) → IsFirstWord text w
+        → Some protocol ≡ protocol_named w.bytes.now → IsFirstWord w.rest.now word.entry
+        → RefusesPrimitive x terms text e.left e.expected) }
+{
+    if !begins_side_or_kind(word.bytes) {
+        return Ok(None);
+    }
+    if terms >= MAX_TERMS - 1 {
+        return Err(word.unexpected(Expected::FewerTerms));
+    }
+    match read_side_or_kind(&word, terms + 1) {
+        Ok(Some(head)) => Ok(Some(Head {
             qualifiers: Qualifiers {
                 protocol: Some(protocol),
                 ..head.qualifiers
             },
             ..head
-        }),
-        None => None,
+        })),
+        Ok(None) => Ok(None),
+        Err(error) => Err(error),
     }
 }
 
-/// Reads the qualifiers after a protocol that the word begins, if it begins some.
-fn read_side_or_kind<'a>(word: &Word<'a>) -> Option<Head<'a>>
-    ensures some { IfSome result (λ h. (text : List ℕ) → IsFirstWord text word.now → ReadsSide text h) }
-    ensures none { IfNone result ((ws : List Text) → side_or_kind_at (word.now.bytes.now ∷ ws) ≡ None) }
+/// Reads the qualifiers after a protocol that the word begins, after `terms` terms.
+fn read_side_or_kind<'a>(word: &Word<'a>, terms: usize) -> ReadHead<'a>
+    ensures some { IfOk result (λ o. IfSome o (λ h. (text : List ℕ) → IsFirstWord text word.now
+        → ReadsSide terms text h)) }
+    ensures none { IfOk result (λ o. IfNone o (side_or_kind_at (word.now.bytes.now ∷ []) ≡ None)) }
+    ensures err { IfErr result (λ e. (text : List ℕ) → IsFirstWord text word.now → RefusesSide terms text e.left e.expected) }
 {
-    if let Some(direction) = direction_named(word.bytes) {
-        let (kind, rest) = read_kind(word.rest);
-        return Some(Head {
-            qualifiers: of_any_protocol(direction, kind),
-            left: word.left,
-            rest,
-        });
+    match direction_named(word.bytes) {
+        Some(direction) => match read_directions(direction, word.rest, terms) {
+            Ok((joined, after)) => {
+                let (kind, rest) = read_kind(after);
+                Ok(Some(Head {
+                    qualifiers: of_any_protocol(joined, kind),
+                    rest,
+                }))
+            }
+            Err(error) => Err(error),
+        },
+        None => match kind_of(word.bytes) {
+            Some(kind) => Ok(Some(Head {
+                qualifiers: of_any_protocol(Direction::Either, kind),
+                rest: word.rest,
+            })),
+            None => Ok(None),
+        },
     }
-    match kind_of(word.bytes) {
-        Some(kind) => Some(Head {
-            qualifiers: of_any_protocol(Direction::Either, kind),
-            left: word.left,
-            rest: word.rest,
-        }),
-        None => None,
+}
+
+/// Reads what follows `src` or `dst`, after `terms` terms: the other one, if an operator follows. A primitive that asks for both
+/// has two terms.
+fn read_directions(
+    direction: Direction,
+    text: &[u8],
+    terms: usize,
+) -> Result<(Direction, &[u8]), Unexpected>
+    ensures ok { IfOk result (λ r. (first : Text) → Some direction ≡ direction_named first
+        → ReadsDirections first direction terms text.now r.0 r.1.now) }
+    ensures err { IfErr result (λ e. (first : Text) → Some direction ≡ direction_named first
+        → RefusesDirections first direction terms text.now e.left e.expected) }
+{
+    let Some(operator) = first_word(text) else {
+        return Ok((direction, text));
+    };
+    if is_or(operator.bytes) {
+        return match read_other_side(direction, Direction::Either, operator.rest) {
+            Ok(read) => Ok(read),
+            Err(error) => Err(error),
+        };
+    }
+    if !is_and(operator.bytes) {
+        return Ok((direction, text));
+    }
+    if terms >= MAX_TERMS - 1 {
+        return Err(operator.unexpected(Expected::FewerTerms));
+    }
+    match read_other_side(direction, Direction::Both, operator.rest) {
+        Ok(read) => Ok(read),
+        Err(error) => Err(error),
+    }
+}
+
+/// Reads the other one of `src` and `dst` than the direction, and returns both.
+#[tactic(auto, using(crate::proofs::ArgumentLemmas::end_of_text, crate::proofs::ArgumentLemmas::other_word, crate::proofs::ArgumentLemmas::this_word))]
+fn read_other_side(
+    direction: Direction,
+    both: Direction,
+    text: &[u8],
+) -> Result<(Direction, &[u8]), Unexpected>
+    ensures ok { IfOk result (λ r. ReadsArgument (Finds (joined_by direction both)) text.now r.0 r.1.now) }
+    ensures err { IfErr result (λ e. RefusesArgument (Finds (joined_by direction both)) text.now e.left
+        × (e.expected ≡ wanted_side direction)) }
+{
+    let word = argument(text, direction.wanted_side())?;
+    match direction.joined_by(both, word.bytes) {
+        Some(joined) => Ok((joined, word.rest)),
+        None => Err(word.unexpected(direction.wanted_side())),
     }
 }
 
@@ -131,7 +213,7 @@ fn of_any_protocol(direction: Direction, kind: Kind) -> Qualifiers
     }
 }
 
-/// Reads what an identifier is from the text after a direction: a network, unless a word says otherwise.
+/// Reads what an identifier is from the text after directions: a network, unless a word says otherwise.
 fn read_kind(text: &[u8]) -> (Kind, &[u8])
     ensures { ReadsKind text.now result.0 result.1.now }
 {
@@ -146,41 +228,23 @@ fn read_kind(text: &[u8]) -> (Kind, &[u8])
 
 /// Reads the identifier after qualifiers.
 fn read_qualified<'a>(head: Head<'a>, terms: usize) -> ReadPrimitive<'a>
-    ensures ok { IfOk result (λ r. (text : List ℕ) (x : Option TheQualifiers) → ReadsQualifiers text head.entry
+    ensures ok { IfOk result (λ r. (text : List ℕ) (x : Option TheQualifiers) → ReadsQualifiers terms text head.entry
         → ReadsPrimitive x terms text r.0 r.1.now) }
-    ensures err { IfErr result (λ e. (text : List ℕ) (x : Option TheQualifiers) → ReadsQualifiers text head.entry
+    ensures err { IfErr result (λ e. (text : List ℕ) (x : Option TheQualifiers) → ReadsQualifiers terms text head.entry
         → RefusesPrimitive x terms text e.left e.expected) }
 {
-    if is_full(head.qualifiers.protocol, terms) {
-        return Err(Unexpected {
-            left: head.left,
-            expected: Expected::FewerTerms,
-        });
-    }
     match argument(head.rest, head.qualifiers.kind.wanted()) {
         Ok(word) => read_identifier(head, terms, word),
         Err(error) => Err(error),
     }
 }
 
-/// Returns whether no primitive of the protocol can follow so many terms, since it has two at least.
-fn is_full(protocol: Option<Protocol>, terms: usize) -> bool
-    ensures { result ≡ (is_some protocol && nat_le 63 terms) }
-{
-    match protocol {
-        Some(_) => terms >= MAX_TERMS - 1,
-        None => false,
-    }
-}
-
 /// Reads the word as the identifier after qualifiers.
 fn read_identifier<'a>(head: Head<'a>, terms: usize, word: Word<'a>) -> ReadPrimitive<'a>
-    ensures ok { IfOk result (λ r. (text : List ℕ) (x : Option TheQualifiers) → ReadsQualifiers text head.entry
+    ensures ok { IfOk result (λ r. (text : List ℕ) (x : Option TheQualifiers) → ReadsQualifiers terms text head.entry
         → IsFirstWord head.entry.rest.now word.entry → ReadsPrimitive x terms text r.0 r.1.now) }
-    ensures err { IfErr result (λ e. (text : List ℕ) (x : Option TheQualifiers) → ReadsQualifiers text head.entry
-        → IsFirstWord head.entry.rest.now word.entry
-        → (is_some head.entry.qualifiers.protocol && nat_le 63 terms) ≡ false
-        → RefusesPrimitive x terms text e.left e.expected) }
+    ensures err { IfErr result (λ e. (text : List ℕ) (x : Option TheQualifiers) → ReadsQualifiers terms text head.entry
+        → IsFirstWord head.entry.rest.now word.entry → RefusesPrimitive x terms text e.left e.expected) }
 {
     match identified(head.qualifiers, word.bytes) {
         Some(primitive) => {
@@ -198,9 +262,7 @@ fn read_carried<'a>(before: Option<Qualifiers>, terms: usize, word: Word<'a>) ->
     ensures ok { IfOk result (λ r. (text : List ℕ) → IsFirstWord text word.entry
         → ReadsPrimitive before terms text r.0 r.1.now) }
     ensures err { IfErr result (λ e. (text : List ℕ) → IsFirstWord text word.entry
-        → keyword_of word.entry.bytes.now ≡ None
-        → ((ws : List Text) → take 1 ws ≡ take 1 (words word.entry.rest.now)
-        → qualifiers_at (word.entry.bytes.now ∷ ws) ≡ None)
+        → keyword_of word.entry.bytes.now ≡ None → BeginsNoQualifiers word.entry.bytes.now word.entry.rest.now
         → bytes_eq word.entry.bytes.now (codes "(") ≡ false → RefusesPrimitive before terms text e.left e.expected) }
 {
     if !is_identifier(word.bytes) {
@@ -241,8 +303,13 @@ fn is_identifier(word: &[u8]) -> bool
     ensures { result ≡ is_identifier word.now }
 {
     let is_sign = word == b"(".as_slice() || word == b")".as_slice();
-    let begins = keyword_of(word).is_some()
-        || direction_named(word).is_some()
-        || kind_of(word).is_some();
+    let begins = keyword_of(word).is_some() || begins_side_or_kind(word);
     !begins && !is_not(word) && !is_and(word) && !is_or(word) && !is_sign
+}
+
+/// Returns whether qualifiers after a protocol begin with the word.
+fn begins_side_or_kind(word: &[u8]) -> bool
+    ensures { result ≡ is_some (side_or_kind_at (word.now ∷ [])) }
+{
+    direction_named(word).is_some() || kind_of(word).is_some()
 }

@@ -2,9 +2,9 @@
 ghost use Rattle.std.specs.Prelude.{◌≡◌, ◌≤◌, ◌+◌, IfSome, IfNone};
 ghost use Rattle.ip_filter.specs.declared.qualifiers.Named.{Named as TheNamed};
 ghost use Rattle.ip_filter.specs.Formula.{terms_of};
-ghost use Rattle.ip_filter.specs.Qualifiers.{protocol_named, protocol_term, direction_named, kind_named, kind_of, network_term, ports_term, protocol_said, wanted, Identifies, says, plain};
+ghost use Rattle.ip_filter.specs.Qualifiers.{protocol_named, protocol_term, multicast_term, multicast_with, direction_named, joined_by, kind_named, kind_of, network_said, ports_said, protocol_said, wanted_side, wanted, Identifies, says, plain};
 
-use crate::networks::{parse_host, parse_network};
+use crate::networks::{parse_host, parse_network, parse_network_or_front};
 use crate::numbers::{header_numbered, parse_ports, parse_protocol, parse_upper_layer};
 use crate::{Expected, Network, Ports, Term};
 
@@ -30,6 +30,8 @@ pub(crate) enum Direction {
     Destination,
     /// Either one's.
     Either,
+    /// Both.
+    Both,
 }
 
 /// What an identifier is.
@@ -63,8 +65,10 @@ pub(crate) struct Qualifiers {
 pub(crate) enum Named {
     /// This term.
     Term(Term),
-    /// There is an extension header of this number, or the headers lead to the number.
-    Header(u8),
+    /// Both of these.
+    Both(Term, Term),
+    /// One of these, or both.
+    Either(Term, Term),
 }
 
 /// The smallest part of a filter: a term, or several of them that belong together.
@@ -90,6 +94,33 @@ impl Protocol {
             Protocol::LeadsTo(number) => Term::LeadsTo(number),
         }
     }
+
+    /// Returns the term that the word makes of the protocol, if it follows it.
+    pub(crate) fn multicast_with(self, word: &[u8]) -> Option<Term>
+        ensures { result ≡ multicast_with self word.now }
+    {
+        if word == b"multicast".as_slice() {
+            return self.multicast_term();
+        }
+        None
+    }
+
+    /// Returns the term that the destination is a multicast address, if the protocol is a version of IP.
+    fn multicast_term(self) -> Option<Term>
+        ensures { result ≡ multicast_term self }
+    {
+        match self {
+            Protocol::Version(4) => Some(Term::Destination(Network::Ipv4 {
+                address: 0xe000_0000,
+                len: 3,
+            })),
+            Protocol::Version(_) => Some(Term::Destination(Network::Ipv6 {
+                address: 0xff00_0000_0000_0000_0000_0000_0000_0000,
+                len: 8,
+            })),
+            _ => None,
+        }
+    }
 }
 
 impl Primitive {
@@ -111,7 +142,7 @@ impl Primitive {
     {
         let terms = match self.named {
             Named::Term(_) => 1,
-            Named::Header(_) => 2,
+            Named::Both(_, _) | Named::Either(_, _) => 2,
         };
         match self.protocol {
             Some(_) => terms + 1,
@@ -153,6 +184,29 @@ pub(crate) fn direction_named(word: &[u8]) -> Option<Direction>
         return Some(Direction::Destination);
     }
     None
+}
+
+impl Direction {
+    /// Returns both directions, if the word states the other one than this.
+    pub(crate) fn joined_by(self, both: Direction, word: &[u8]) -> Option<Direction>
+        ensures { result ≡ joined_by self both word.now }
+    {
+        let is_other = match self {
+            Direction::Source => word == b"dst".as_slice(),
+            _ => word == b"src".as_slice(),
+        };
+        if is_other { Some(both) } else { None }
+    }
+
+    /// Returns what is expected after the direction and `or` or `and`.
+    pub(crate) fn wanted_side(self) -> Expected
+        ensures { result ≡ wanted_side self }
+    {
+        match self {
+            Direction::Source => Expected::Destination,
+            _ => Expected::Source,
+        }
+    }
 }
 
 /// Returns what the word says that an identifier is, as it may after a direction.
@@ -202,19 +256,19 @@ impl Kind {
     {
         match self {
             Kind::Side => match parse_network(word) {
-                Some(network) => Some(Named::Term(network_term(direction, network))),
+                Some(network) => Some(network_said(direction, network)),
                 None => None,
             },
             Kind::Host => match parse_host(word) {
-                Some(network) => Some(Named::Term(network_term(direction, network))),
+                Some(network) => Some(network_said(direction, network)),
                 None => None,
             },
-            Kind::Network => match parse_network(word) {
-                Some(network) => Some(Named::Term(network_term(direction, network))),
+            Kind::Network => match parse_network_or_front(word) {
+                Some(network) => Some(network_said(direction, network)),
                 None => None,
             },
             Kind::Ports => match parse_ports(word) {
-                Some(ports) => Some(Named::Term(ports_term(direction, ports))),
+                Some(ports) => Some(ports_said(direction, ports)),
                 None => None,
             },
             Kind::Protocol => match parse_protocol(word) {
@@ -225,25 +279,27 @@ impl Kind {
     }
 }
 
-/// Returns the term that an address lies in the network.
-fn network_term(direction: Direction, network: Network) -> Term
-    ensures { result ≡ network_term direction network }
+/// Returns what a network says with the direction.
+fn network_said(direction: Direction, network: Network) -> Named
+    ensures { result ≡ network_said direction network }
 {
     match direction {
-        Direction::Source => Term::Source(network),
-        Direction::Destination => Term::Destination(network),
-        Direction::Either => Term::Either(network),
+        Direction::Source => Named::Term(Term::Source(network)),
+        Direction::Destination => Named::Term(Term::Destination(network)),
+        Direction::Either => Named::Term(Term::Either(network)),
+        Direction::Both => Named::Both(Term::Source(network), Term::Destination(network)),
     }
 }
 
-/// Returns the term that a port is one of these.
-fn ports_term(direction: Direction, ports: Ports) -> Term
-    ensures { result ≡ ports_term direction ports }
+/// Returns what ports say with the direction.
+fn ports_said(direction: Direction, ports: Ports) -> Named
+    ensures { result ≡ ports_said direction ports }
 {
     match direction {
-        Direction::Source => Term::SourcePort(ports),
-        Direction::Destination => Term::DestinationPort(ports),
-        Direction::Either => Term::Port(ports),
+        Direction::Source => Named::Term(Term::SourcePort(ports)),
+        Direction::Destination => Named::Term(Term::DestinationPort(ports)),
+        Direction::Either => Named::Term(Term::Port(ports)),
+        Direction::Both => Named::Both(Term::SourcePort(ports), Term::DestinationPort(ports)),
     }
 }
 
@@ -252,7 +308,7 @@ fn protocol_said(number: u8) -> Named
     ensures { result ≡ protocol_said number }
 {
     match header_numbered(number) {
-        Some(_) => Named::Header(number),
+        Some(_) => Named::Either(Term::Header(number), Term::LeadsTo(number)),
         None => Named::Term(Term::LeadsTo(number)),
     }
 }

@@ -264,7 +264,8 @@ fn programs(rt: HostRuntime) -> Result<(), Fail> {
             true,
         ),
         ("kind 0", filter(&[of_kind(0)]), false, false),
-        ("kind 22", filter(&[of_kind(22)]), false, false),
+        ("kind 31", filter(&[of_kind(31)]), false, false),
+        ("kind 255", filter(&[of_kind(255)]), false, false),
     ];
     for (name, filter, matches, other) in &rows {
         assert_same(&rt, name, filter.matches(bytes.as_slice()), *matches);
@@ -297,6 +298,68 @@ fn numbers_that_are_too_large(rt: HostRuntime) -> Result<(), Fail> {
             ..ipv6_then(64, 65)
         };
         assert_same(&rt, kind, filter(&[test]).matches(bytes.as_slice()), false);
+    }
+    Ok(())
+}
+
+/// A test of a layer takes any flags, of an error or not.
+#[test]
+fn flags_in_a_layer(rt: HostRuntime) -> Result<(), Fail> {
+    let truncated = ipv6_bytes(rt.alloc(), 64, 43, &[59, 1])?;
+    let whole = ipv6_bytes(rt.alloc(), 0, 17, &[1, 2, 3, 4])?;
+    let rows = [
+        ("version 6, a routing header", 1 << 6, 10, true),
+        ("version 6, an extension header", 1 << 6, 7, true),
+        ("missing bytes, a routing header", 1 << 10, 10, true),
+        ("version 6, a fragment header", 1 << 6, 11, false),
+        ("version 4, a routing header", 1 << 4, 10, false),
+        ("no flag, a routing header", 0, 10, false),
+    ];
+    for (name, address_low, number, matches) in rows {
+        let test = Test {
+            kind: 26,
+            number,
+            address_low,
+            ..ipv6_then(64, 65)
+        };
+        assert_same(
+            &rt,
+            name,
+            filter(&[test]).matches(truncated.as_slice()),
+            matches,
+        );
+        assert_same(
+            &rt,
+            (name, "whole"),
+            filter(&[test]).matches(whole.as_slice()),
+            false,
+        );
+    }
+    Ok(())
+}
+
+/// A prefix that is too long has all bits of the address.
+#[test]
+fn prefixes_that_are_too_long(rt: HostRuntime) -> Result<(), Fail> {
+    let bytes = ipv6_bytes(rt.alloc(), 0, 17, &[1, 2, 3, 4])?;
+    for len in [129, 200, 255] {
+        check(
+            &rt,
+            "IPv6",
+            bytes.as_slice(),
+            &[Term::Source(ipv6(1, len))],
+            &[Term::Source(ipv6(0, len))],
+        );
+    }
+    let bytes = ipv4_bytes(rt.alloc(), 0x45, 28, [0, 0], 17, &[1, 2, 3, 4, 5, 6, 7, 8])?;
+    for len in [33, 200, 255] {
+        check(
+            &rt,
+            "IPv4",
+            bytes.as_slice(),
+            &[Term::Source(ipv4(1, len))],
+            &[Term::Source(ipv4(0, len))],
+        );
     }
     Ok(())
 }

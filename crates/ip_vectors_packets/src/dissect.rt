@@ -312,6 +312,7 @@ fn ipv4_headers_that_are_not_whole(rt: HostRuntime) -> Result<(), Fail> {
     let stated = LenSource::Ipv4HeaderTotalLen;
     let auth = [17, 1, 2, 3, 4, 5, 6, 7, 8, 9, 10, 11];
     let total = len_error_at(20, 19, stated, Layer::Ipv4Packet, 0);
+    let base = len_error_at(20, 4, LenSource::Slice, Layer::Ipv4Header, 0);
     let auth_here = len_error_at(12, 4, LenSource::Slice, Layer::IpAuthHeader, 20);
     let auth_stated = len_error_at(12, 4, stated, Layer::IpAuthHeader, 20);
     let long = len_error_at(1028, 12, stated, Layer::IpAuthHeader, 20);
@@ -324,6 +325,12 @@ fn ipv4_headers_that_are_not_whole(rt: HostRuntime) -> Result<(), Fail> {
             ipv4_bytes(alloc, 0x45, 19, [0, 0], 17, &[1, 2, 3, 4])?,
             (20, Some(19), 0, 17, 0, 0, 4),
             too_long(total, None),
+        ),
+        (
+            "a total length below the header, of which 4 bytes are here",
+            Vec::from_array(alloc, [0x45, 0, 0, 19])?,
+            (0, None, 0, 59, 0, 0, 4),
+            truncated(base, None),
         ),
         (
             "an authentication header of 12 bytes, of which 4 are here",

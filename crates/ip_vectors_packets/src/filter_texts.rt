@@ -505,6 +505,19 @@ fn errors_in_arguments(rt: HostRuntime) -> Result<(), Fail> {
         ("id 0x", 3, Expected::Number),
         ("src 10.0.0.0/33", 4, Expected::NetworkOrPort),
         ("dst host", 8, Expected::Address),
+        ("src or", 6, Expected::Destination),
+        ("dst and dst port 1", 8, Expected::Source),
+        ("src or src 10.0.0.1", 7, Expected::Destination),
+        ("tcp dst or not src port 1", 11, Expected::Source),
+        ("src or dst", 10, Expected::NetworkOrPort),
+        ("src and dst and", 12, Expected::NetworkOrPort),
+        ("src and dst proto 6", 12, Expected::NetworkOrPort),
+        ("src or dst or port 1", 11, Expected::NetworkOrPort),
+        ("src and dst host ::/1", 17, Expected::Address),
+        ("tcp multicast", 4, Expected::OperatorOrEnd),
+        ("multicast", 0, Expected::Operand),
+        ("ip multicast 1", 13, Expected::OperatorOrEnd),
+        ("ip multicast or 10.0.0.1", 16, Expected::Operand),
         ("src port or", 9, Expected::Ports),
         ("dst proto 6", 4, Expected::NetworkOrPort),
         ("tcp src net", 11, Expected::Network),
@@ -545,6 +558,14 @@ fn errors_in_arguments(rt: HostRuntime) -> Result<(), Fail> {
         ("tcp udp port 443", 4, Expected::OperatorOrEnd),
         ("tcp port 443 80", 13, Expected::OperatorOrEnd),
         ("net 2001:db8::/129", 4, Expected::Network),
+        ("net 256", 4, Expected::Network),
+        ("net 010", 4, Expected::Network),
+        ("net 10.", 4, Expected::Network),
+        ("net 192.168.1.", 4, Expected::Network),
+        ("net 1.2.3.4.5", 4, Expected::Network),
+        ("net 10.1/33", 4, Expected::Network),
+        ("src 192.168", 4, Expected::NetworkOrPort),
+        ("host 192.168", 5, Expected::Address),
     ];
     for (text, offset, expected) in &rows {
         check_error(&rt, text, *offset, *expected);
@@ -594,6 +615,28 @@ fn primitives(rt: HostRuntime) -> Result<(), Fail> {
         ("proto 44", "(header 44 or leads-to 44)"),
         ("ip6 proto 44", "(ip6 and (header 44 or leads-to 44))"),
         ("proto ah", "(header 51 or leads-to 51)"),
+        ("src or dst port 53", "port 53"),
+        ("dst || src host 192.0.2.1", "net 192.0.2.1"),
+        ("tcp src or dst portrange 1-9", "(tcp and port 1-9)"),
+        ("src and dst port 53", "(src port 53 and dst port 53)"),
+        (
+            "not dst && src 10.0.0.0/8",
+            "not (src 10.0.0.0/8 and dst 10.0.0.0/8)",
+        ),
+        (
+            "udp src and dst port 53",
+            "(udp and (src port 53 and dst port 53))",
+        ),
+        ("ip multicast", "dst 224.0.0.0/3"),
+        ("net 10", "net 10.0.0.0/8"),
+        ("src net 192.168", "src 192.168.0.0/16"),
+        (
+            "ip net 192.168.1 or 0",
+            "(ip and net 192.168.1.0/24) or (ip and net 0.0.0.0/8)",
+        ),
+        ("net 192.168/12", "net 192.168.0.0/12"),
+        ("net 0xa.1", "net 10.1.0.0/16"),
+        ("ip6 multicast and udp", "dst ff00::/8 and udp"),
     ];
     for (text, longer) in &rows {
         check_alike(&rt, text, longer);
@@ -672,6 +715,12 @@ fn primitives_of_several_terms(rt: HostRuntime) -> Result<(), Fail> {
     assert_that(&rt, "64 terms", Filter::parse(text.as_bytes()).is_ok());
     text.push_str(" or 443")?;
     check_error(&rt, &text, 508, Expected::FewerTerms);
+    let mut both = String::new(rt.alloc());
+    for _ in 0..62 {
+        both.push_str("id 7 or ")?;
+    }
+    both.push_str("src and dst port 1")?;
+    assert_that(&rt, "64 terms", Filter::parse(both.as_bytes()).is_ok());
     let mut more = String::new(rt.alloc());
     for _ in 0..63 {
         more.push_str("id 7 or ")?;
@@ -681,6 +730,10 @@ fn primitives_of_several_terms(rt: HostRuntime) -> Result<(), Fail> {
         ("proto 6", 510, true),
         ("tcp port 80", 508, false),
         ("proto 44", 510, false),
+        ("src or dst port 80", 511, true),
+        ("src and dst port 80", 508, false),
+        ("src and udp", 508, false),
+        ("tcp src or dst port 80", 508, false),
     ];
     for (primitive, offset, fits) in &rows {
         let mut text = more.clone()?;

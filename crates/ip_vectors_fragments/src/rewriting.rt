@@ -8,8 +8,8 @@ use crate::packets::{
 };
 use ip_base::{IpNumber, ip_number};
 use ip_rewrite::{
-    Authentication, RewriteError, Rewritten, Which, cleared, in_order, recommended_index,
-    with_header, with_payload, without,
+    Authentication, RewriteError, Rewritten, Which, cleared, has_reserved_bits, in_order,
+    is_in_order, recommended_index, with_header, with_payload, without,
 };
 use std::process::Abort;
 use std::test::Fail;
@@ -405,6 +405,33 @@ fn reserved_bits(rt: HostRuntime) -> Result<(), Fail> {
     assert_rows(&rt, &rows)
 }
 
+#[test]
+fn reserved_bits_are_found(rt: HostRuntime) -> Result<(), Fail> {
+    let rows: [(&[u8], usize, u8, bool); 10] = [
+        (&FIRST, 49, 0x80, true),
+        (&FIRST, 51, 0x05, true),
+        (&FIRST, 51, 0x03, true),
+        (&FIRST, 51, 0xf9, false),
+        (&COVERED, 50, 0x01, true),
+        (&COVERED, 52, 0x01, false),
+        (&AUTHENTICATED, 27, 0x80, true),
+        (&AUTHENTICATED, 160, 0, false),
+        (&CHAIN, 43, 0xff, false),
+        (b"", 160, 0, false),
+    ];
+    for (packet, offset, byte, wanted) in rows.iter() {
+        let mut bytes = [0xeeu8; 128];
+        put(&mut bytes, 0, packet);
+        put(&mut bytes, *offset, &[*byte]);
+        let changed = bytes.get(..packet.len()).ok_or("the packet")?;
+        assert!(rt;
+            has_reserved_bits(changed) == *wanted,
+            "byte {offset} of {packet:?}"
+        );
+    }
+    Ok(())
+}
+
 /// Returns the change that inserts hop-by-hop options.
 fn options(index: usize) -> Change<'static> {
     Change::Header(ip_number::IPV6_HOP_BY_HOP, &OPTIONS, index)
@@ -541,6 +568,8 @@ fn assert_order(
     };
     assert!(rt; result == Ok(written), "{result:?} at {parts:?}");
     assert!(rt; out == new, "{out:?} for {new:?} at {parts:?}");
+    let stays = packet == new.get(..new_len).ok_or("what is wanted")?;
+    assert!(rt; is_in_order(packet) == stays, "the order of {parts:?}");
     Ok(())
 }
 
@@ -558,6 +587,7 @@ fn assert_order_stays(
     let result = in_order(packet, authentication, &mut out);
     assert!(rt; result == Err(error), "{result:?} at {parts:?}");
     assert!(rt; out == [0x5a; 128], "{out:?} at {parts:?}");
+    assert!(rt; !is_in_order(packet), "the order of {parts:?}");
     Ok(())
 }
 

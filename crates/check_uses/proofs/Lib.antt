@@ -4,3 +4,8 @@ pub mod LimitLemmas
 pub mod ReassemblyLemmas
 pub mod SpanLemmas
 pub mod OptionLemmas
+pub mod AgreementLemmas
+pub mod AcceptedLemmas
+pub mod LayerLemmas
+pub mod FrameLemmas
+pub mod TwoFragmentLemmas

@@ -7,8 +7,8 @@ ghost use Rattle.ip_dissect.specs.LaterDemand.{has_later};
 ghost use Rattle.ip_dissect.specs.Outline.{is_plain};
 ghost use Rattle.ip_dissect.specs.declared.end.End.TheVariants.{Payload};
 
+use crate::agreement_laws::parsed_packets_have_these_parts;
 use etherparse_ip::IpNumber;
-use ip_agreement::parsed_packets_have_these_parts;
 use ip_dissect::{Dissection, End, Packet, PacketStart, PacketVisitor, Visited, dissect};
 
 /// Returns the protocol number of the payload, if it starts here: the headers before it are whole, and the packet is

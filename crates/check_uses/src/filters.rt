@@ -1,12 +1,12 @@
 //! Callers of filters.
-ghost use Rattle.std.specs.Prelude.{◌≡◌, ◌≤◌, IfSome, IfNone};
+ghost use Rattle.std.specs.Prelude.{◌≡◌, ◌≤◌, ◌++◌, List, drop, IfSome, IfNone};
 ghost use Rattle.ip_dissect.specs.Dissection.{dissected};
-ghost use Rattle.ip_filter.specs.Words.{words};
+ghost use Rattle.ip_filter.specs.Words.{Word, words};
 ghost use Rattle.ip_filter.specs.Grammar.{Disjunction, IsFilter, filter_words, formula_of, terms_in};
 ghost use Rattle.ip_filter.specs.Formula.{truth};
 ghost use Rattle.ip_filter.specs.Truth.{holds};
 
-use ip_filter::Filter;
+use ip_filter::{Expected, Filter, ParseError};
 use ip_spans::parse_filter;
 
 /// Returns whether the packet meets the filter that the text writes, and `None` if the text isn't a filter.
@@ -51,5 +51,32 @@ pub fn count_of_tests(text: &[u8]) -> Option<usize>
     match Filter::parse(text) {
         Ok(filter) => Some(filter.count),
         Err(_) => None,
+    }
+}
+
+/// Returns the offset at which the text goes on after a filter, if an operator or the end is expected there.
+pub fn end_of_filter(text: &[u8]) -> Option<usize>
+    ensures { IfSome result (λ offset. (d : Disjunction) × IsFilter d
+        × (filter_words d ++ words (drop offset text.now) ≡ words text.now)) }
+{
+    match Filter::parse(text) {
+        Err(
+            ParseError {
+                offset,
+                expected: Expected::OperatorOrEnd,
+            },
+        ) => Some(offset),
+        _ => None,
+    }
+}
+
+/// Returns the offset of the first error in the text of a filter. Some filter begins with the words before it.
+pub fn offset_of_error(text: &[u8]) -> Option<usize>
+    ensures { IfSome result (λ offset. (d : Disjunction) × (front : List Word) × (rest : List Word) × IsFilter d
+        × (filter_words d ≡ front ++ rest) × (front ++ words (drop offset text.now) ≡ words text.now)) }
+{
+    match Filter::parse(text) {
+        Ok(_) => None,
+        Err(error) => Some(error.offset),
     }
 }

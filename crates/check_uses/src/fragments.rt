@@ -1,8 +1,9 @@
 //! Packets from their fragments.
-ghost use Rattle.std.specs.Prelude.{◌≡◌, ◌≤◌, ◌++◌, ℕ, List, length, drop, slice_index, true, false, Ok, Err, Some, None, IsNone, IsSome, OnOk};
+ghost use Rattle.std.specs.Prelude.{◌≡◌, ◌<◌, ◌≤◌, ◌++◌, ◌∷◌, [], ℕ, List, length, drop, slice_index, true, false, Ok, Err, Some, None, IsNone, IsSome, OnOk};
 ghost use Rattle.ip_dissect.specs.Dissection.{dissected};
 ghost use Rattle.ip_defrag.specs.Fragment.{Fragment};
 ghost use Rattle.ip_defrag.specs.Split.{IsSplit, are_among};
+ghost use Rattle.ip_lists.specs.Table.{AreSame};
 ghost use Rattle.ip_defragmenter.specs.FragmentOf.{packet_fragment, parts_of};
 ghost use Rattle.ip_defragmenter.specs.Added.{added_nothing};
 ghost use Rattle.ip_defragmenter.specs.Counts.{counted};
@@ -12,11 +13,18 @@ ghost use Rattle.ip_defragmenter.specs.Memory.{WasStored, HoldsStored, AreJoinab
 ghost use Rattle.ip_defragmenter.specs.Sent.{IsSentIpv6, ipv6_first};
 ghost use Rattle.ip_defragmenter.specs.Slots.{IsUnchanged};
 ghost use Rattle.ip_defragmenter.specs.declared.err.FragmentError.{FragmentError};
+ghost use Rattle.ip_defrag_laws.specs.Ipv6.{IsIpv6Fragment};
+ghost use Rattle.ip_defrag_laws.specs.Run.{IsFresh};
+ghost use Rattle.ip_defrag_laws.specs.Written.{IsMadeWhole};
 
 use ip_defrag::Progress;
+use ip_defrag_laws::{
+    defragment_in_run, fragments_are_read, fragments_make_the_packet_that_was_sent,
+    packets_are_kept_where_there_is_room,
+};
 use ip_defragmenter::{
-    Defragmenter, DropReason, IpFragment, Outcome, PacketMemory, Settings, SlotTable, WholeError,
-    defragment, whole_packet_is_the_one_sent,
+    Added, Defragmenter, DropReason, IpFragment, Outcome, PacketMemory, Settings, SlotTable,
+    WholeError, defragment, whole_packet_is_the_one_sent,
 };
 
 /// Adds a packet that arrived at this time in this context. If it makes its packet whole, writes that to `out` and returns its length in
@@ -47,6 +55,22 @@ pub fn whole_packet(
     }
 }
 
+/// Adds a packet that is no fragment: each slot, and which of them are in use, stays as it is.
+pub fn add_whole(
+    slots: &mut SlotTable<'_>,
+    memories: &mut [PacketMemory],
+    settings: &Settings,
+    time: u64,
+    packet: &[u8],
+) -> Outcome
+    requires memories { length slots.old.slots.now ≡ length memories.old }
+    requires whole { packet_fragment (dissected packet.now) ≡ Ok None }
+    ensures slots { slots.new.slots.now ≡ slots.old.slots.now }
+    ensures table { AreSame slots.old.table slots.new.table }
+{
+    defragment(slots, memories, settings, 0, time, packet).outcome
+}
+
 /// Adds a packet that arrived at this time in this context, and counts it. If it makes its packet whole, writes that to `out` and returns its
 /// length in bytes. Returns `None` if it doesn't, or if the whole packet doesn't fit.
 pub fn counted_packet(
@@ -72,6 +96,32 @@ pub fn counted_packet(
         },
         _ => None,
     }
+}
+
+/// Adds the two fragments of an IPv6 packet, which arrived at one time, to a table that was cleared. The packet is then whole:
+/// its memory has the packet that was sent.
+pub fn two_fragments(
+    slots: &mut SlotTable<'_>,
+    memories: &mut [PacketMemory],
+    settings: &Settings,
+    context: u32,
+    time: u64,
+    first: &[u8],
+    last: &[u8],
+) -> Added
+    requires { length slots.old.slots.now ≡ length memories.old }
+    ensures { (s : List ℕ) (n link id : ℕ) (p q : Fragment)
+        → IsFresh settings.now (record { slots = slots.old; memories = memories.old })
+        → IsSentIpv6 s n link → n ≤ 4096 → IsSplit (drop n s) (p ∷ q ∷ [])
+        → IsIpv6Fragment s n link id p first.now → IsIpv6Fragment s n link id q last.now
+        → IsMadeWhole s (record { context = context; time = time; bytes = last.now; piece = Some q; added = result })
+        (record { slots = slots.new; memories = memories.new }) }
+{
+    fragments_are_read();
+    fragments_make_the_packet_that_was_sent();
+    packets_are_kept_where_there_is_room();
+    let _ = defragment_in_run(slots, memories, settings, context, time, first);
+    defragment_in_run(slots, memories, settings, context, time, last)
 }
 
 /// Writes the whole packet of a memory that was given the fragments of an IPv6 packet, in any order and repeated, without
@@ -113,10 +163,22 @@ pub fn written_when_whole(
     }
 }
 
-/// Makes a memory ready for another packet: no fragments are left, and no byte of the payload is written.
+/// Makes a memory ready for another packet: no fragments are left, and no byte of its arrays is written.
 pub fn memory_for_another_packet(memory: &mut PacketMemory)
     ensures stored { HoldsStored memory.new (stored_none 65535) }
-    ensures bytes { payload_buffer memory.new ≡ payload_buffer memory.old }
+    ensures payload { payload_buffer memory.new ≡ payload_buffer memory.old }
+    ensures short_head { memory.new.short_head ≡ memory.old.short_head }
+    ensures head { memory.new.head ≡ memory.old.head }
+    ensures unused { memory.new.unused ≡ memory.old.unused }
 {
     memory.reset();
+}
+
+/// Adds a fragment that isn't the first one. No byte of the arrays for headers is written.
+pub fn add_later(memory: &mut PacketMemory, fragment: &IpFragment<'_>) -> bool
+    requires { 0 < fragment.now.offset }
+    ensures short_head { memory.new.short_head ≡ memory.old.short_head }
+    ensures head { memory.new.head ≡ memory.old.head }
+{
+    memory.add(fragment).is_ok()
 }

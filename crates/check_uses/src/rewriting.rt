@@ -1,10 +1,13 @@
 //! Callers of the calls that write packets with other extension headers.
-ghost use Rattle.std.specs.Prelude.{◌≡◌, take, IfSome, IfNone};
+ghost use Rattle.std.specs.Prelude.{◌≡◌, ◌↔◌, take, IfSome, IfNone, IsTrue};
+ghost use Rattle.ip_spec.specs.Encoding.{cleared_chain};
 ghost use Rattle.ip_dissect.specs.Dissection.{dissected};
+ghost use Rattle.ip_rewrite.specs.Order.{in_order};
 
 use ip_base::ip_number;
 use ip_rewrite::{
-    Authentication, Which, cleared, in_order, recommended_index, with_header, without,
+    Authentication, Which, cleared, has_reserved_bits, in_order, is_in_order, recommended_index,
+    with_header, without,
 };
 
 /// Writes the packet without its first extension header to `out`, unless an authentication header covers it, and returns its
@@ -55,4 +58,12 @@ pub fn ordered(packet: &[u8], out: &mut [u8]) -> Option<usize>
         Ok(written) => Some(written.len),
         Err(_) => None,
     }
+}
+
+/// Returns whether neither `cleared` nor `in_order` would change an extension header of the packet.
+pub fn is_normal(packet: &[u8]) -> bool
+    ensures { let c = (dissected packet.now).headers in
+        IsTrue result ↔ ((cleared_chain c ≡ c) × (in_order c ≡ c)) }
+{
+    !has_reserved_bits(packet) && is_in_order(packet)
 }

@@ -17,7 +17,7 @@ use Rattle.etherparse_ip.proofs.OnePacketLemmas.{ipv4_parts_are, ipv6_parts_are}
 use Rattle.ip_dissect.specs.LaterDemand.{has_later, NothingAfterLater, nothing_after_later}
 use Rattle.ip_dissect.specs.Later.{chain_to_later}
 use Rattle.ip_dissect.specs.Extent.{packet_bytes, after_base, ipv4_stated, ipv6_stated, ipv4_chain_in, ipv6_chain}
-use Rattle.ip_agreement.specs.Agreement.{Agree}
+use Rattle.check_uses.specs.Agreement.{Agree}
 use Rattle.ip_dissect.proofs.DissectedLemmas.{BeginIpv4, header_begins4, BeginIpv6, header_begins6}
 use Rattle.ip_dissect.proofs.LaterLemmas.{chain_to_later-longest, may_follow, met}
 

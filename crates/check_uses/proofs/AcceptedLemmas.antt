@@ -20,7 +20,7 @@ use Rattle.ip_dissect.specs.End.{base_end, auth_end, ipv4_end, exts_end, ipv6_re
 use Rattle.ip_dissect.specs.Dissection.{dissected}
 use Rattle.ip_dissect.specs.declared.end.End.{End}
 use Rattle.ip_dissect.specs.declared.end.End.TheVariants as end
-use Rattle.ip_agreement.proofs.AgreementLemmas.{no_later, after_is6, after_is4}
+use Rattle.check_uses.proofs.AgreementLemmas.{no_later, after_is6, after_is4}
 use Rattle.ip_dissect.proofs.DissectedLemmas.{BeginIpv4, begin_ipv4, BeginIpv6, begin_ipv6}
 
 none_before : {A B : Type 0} (f : A → B) (o : Option A) → option_map f o ≡ None → o ≡ None

@@ -1,4 +1,6 @@
-//! How dissections and the strict parse of packets agree, proved as the contracts of calls.
+//! Two laws on how dissections of `ip_dissect` and the strict parse of packets, `IpSlice::from_slice` of `etherparse_ip`,
+//! agree. They say nothing about later fragments: the parse continues after their fragment header, and `dissect` stops
+//! there. Bytes that don't start with a whole base header have an error in both.
 ghost use Rattle.std.specs.Prelude.{◌≡◌, ◌↔◌, Some, None, IsSome, false};
 ghost use Rattle.ip_base.specs.Ipv4Header.{ipv4_fragment_offset};
 ghost use Rattle.etherparse_ip.specs.Packet.{IsIpv4Packet, IsIpv6Packet};
@@ -6,7 +8,7 @@ ghost use Rattle.etherparse_ip.specs.PacketFault.{ip_fault};
 ghost use Rattle.ip_dissect.specs.LaterDemand.{has_later};
 ghost use Rattle.ip_dissect.specs.End.{base_end};
 ghost use Rattle.ip_dissect.specs.Dissection.{dissected};
-ghost use Rattle.ip_agreement.specs.Agreement.{Agree};
+ghost use Rattle.check_uses.specs.Agreement.{Agree};
 ghost use Rattle.ip_dissect.specs.declared.end.End.TheVariants.{Payload};
 
 /// Proves that a packet that `IpSlice::from_slice` parses has the parts of its dissection, unless it is a later

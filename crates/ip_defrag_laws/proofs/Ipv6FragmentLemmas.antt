@@ -108,7 +108,7 @@ led_bytes m h (g ∷ c) =
     ∙ ap (λ (k : ℕ). h.bytes ++ slice_set (bytes_of (g ∷ c)) k m) (let e : length h.bytes + last_at (g ∷ c) - length h.bytes ≡ last_at (g ∷ c) = omega arith in e))
 
 -- The fragment header's fields.
-flag_is : (start : ℕ) (more : Bool) → start % 8 ≡ 0 → flag_bit (start % 256 + (if more then 1 else 0)) ≡ more
+pub flag_is : (start : ℕ) (more : Bool) → start % 8 ≡ 0 → flag_bit (start % 256 + (if more then 1 else 0)) ≡ more
 flag_is start true units =
     let low : bit_and (start % 256 + 1) 0x01 ≡ (start % 256 + 1) % 2 = and_mask (start % 256 + 1) 1 in
     not_from_false (bit_and (start % 256 + 1) 0x01 == 0) (ne_eqb (bit_and (start % 256 + 1) 0x01) 0 (λ e. omega (arith, e, low, units)))
@@ -116,7 +116,7 @@ flag_is start false units =
     let low : bit_and (start % 256 + 0) 0x01 ≡ (start % 256 + 0) % 2 = and_mask (start % 256 + 0) 1 in
     not_from_true (bit_and (start % 256 + 0) 0x01 == 0) (eq-eqb (bit_and (start % 256 + 0) 0x01) 0 (omega (arith, low, units)))
 
-offset_is : (start : ℕ) (more : Bool) → start % 8 ≡ 0 → 8 * offset_bits (start / 256) (start % 256 + (if more then 1 else 0)) ≡ start
+pub offset_is : (start : ℕ) (more : Bool) → start % 8 ≡ 0 → 8 * offset_bits (start / 256) (start % 256 + (if more then 1 else 0)) ≡ start
 offset_is start true units = (let high : bit_and (start % 256 + 1) 0xf8 ≡ ((start % 256 + 1) / 8 % 32) * 8 = and_high (start % 256 + 1) 5 3 in omega (arith, high, units))
 offset_is start false units = (let high : bit_and (start % 256 + 0) 0xf8 ≡ ((start % 256 + 0) / 8 % 32) * 8 = and_high (start % 256 + 0) 5 3 in omega (arith, high, units))
 

@@ -72,7 +72,7 @@ within j (h ∷ c) =
     record { rest = found.0; is = found.1 }
 
 -- A chain at the start of bytes begins their longest chain.
-begins_chain : (n : ℕ) (d : List ExtHeader) (r : List ℕ) → IsChain n d → NothingAfterLater d → (rest : List ExtHeader) × (chain_to_later n (bytes_of d ++ r) ≡ d ++ rest)
+pub begins_chain : (n : ℕ) (d : List ExtHeader) (r : List ℕ) → IsChain n d → NothingAfterLater d → (rest : List ExtHeader) × (chain_to_later n (bytes_of d ++ r) ≡ d ++ rest)
 begins_chain n d r chain meets =
     let x : List ℕ = bytes_of d ++ r in
     let j : ℕ = length (bytes_of d) in
@@ -96,7 +96,7 @@ and_first : (a b : Bool) → a ≡ false → (a && b) ≡ false
 and_first true b is = absurd (false≢true (sym is))
 and_first false b is = refl
 
-none_later : (c : List ExtHeader) → list_any is_fragment_header c ≡ false → has_later c ≡ false
+pub none_later : (c : List ExtHeader) → list_any is_fragment_header c ≡ false → has_later c ≡ false
 none_later [] none = refl
 none_later (g ∷ c) none =
     let own : is_later g ≡ false = and_first (g.number == FRAGMENT) _ (first_false (is_fragment_header g) (list_any is_fragment_header c) none) in

@@ -9,7 +9,8 @@ pub enum End {
     Payload,
     /// The packet is a fragment with a non-zero offset: its payload continues that of an earlier fragment.
     LaterFragment,
-    /// A header is incomplete here, but lies within the length that the packet states, or none is stated.
+    /// A header is incomplete here: a base header, or an extension header that lies within the length that the packet
+    /// states, if it states one.
     Truncated {
         /// The bytes that the header needs, and those that are here. It needs as many as its length field states or, if that
         /// isn't here either, the least that it can have.
@@ -17,8 +18,8 @@ pub enum End {
         /// The IPv6 extension header that is incomplete; `None` if it is another header.
         header: Option<Layer>,
     },
-    /// A header doesn't fit the packet, or its bytes are malformed. If its length field is here, that doesn't depend on how
-    /// many of its other bytes are.
+    /// A header doesn't fit the packet, or its bytes are malformed. For an extension header whose length field is here,
+    /// that doesn't depend on how many of its other bytes are.
     Fault {
         /// The error.
         error: SliceError,

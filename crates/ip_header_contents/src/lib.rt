@@ -1,5 +1,20 @@
-//! What is in extension headers: the options of hop-by-hop and destination options headers (RFC 8200, section 4.2), and
-//! the addresses of routing headers of types 2, 3 and 4 (RFC 6275, section 6.4; RFC 6554, section 3; RFC 8754, section 2).
+//! What is in extension headers: the options of hop-by-hop and destination options headers (RFC 8200, section 4.2),
+//! and the addresses of routing headers of types 2, 3 and 4 (RFC 6275, section 6.4; RFC 6554, section 3; RFC 8754,
+//! section 2). All of it is borrowed from the headers' bytes; nothing is copied or allocated.
+//!
+//! | To read | Call |
+//! |---|---|
+//! | the options of a header, one after another | `HeaderOptions::of`, an iterator; after it `malformed` returns the offset of the option that ended it, if one did |
+//! | the option at the start of any bytes | `option_at` |
+//! | a routing header's type and segments left | `routing_type`, `segments_left` |
+//! | all addresses of a routing header, or the one with an index | `RoutingAddresses::of`, an iterator; `get` |
+//! | where the addresses are | `address_layout` |
+//! | an address of type 3, which lacks its first bytes | `suffix` for the bytes that are there, `expanded` for all 16, given the packet's destination |
+//!
+//! The calls take any header in the uniform format, an `Ipv6RawExtHeaderSlice`. Its number, which the format doesn't
+//! have, says whether it has options or addresses. The number of segments left isn't that of the addresses.
+//!
+//! The callers in `contents.rt` of `check_uses` are proved from these contracts.
 #![tactic(auto)]
 
 mod header_option;

@@ -24,3 +24,5 @@ expected_code expected.Ports = 16
 expected_code expected.TcpFlags = 17
 expected_code expected.IcmpType = 18
 expected_code expected.Icmp6Type = 19
+expected_code expected.Source = 20
+expected_code expected.Destination = 21

@@ -62,6 +62,8 @@ fn code_of(expected: Expected) -> u8
         Expected::TcpFlags => 17,
         Expected::IcmpType => 18,
         Expected::Icmp6Type => 19,
+        Expected::Source => 20,
+        Expected::Destination => 21,
     }
 }
 
@@ -90,6 +92,8 @@ pub(crate) fn expected_of(code: u8) -> Option<Expected>
         17 => Some(Expected::TcpFlags),
         18 => Some(Expected::IcmpType),
         19 => Some(Expected::Icmp6Type),
+        20 => Some(Expected::Source),
+        21 => Some(Expected::Destination),
         _ => None,
     }
 }

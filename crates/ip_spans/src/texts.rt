@@ -13,8 +13,8 @@ use std::fmt::{Display, Write};
 const TEXT_LEN: usize = 255;
 
 /// Formats the error as text at the front of `text`, followed by a 0 byte. Returns the text's length in bytes, at
-/// most 255. If the text and the 0 don't fit, `text` is unchanged. Fields that no call of this crate returns have an
-/// empty text.
+/// most 255. If the text and the 0 don't fit, `text` is unchanged. The text is empty for an unknown kind, for too few
+/// bytes with an unknown layer or length source, and for a version or header length above 255.
 pub fn fault_text(fault: &FaultFields, text: &mut [u8]) -> usize
     ensures most { result ≤ 255 }
     ensures end { result < length text.old → slice_index text.new result ≡ 0 }

@@ -8,6 +8,7 @@ mod chains;
 mod defragmenter;
 mod faults;
 mod filters;
+mod frames;
 mod headers;
 mod names;
 mod packets;

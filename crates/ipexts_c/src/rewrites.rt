@@ -1,15 +1,16 @@
 //! Packets with other extension headers.
-ghost use Rattle.std.specs.Prelude.{◌≡◌, ◌++◌, length, drop, take, not, true, false, IsTrue, IsOkAnd, IfSome, IfNone, Some, None};
+ghost use Rattle.std.specs.Prelude.{◌≡◌, ◌++◌, ◌↔◌, length, drop, take, not, true, false, IsTrue, IsOkAnd, IfSome, IfNone, Some, None};
+ghost use Rattle.std.specs.List.{list_any};
 ghost use Rattle.std.specs.Result.{result_err};
 ghost use Rattle.ip_spec.specs.Chain.{ExtHeader};
 ghost use Rattle.ip_spec.specs.Encoding.{cleared_chain};
 ghost use Rattle.ip_dissect.specs.Dissection.{dissected};
 ghost use Rattle.ip_rewrite.specs.Rewritten.{rewritten as packet_with, rewritten_len, rewritten_parts};
 ghost use Rattle.ip_rewrite.specs.Without.{without, parts_without, without_fault, has_segments};
-ghost use Rattle.ip_rewrite.specs.Clearing.{clearing_fault};
+ghost use Rattle.ip_rewrite.specs.Clearing.{clearing_fault, has_reserved};
 ghost use Rattle.ip_rewrite.specs.Payload.{payload_fault};
 ghost use Rattle.ip_rewrite.specs.Insertion.{inserted, insertion_fault};
-ghost use Rattle.ip_rewrite.specs.Order.{in_order, ordering_fault, recommended_index};
+ghost use Rattle.ip_rewrite.specs.Order.{in_order, is_in_order, ordering_fault, recommended_index};
 ghost use Rattle.ip_rewrite.specs.declared.err.RewriteError.{RewriteError as Refusal};
 ghost use Rattle.ip_rewrite.specs.declared.which.Which.TheVariants.{Index};
 ghost use Rattle.ipexts_c.specs.Rewrites.{with_number, authentication, refusal_code, rewritten_fields, fields_without, refused_fields};
@@ -17,8 +18,8 @@ ghost use Rattle.ipexts_c.specs.Rewrites.{with_number, authentication, refusal_c
 use crate::bytes::Bytes;
 use ip_base::IpNumber;
 use ip_rewrite::{
-    Authentication, RewriteError, Rewritten, Which, cleared, in_order, recommended_index,
-    with_header, with_payload, without,
+    Authentication, RewriteError, Rewritten, Which, cleared, has_reserved_bits, in_order,
+    is_in_order, recommended_index, with_header, with_payload, without,
 };
 
 /// A packet that was written, or why none was, as numbers.
@@ -292,6 +293,16 @@ pub extern "C" fn wolfaren_with_payload(
     stored(outcome, rewritten)
 }
 
+/// Calls `has_reserved_bits`.
+#[unsafe(no_mangle)]
+pub extern "C" fn wolfaren_has_reserved_bits(bytes: Bytes<'_>) -> bool
+    ensures found { result ≡ list_any has_reserved (dissected bytes.entry.slice.now).headers }
+    ensures unchanged { let c = (dissected bytes.entry.slice.now).headers in
+        result ≡ false ↔ (cleared_chain c ≡ c) }
+{
+    has_reserved_bits(bytes.slice())
+}
+
 /// Calls `cleared`, as `wolfaren_without_number` calls `without`.
 #[unsafe(no_mangle)]
 pub extern "C" fn wolfaren_cleared(
@@ -316,6 +327,16 @@ pub extern "C" fn wolfaren_cleared(
 {
     let outcome = cleared(bytes.slice(), authentication(may_be_invalid), out);
     stored(outcome, rewritten)
+}
+
+/// Calls `is_in_order`.
+#[unsafe(no_mangle)]
+pub extern "C" fn wolfaren_is_in_order(bytes: Bytes<'_>) -> bool
+    ensures ranks { result ≡ is_in_order (dissected bytes.entry.slice.now).headers }
+    ensures unchanged { let c = (dissected bytes.entry.slice.now).headers in
+        IsTrue result ↔ (in_order c ≡ c) }
+{
+    is_in_order(bytes.slice())
 }
 
 /// Calls `in_order`, as `wolfaren_without_number` calls `without`.

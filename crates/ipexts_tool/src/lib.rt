@@ -1,4 +1,14 @@
-//! Answers lines with requests about IP extension headers.
+//! Answers lines with requests about IP extension headers: `run` reads them from any reader, and writes the answers to
+//! any writer.
+//!
+//! - After `Ok` the reader is at its end, all lines are answered and the output is flushed.
+//! - After `ToolError::Memory` the answers to some first lines were written, whole and flushed. A test shows that these
+//!   are all lines before the one that lacked memory.
+//! - After `ToolError::Io` nothing is known of the output.
+//!
+//! No clause is about readers and writers that don't know their bytes, such as standard input, nor says when an error
+//! is returned. Tests show that a run succeeds, and reports an error where a read, a write, a flush or an allocation
+//! failed and nowhere else. `answers_in_memory` in `check_uses/src/tool.rt` is a caller without a proof file.
 //!
 //! # Lines
 //!

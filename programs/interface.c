@@ -25,14 +25,14 @@ bool wolfaren_cpu_is_supported(void)
 }
 #endif
 
-/* The bytes of a defragmenter besides its slots, and those of each slot. Of ages there is a link for each slot and two heads, of
- * chains two links for each slot, one of which is its bucket's, and two buckets more. Each part is a multiple of 8 bytes. The
- * memories of packets begin at multiples of 1,024, so that two fragments of 1,500 bytes need two pages: at most GAP bytes are
- * left out before them. */
+/* The bytes of a defragmenter besides its slots, and those of each slot. Of ages there is a link for each slot and two heads,
+ * of chains two links for each slot, one of which is its bucket's, and two buckets more. Each part is a multiple of 8 bytes,
+ * or of 4 if pointers have so many. The memories of packets begin at multiples of 1,024, so that two fragments of 1,500 bytes
+ * need two pages: at most GAP bytes are left out before them. */
 enum {
     HEADS = 2,
     ALIGNMENT = 1024,
-    GAP = ALIGNMENT - 8,
+    GAP = ALIGNMENT - (sizeof(void *) < 8 ? 4 : 8),
     BESIDE_SLOTS = sizeof(struct wolfaren_defragmenter) + sizeof(struct wolfaren_fragment_counts) + 4 * HEADS * sizeof(uint32_t),
     EACH_SLOT = sizeof(struct wolfaren_slot) + sizeof(struct wolfaren_packet_memory) + 6 * sizeof(uint32_t)
 };

@@ -6,22 +6,21 @@
 #include <stdlib.h>
 #include <string.h>
 
-#include "capture/link_layer.h"
+#include "wolfaren.h"
 
 enum { MAX_FRAME = 4096 };
 
 /* Returns where IP is found in a copy of the bytes, after which no byte may be read, or -1. */
-static int place_of_ip(const struct link_layer *layer, const uint8_t *bytes, size_t len)
+static int place_of_ip(unsigned layer, const uint8_t *bytes, size_t len)
 {
-    size_t offset;
-    struct protocol protocol;
+    struct wolfaren_frame found;
     uint8_t *frame = malloc(len);
     if (!frame && len > 0) abort();
     if (len > 0) memcpy(frame, bytes, len);
-    bool is_found = find_ip(layer, frame, len, &offset, &protocol);
+    if (!wolfaren_find_ip(layer, frame, len, &found)) exit(1);
     free(frame);
-    if (offset > len) abort();
-    return is_found ? (int)offset : -1;
+    if (found.offset > len) abort();
+    return found.end == WOLFAREN_FRAME_IP ? (int)found.offset : -1;
 }
 
 /* Reads a frame in hexadecimal, and returns its length. */
@@ -34,14 +33,12 @@ static size_t read_frame(uint8_t bytes[MAX_FRAME])
 
 int main(void)
 {
-    int number;
+    unsigned number;
     static uint8_t bytes[MAX_FRAME];
-    while (scanf("%d:", &number) == 1) {
-        const struct link_layer *layer = find_link_layer(number);
-        if (!layer) return 1;
+    while (scanf("%u:", &number) == 1) {
         size_t frame_len = read_frame(bytes);
         if (getchar() != '.') return 1;
-        for (size_t len = 0; len <= frame_len; len++) printf("%d ", place_of_ip(layer, bytes, len));
+        for (size_t len = 0; len <= frame_len; len++) printf("%d ", place_of_ip(number, bytes, len));
         putchar('\n');
     }
     return 0;

@@ -25,7 +25,7 @@ def options_of(harness, command):
     return set(re.findall(r"^  (--?[a-z-]+=?)", text, re.M))
 
 
-def completions(harness):
+def test_completions(harness):
     """Every command and option is completed, and nothing else."""
     harness.equal(completed(harness, ""), COMMANDS + ["help", "--help", "--version"], "commands")
     harness.equal(completed(harness, "s"), ["stat", "sum", "show"], "commands with s")

@@ -46,7 +46,7 @@ def frames():
     return [ethernet(ipv6_chain([0, 44])), ethernet(ipv4(17, UDP)), ethernet(ipv6_chain([60] * 9)), ethernet(LATER_FRAGMENT)]
 
 
-def compressed(harness):
+def test_compressed(harness):
     """Each command reads a compressed capture, in one stream or several, from a file and from standard input."""
     plain = capture(frames() * 30, magic=NANOSECONDS)
     wanted = [harness.run(*command, content=plain) for command in COMMANDS]
@@ -73,7 +73,7 @@ def compressed(harness):
         harness.equal(harness.run("filter", "fault", content=compress(capture([]))), (0, file_header(), "", None), name)
 
 
-def truncated(harness):
+def test_truncated(harness):
     """Of truncated compressed data, all packets are read that can be decompressed."""
     plain = capture(frames() * 30)
     for name, compress in formats(harness):
@@ -102,7 +102,7 @@ def with_wrong_checksum(name, content):
     return bytes(changed)
 
 
-def damaged(harness):
+def test_damaged(harness):
     """Damaged compressed data is reported by its format, and all packets before it are read."""
     plain = capture(frames() * 30)
     words = {"gzip": ["incorrect data check", "incorrect header check"], "xz": ["corrupt data", "corrupt data"],
@@ -124,7 +124,7 @@ def damaged(harness):
         harness.equal(status == 0, errors == "", name, bytes(changed).hex(), errors)
 
 
-def between_programs(harness):
+def test_between_programs(harness):
     """What can be decompressed is written at once, before more arrives."""
     if "gzip" not in dict(formats(harness)):
         return
@@ -144,13 +144,13 @@ def between_programs(harness):
         watch.cancel()
 
 
-def refused_memory(harness):
+def test_refused_memory(harness):
     """Each failed allocation of a decoder is an error, unless it gets by without that memory."""
     for _, compress in formats(harness):
         refuse_each(harness, ["stat", harness.file(compress(capture(frames())))])
 
 
-def without_libraries(harness):
+def test_without_libraries(harness):
     """A program that was built without a library names it."""
     bare = harness.commands(os.path.join("..", "bare", "ipcap"))[0]
     version = harness.answer(bare, ["--version"], b"", None)

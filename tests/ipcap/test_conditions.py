@@ -289,7 +289,7 @@ def conditions(draw, count, pairs):
     return [condition(draw, pairs) for _ in range(count)]
 
 
-def tshark_agrees(harness):
+def test_tshark_agrees(harness):
     """300 conditions find the packets that tshark's display filters find, behind each kind of header."""
     draw = random.Random(1)
     packets = random_packets(draw, 150, TRANSPORTS, False)
@@ -341,7 +341,7 @@ def found_by_libpcap(harness, path, expression):
     return seconds(ran.stdout)
 
 
-def libpcap_agrees(harness):
+def test_libpcap_agrees(harness):
     """100 conditions find the packets that libpcap's expressions find, without extension headers."""
     if not shutil.which("tcpdump"):
         print("libpcap's expressions: skipped, tcpdump missing")
@@ -363,7 +363,7 @@ def types_in_the_manual(term):
     return re.findall(r"^\.BR \\%(icmp6?-\w+)", paragraph.partition(".TP")[0], re.M)
 
 
-def libpcap_names_types(harness):
+def test_libpcap_names_types(harness):
     """Each name of a type of ICMP and ICMPv6 is the number that libpcap takes it for."""
     if not shutil.which("tcpdump"):
         print("libpcap's names of types: skipped, tcpdump missing")
@@ -384,7 +384,7 @@ def first_number(packet):
     return packet[6] if packet[0] >> 4 == 6 else packet[9]
 
 
-def libpcap_misses(harness):
+def test_libpcap_misses(harness):
     """`tcp port 443` of libpcap finds no packet with an extension header; ours finds them, as tshark does."""
     draw = random.Random(3)
     packets = random_packets(draw, 150, TRANSPORTS, False)

@@ -54,7 +54,7 @@ def wait_until(process, name, value):
     return fields
 
 
-def confined(harness):
+def test_confined(harness):
     """Each command is confined while it reads, but for builds with sanitizers and preloaded libraries."""
     if not has_means():
         print("confinement: skipped, this kernel or processor has no means for it")
@@ -81,7 +81,7 @@ def confined_as(harness, arguments, capabilities):
         harness.equal((fields["Uid"].split(), fields["Gid"].split(), fields["Groups"].split()), ([NOBODY] * 4, [NOBODY] * 4, []), arguments, "root")
 
 
-def several_files(harness):
+def test_several_files(harness):
     """While files are left to open, a command keeps what it takes to open them for reading."""
     if not has_means():
         print("confinement with several files: skipped, this kernel or processor has no means for it")
@@ -104,7 +104,7 @@ def several_files(harness):
         harness.equal((many[0], many[2]), (0, ""), command, "many files")
 
 
-def calls(harness):
+def test_calls(harness):
     """What isn't needed is refused, and what is needed isn't."""
     if not has_means():
         print("calls of the system: skipped, this kernel or processor has no means to refuse them")
@@ -127,7 +127,7 @@ def calls_as(harness, name, allowed, before):
         harness.equal(file.read(), b"s\0me bytes", "the file", name)
 
 
-def landlock(harness):
+def test_landlock(harness):
     """Landlock alone refuses to open files, to change them and to run programs."""
     create, with_truncate = 444, 3
     version = ctypes.CDLL(None).syscall(create, None, 0, 1) if has_means() else -1
@@ -163,7 +163,7 @@ def refuser(numbers, error):
     return refuse
 
 
-def without_means(harness):
+def test_without_means(harness):
     """Where the system refuses the means, as in containers, each command works as elsewhere."""
     if not has_means():
         print("systems without means: skipped, this kernel or processor can't play them")

@@ -111,7 +111,7 @@ def defragment(harness, frames, *arguments, status=0):
     return [it for _, _, it in frames_of(found[1])], found[2].replace(path, "FILE")
 
 
-def orders(harness):
+def test_orders(harness):
     """Fragments in any order make their packet whole, in the place of the last one to arrive."""
     for part, whole in FAMILIES:
         frames, wanted, number = [], [], 0
@@ -125,7 +125,7 @@ def orders(harness):
         harness.equal(defragment(harness, frames), (wanted, ""), "orders of", part.__name__)
 
 
-def places(harness):
+def test_places(harness):
     """A whole packet has the time of its last fragment, and all else stays in order."""
     data = payload(1, 40)
     first, middle, last = [frame(ipv6_part(9, *it)) for it in pieces(data, [16, 16])]
@@ -140,7 +140,7 @@ def places(harness):
     harness.equal(harness.run("defrag", content=capture(frames))[1], found[1], "defrag of standard input")
 
 
-def refused(harness):
+def test_refused(harness):
     """Overlaps of each kind, contradicting ends and fragments that can't be used make nothing whole."""
     data = payload(2, 64)
     a, b, c = [(0, True, data[:24]), (3, True, data[24:48]), (6, False, data[48:])]
@@ -169,7 +169,7 @@ def refused(harness):
                           "ipcap: FILE: 1 fragment of which bytes are missing\n"), "fragments that can't be used")
 
 
-def keys(harness):
+def test_keys(harness):
     """A packet's fragments have its addresses and identification, and in IPv4 its protocol."""
     data = payload(4, 32)
     first, last = pieces(data, [16])
@@ -199,7 +199,7 @@ def tagged(packet_bytes, *identifiers):
     return LINK + b"".join(struct.pack(">HH", *it) for it in zip(ethertypes, (0xB000 | it for it in identifiers))) + frame(packet_bytes, b"")
 
 
-def contexts(harness):
+def test_contexts(harness):
     """Only fragments of the same VLANs and interface are joined."""
     lost = "ipcap: FILE: 2 fragments of packets that aren't whole at the end\n"
     vlans = [(), (5,), (6,), (0x805,), (5, 6), (6, 5), (5, 7), (7, 6), (5, 0x806)]
@@ -221,7 +221,7 @@ def contexts(harness):
         harness.equal(found[1], head, "two interfaces", found[2])
 
 
-def congestion(harness):
+def test_congestion(harness):
     """Fragments with any ECN code points, which scapy makes, are joined as RFC 3168, section 5.3, says."""
     from scapy.layers.inet import IP, UDP as ScapyUdp, fragment as fragment4
     from scapy.layers.inet6 import IPv6, IPv6ExtHdrFragment, fragment6
@@ -251,7 +251,7 @@ def timed(times, frames):
     return file_header() + b"".join(record(it, None, int(time), round(1e6 * (time % 1))) for time, it in zip(times, frames))
 
 
-def times(harness):
+def test_times(harness):
     """A packet is given up after 60 seconds, and no fragment extends that."""
     parts = [frame(ipv4_part(8, *it)) for it in pieces(payload(5, 40), [16, 16])]
     for last, is_whole in [(1060, True), (1060.000001, False)]:
@@ -261,7 +261,7 @@ def times(harness):
         harness.equal("2 fragments of packets that weren't whole after 60 seconds" in found[2], not is_whole, found[2])
 
 
-def slots(harness):
+def test_slots(harness):
     """The oldest packet is given up for a new one."""
     data = payload(6, 32)
     first, last = pieces(data, [16])
@@ -274,7 +274,7 @@ def slots(harness):
     harness.equal(found[0], [frames[0], *wanted, frames[5]], "kept fragments of two slots")
 
 
-def long_packets(harness):
+def test_long_packets(harness):
     """The longest packets are written, and longer ones aren't."""
     for length, part, whole in [(65535 - 8, ipv6_part, ipv6_whole), (65535 - 24, ipv4_part, ipv4_whole)]:
         for more in (0, 1):
@@ -289,7 +289,7 @@ def long_packets(harness):
                 harness.equal(found, ([frame(whole(7, data))], ""), "the longest packet")
 
 
-def long_links(harness):
+def test_long_links(harness):
     """Whole packets have at most 256 bytes of link-layer headers."""
     data = payload(11, 32)
     for count in (60, 61):
@@ -301,7 +301,7 @@ def long_links(harness):
         harness.equal(defragment(harness, frames, "--keep")[0], wanted[0] or frames, count, "tags")
 
 
-def forms_of_files(harness):
+def test_forms_of_files(harness):
     """Whole packets in pcapng files have the interface and the time of their last fragment."""
     data = payload(7, 44)
     first, last = [frame(ipv6_part(9, *it)) for it in pieces(data, [24])]
@@ -367,7 +367,7 @@ def random_capture(seed, count):
     return content, wanted
 
 
-def plain_agrees(harness):
+def test_plain_agrees(harness):
     """A plain program makes the same packets whole, of random lists of fragments."""
     for seed in range(6):
         content, wanted = random_capture(seed, 250)
@@ -429,7 +429,7 @@ def scapy_rows(seed):
     return [(key, index / 1000, *rest) for index, (key, *rest) in enumerate(rows)]
 
 
-def kept_places(harness):
+def test_kept_places(harness):
     """Fragments that make nothing whole stay where they were, in classic files, sections and pipes."""
     for seed in range(8):
         rows = scapy_rows(seed)
@@ -463,7 +463,7 @@ def kept_places(harness):
         harness.equal(frames_of(found[1]), frames_of(harness.run("defrag", "--keep", content=capture(frames[:-1]))[1]), "its packets")
 
 
-def full_temporary(harness):
+def test_full_temporary(harness):
     """If the temporary file can't be written, what was read is written, and the status says so."""
     parts = [frame(ipv6_part(number, 0, True, bytes(800))) for number in range(400)]
     content = capture(parts)
@@ -493,7 +493,7 @@ def shuffled(seed):
     return frames, wanted
 
 
-def tshark_agrees(harness):
+def test_tshark_agrees(harness):
     """tshark reassembles the same bytes."""
     for seed in range(3):
         frames, wanted = shuffled(seed)
@@ -507,7 +507,7 @@ def tshark_agrees(harness):
         harness.equal(ours, theirs, "payloads as tshark reassembles them")
 
 
-def scapy_agrees(harness):
+def test_scapy_agrees(harness):
     """scapy makes the same packets of fragments, and ours of its fragments."""
     from scapy.layers.inet import IP, UDP as ScapyUdp, defragment as defragment4, fragment as fragment4
     from scapy.layers.inet6 import IPv6, IPv6ExtHdrDestOpt, IPv6ExtHdrFragment, IPv6ExtHdrHopByHop, defragment6, fragment6
@@ -529,7 +529,7 @@ def scapy_agrees(harness):
         harness.equal(found, ([frame(theirs)], ""), "an IPv6 packet as scapy makes it whole")
 
 
-def other_commands(harness):
+def test_other_commands(harness):
     """`stat`, `filter` and `show` work on whole packets."""
     data = udp(53, payload(8, 300))
     parts = [frame(ipv6_part(9, *it)) for it in pieces(data, [96, 96])]
@@ -556,7 +556,7 @@ def other_commands(harness):
                   "one packet")
 
 
-def wrong_usage(harness):
+def test_wrong_usage(harness):
     """What `defrag` refuses."""
     path = harness.file(capture([]))
     for arguments in [["a", "b"], ["--slots", "0"], ["--slots", "x"], ["--keep=1"], ["-c", "1"]]:
@@ -583,7 +583,7 @@ V4_KEY, V6_KEY = "192.0.2.1 > 192.0.2.2, protocol 17, id %d", "2001:db8::1 > 200
 IN_TIME, NOT_WHOLE = "timed out: not whole after 60 seconds", "not whole at the end"
 
 
-def reports(harness):
+def test_reports(harness):
     """--report has a line for each packet that was given up or dropped: its fragments, its key, and why."""
     data = payload(2, 64)
     a, b, c = [(0, True, data[:24]), (3, True, data[24:48]), (6, False, data[48:])]
@@ -640,7 +640,7 @@ def reports(harness):
         harness.equal(len(lost), sum(counts), "as many as the messages say", seed, found[2])
 
 
-def files_of_reports(harness):
+def test_files_of_reports(harness):
     """A report goes to a file of its own, whatever fails."""
     data = payload(2, 64)
     frames = [frame(ipv6_part(number, 0, True, data)) for number in range(300)]

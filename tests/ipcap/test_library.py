@@ -6,11 +6,11 @@ from captures import *
 from test_stat import random_frames
 
 
-def as_ipcap(harness):
+def test_as_ipcap(harness):
     """The call returns what `ipcap stat --json` prints, and the error without the name of the file."""
     whole = capture(random_frames(100, 6))
     for content, is_capture in [(whole, True), (whole[:-1], True), (whole[:30], True), (b"no capture", False),
-                                (capture([b""], 105), False)]:
+                                (capture([b""], 119), False)]:
         path = harness.file(content)
         status, found, errors, _ = harness.run("stat", "--json", path)
         for command in harness.commands("count"):
@@ -22,7 +22,7 @@ def as_ipcap(harness):
                   (1, b"", "No such file or directory"), "no file")
 
 
-def refused_memory(harness):
+def test_refused_memory(harness):
     """Each failed allocation is an error, unless the call gets by without that memory."""
     path = harness.file(capture([ethernet(ipv6_chain([60] * 40)), ethernet(ipv4(17, UDP))]))
     command = harness.commands("count")[0] + [path]

@@ -5,7 +5,7 @@ import struct
 import sys
 
 from captures import *
-from harness import statistics
+from expected import statistics
 
 MAC = "020000000001 020000000002"
 SNAP = "aaaa03 000000"
@@ -73,6 +73,24 @@ LINKS = {
     "Frame Relay with direction": (206, "00 1841 03 8e", "01 1841 03 cc", "01 1841 03 81", "NLPID 0x81"),
     "multilink Frame Relay": (182, "c105 1841 03 8e", "8106 1841 0800", "e100 1841 03 cc", "other"),
     "multilink Frame Relay, later": (182, "c105 1841 03 8e", "8106 1841 0800", "4107 1841 03 cc", "other"),
+    "MACsec": (1, f"{MAC} 88e5 2000 00000001 0200000000010001 86dd", f"{MAC} 8100 0001 88e5 0000 00000001 0800",
+               f"{MAC} 88e5 2c00 00000001 0200000000010001 0800", "EtherType 0x88e5"),
+    "MACsec, 802.3": (1, f"{MAC} 88e5 0000 00000001 05dc {SNAP} 86dd", f"{MAC} 88e5 4000 00000001 0800",
+                      f"{MAC} 88e5 8000 00000001 0800", "EtherType 0x88e5"),
+    "802.11": (105, f"0801 0000 {MAC} 020000000003 0000 {SNAP} 86dd", f"0803 0000 {MAC} 020000000003 0000 020000000004 {SNAP} 0800",
+               f"8000 0000 {MAC} 020000000003 0000", "802.11 0x08"),
+    "802.11, QoS": (105, f"8802 0000 {MAC} 020000000003 0000 0500 {SNAP} 86dd", f"8882 0000 {MAC} 020000000003 0000 0000 00000000 {SNAP} 0800",
+                    f"8842 0000 {MAC} 020000000003 0000 0000 {SNAP} 0800", "802.11 0x28"),
+    "802.11, several frames": (105, f"8803 0000 {MAC} 020000000003 0000 020000000004 0000 {SNAP} 86dd", f"0802 0000 {MAC} 020000000003 1000 {SNAP} 0800",
+                               f"8802 0000 {MAC} 020000000003 0000 8000 {SNAP} 0800", "802.11 0x28"),
+    "802.11, later fragment": (105, f"0801 0000 {MAC} 020000000003 f000 {SNAP} 86dd", f"0801 0000 {MAC} 020000000003 0000 {SNAP} 0800",
+                               f"0801 0000 {MAC} 020000000003 0100 {SNAP} 0800", "802.11 0x20"),
+    "802.11, radiotap": (127, f"0000 0900 02000000 10 0801 0000 {MAC} 020000000003 0000 {SNAP} 86dd",
+                         f"0000 0c00 04800000 02000800 0801 0000 {MAC} 020000000003 0000 {SNAP} 0800", "0100 0900 02000000 10 0801 0000", "other"),
+    "802.11, no data": (105, f"0801 0000 {MAC} 020000000003 0000 {SNAP} 86dd", f"0801 0000 {MAC} 020000000003 0000 {SNAP} 0800",
+                        f"4801 0000 {MAC} 020000000003 0000", "802.11 0x24"),
+    "PPI": (192, f"00 00 0800 69000000 0801 0000 {MAC} 020000000003 0000 {SNAP} 86dd", f"00 00 0c00 01000000 00000000 {MAC} 0800",
+            f"00 00 0800 09000000 0021", "other"),
     "Juniper Ethernet": (178, f"4d4743 01 {MAC} 86dd", f"{JUNIPER} {MAC} 0800", f"{JUNIPER} {MAC} 0806",
                          "EtherType 0x0806"),
     "Juniper ATM1": (137, f"4d4743 01 00000000 {SNAP} 86dd", f"{JUNIPER} 00000000 {SNAP} 0800",
@@ -83,6 +101,12 @@ LINKS = {
 LINKS_BY_VERSION = {
     "MPLS": (1, f"{MAC} 8847 {LAST_LABEL}", f"{MAC} 8848 {LABEL * 3} {LAST_LABEL}",
              f"{MAC} 8847 {LAST_LABEL} 00000000", "EtherType 0x8847"),
+    "NSH": (1, f"{MAC} 894f 0fc6 0102 000001ff" + "00" * 16, f"{MAC} 894f 0fc2 0201 000001ff",
+            f"{MAC} 894f 0fc2 02fe 000001ff", "EtherType 0x894f"),
+    "NSH, operation": (1, f"{MAC} 894f 0fc2 0204 000001ff 0fc2 0202 000001fe", f"{MAC} 894f 0fc2 0205 000001ff {LAST_LABEL}",
+                       f"{MAC} 894f 2fc2 0201 000001ff", "EtherType 0x894f"),
+    "NSH, Ethernet": (1, f"{MAC} 894f 0fc2 0203 000001ff {MAC} 8847 {LAST_LABEL}", f"{MAC} 894f 0fc2 0201 000001ff",
+                      f"{MAC} 894f 0fc1 0201 000001ff", "EtherType 0x894f"),
     "MPLS without bottom": (1, f"{MAC} 8847 {LAST_LABEL}", f"{MAC} 8847 {LAST_LABEL}",
                             f"{MAC} 8847 {LABEL * 300} 0001", "EtherType 0x8847"),
     "VLAN, PPPoE, MPLS": (1, f"{MAC} 88a8 0001 8100 0002 {PPPOE} 0281 {LABEL} {LAST_LABEL}",
@@ -126,7 +150,7 @@ def fixed_links():
         yield "netfilter log", NFLOG, nflog(10, order), nflog(2, order), other, protocol
 
 
-def link_layers(harness):
+def test_link_layers(harness):
     """Three frames of each link layer: an IPv6 packet, an IPv4 packet, and one that isn't IP."""
     six, four = ipv6_chain([0, 43]), ipv4(51, authentication(6) + TCP)
 
@@ -147,7 +171,7 @@ def link_layers(harness):
         harness.equal((found["packets"], found["ipv%d" % version]), (1, 1), "link layer", link_layer)
 
 
-def mismatched(harness):
+def test_mismatched(harness):
     """Packets of one IP version that their frame announces as the other are counted where they are, and as mismatched."""
     six, four, five = ipv6_chain([0, 43]), ipv4(51, authentication(6) + TCP), b"\x50" + bytes(60)
     for links, count in [(fixed_links(), 3), (from_hex(LINKS_BY_VERSION), 0)]:
@@ -166,7 +190,7 @@ def mismatched(harness):
     harness.check("           1  IPv4 packets announced as IPv6, or IPv6 as IPv4\n" in found, "the table", found)
 
 
-def short_frames(harness):
+def test_short_frames(harness):
     """Frames that end within the link-layer header, or directly after it."""
     for link_layer, frame, before, protocols in [
             (ETHERNET, ethernet(b""), 14, {"other": 14}),
@@ -179,7 +203,7 @@ def short_frames(harness):
                       "link layer", link_layer)
 
 
-def other_protocols(harness):
+def test_other_protocols(harness):
     """The JSON has all protocols of frames without IP, up to 4096, and the human-readable output five."""
     types = [0x0806, 0x88CC, 0x88CC, 0x8863, 0x8863, 0x8863, 0x1234, 0x1234, 0x9000, 0x0805]
     frames = [ethernet(bytes(46), (), number) for number in types] + [b"short", b"short"]
@@ -213,7 +237,7 @@ def places_of_ip(harness, frames):
     return [list(map(int, line.split())) for line in answers[0][1].splitlines()]
 
 
-def truncated_frames(harness):
+def test_truncated_frames(harness):
     """No byte after a truncated frame is read, and IP is found where all headers before it are there."""
     frames, wanted, names = [], [], []
     for links, further in [(fixed_links(), 0), (from_hex(LINKS_BY_VERSION), 1)]:
@@ -228,7 +252,7 @@ def truncated_frames(harness):
         harness.equal(found, expected, "truncated frames of", name)
 
 
-def hostile_frames(harness):
+def test_hostile_frames(harness):
     """No byte after a frame is read, whatever its bytes are."""
     draw, frames = random.Random(7), []
     for _, number, *parts, _ in [*fixed_links(), *from_hex(LINKS_BY_VERSION)]:

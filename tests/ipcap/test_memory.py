@@ -27,7 +27,7 @@ def lost_in(errors):
     return sum(int(it) for it in re.findall(r": (\d+) fragments? ", errors))
 
 
-def budget_of_jobs(harness):
+def test_budget_of_jobs(harness):
     """Files that are counted side by side have one budget, and their counts don't depend on it."""
     paths = [harness.file(spread(1, 3000)) for _ in range(4)]
     counts = 4 * 3000 * 16
@@ -47,7 +47,7 @@ def budget_of_jobs(harness):
         harness.equal(harness.run("stat", "--defrag", "--json", "-j40", "--memory", memory, *few), plain, "many files", memory)
 
 
-def budget_of_slots(harness):
+def test_budget_of_slots(harness):
     """A small budget has room for fewer packets, and one that is too small for a number of slots is refused."""
     path = harness.file(spread(1, 3000))
     for command in (["defrag"], ["show", "--defrag"], ["filter", "--defrag", "any"], ["stat", "--defrag"]):
@@ -69,7 +69,7 @@ def budget_of_slots(harness):
     harness.equal(harness.run("defrag", "--slots", "1", "--memory", "64M", content=content)[0], 0, "one slot")
 
 
-def budget_of_kept(harness):
+def test_budget_of_kept(harness):
     """Numbers of fragments that are kept have what the slots and the rest leave. Those that don't fit are counted."""
     part = frame(ipv4_part(1, 0, True, bytes(8)))
     path = harness.path(".gz")
@@ -87,7 +87,7 @@ def budget_of_kept(harness):
         harness.check(not lost or kept * 32 > ((memory - 45) << 20) * 0.9, "what is left is used", memory, kept)
 
 
-def budget_of_tunnels(harness):
+def test_budget_of_tunnels(harness):
     """Tunnels with fragments have what is left. Fragments of further ones stay as they are, and the status says so."""
     part = ethernet(ipv4(17, udp(4789, vxlan(ethernet(ipv4_part(1, 0, True, bytes(8)))))))
     at = 14 + 20 + 8 + 4
@@ -116,7 +116,7 @@ def with_window(content, descriptor):
     return found
 
 
-def budget_of_decoders(harness):
+def test_budget_of_decoders(harness):
     """A decoder gets the memory that a stream needs, if that is within the budget."""
     content = capture([ethernet(ipv6_chain([0, 44])), ethernet(ipv4(17, UDP))] * 50)
     names = [name for name, _ in formats(harness)]
@@ -160,7 +160,7 @@ def budget_of_decoders(harness):
         harness.equal(harness.run("stat", "--json", "--defrag", content=small + large)[1], wanted, "streams with several dictionaries")
 
 
-def long_chains(harness):
+def test_long_chains(harness):
     """Extension headers after the first 64 are found, too."""
     numbers = [0] + [60, 43, 44, 51] * 40
     path = harness.file(capture([ethernet(ipv6_chain(numbers))]))
@@ -187,7 +187,7 @@ def long_chains(harness):
     harness.check(found[1] == content and "1 packet unchanged: " in found[2], "an authenticated tunnel", found[2])
 
 
-def budget_of_headers(harness):
+def test_budget_of_headers(harness):
     """A packet may have millions of extension headers, which are visited one by one."""
     count = ((16 << 20) - 200) // 8
     frame = ethernet(ipv6(60, options(60) * (count - 1) + options(17) + UDP, 0))
@@ -211,7 +211,7 @@ def budget_of_headers(harness):
         harness.equal((status, "out of memory" in errors), (1, True) if memory == 64 else (0, False), memory, errors)
 
 
-def budget_of_heads(harness):
+def test_budget_of_heads(harness):
     """Blocks before the first packet of a pcapng file are kept only where they are copied, and have what is left."""
     most = 16 << 20
     start, end = section() + interface(), packet(ethernet(ipv4(17, UDP)))
@@ -242,7 +242,7 @@ def budget_of_heads(harness):
     harness.check((found[0], found[2]) == (0, "") and found[1] == small and found[3] <= 64 << 20, found[2], found[3] >> 20)
 
 
-def sizes(harness):
+def test_sizes(harness):
     """A size is a number of bytes, or of 1024 to some power."""
     path = harness.file(capture([]))
     commands = [["stat"], ["filter", "any"], ["show"], ["defrag"], ["rewrite", "--clear"]]
@@ -257,7 +257,7 @@ def sizes(harness):
     harness.equal(harness.run("sum", "--memory", "64M")[0], 2, "sum")
 
 
-def late_pipes(harness):
+def test_late_pipes(harness):
     """A file that can't be opened yet doesn't keep others from being read."""
     content = capture([frame(ipv6_part(number, 0, True, bytes(8))) for number in range(9)])
     for arguments in (["-j2"], ["-j2", "--defrag"], ["-j2", "--defrag", "--memory", "64M"]):

@@ -31,7 +31,7 @@ def notes(room, order):
     return option(1, bytes(60000), order) * count + option(1, bytes(room - 60004 * count - 4), order)
 
 
-def byte_orders(harness):
+def test_byte_orders(harness):
     """Only the section header says in which byte order a block is, whatever the block's length is."""
     data = payload(8, 44)
     first, last = [frame(ipv6_part(9, *it)) for it in pieces(data, [24])]
@@ -51,7 +51,7 @@ def byte_orders(harness):
             harness.check(found[:2] == (0, head + packet(whole, order=order) + late[1]), "interface", order, length, found[2])
 
 
-def secrets(harness):
+def test_secrets(harness):
     """A block with decryption secrets, whose type begins as that of a section header, is none."""
     data = payload(9, 44)
     parts = [frame(ipv6_part(9, *it)) for it in pieces(data, [24])]
@@ -65,7 +65,7 @@ def secrets(harness):
         harness.equal(found, (0, wanted, "", None), "secrets", order)
 
 
-def simple_packets(harness):
+def test_simple_packets(harness):
     """A simple packet block that was truncated stays readable without the snap length."""
     data = ethernet(ipv6_chain([0, 60])) + bytes(range(40))
     part = frame(ipv6_part(1, *pieces(payload(12, 60), [24, 16])[1]))
@@ -83,7 +83,7 @@ def simple_packets(harness):
         harness.equal(found[1], section(order) + interface(order=order) + simple(part, order=order), "not truncated", order)
 
 
-def kept_in_sections(harness):
+def test_kept_in_sections(harness):
     """A fragment that is kept stays in its section."""
     data = payload(10, 60)
     parts = [ipv6_part(number, *it) for number in (1, 2, 3) for it in pieces(data, [24, 16])]
@@ -117,7 +117,7 @@ def kept_in_sections(harness):
         harness.equal(found[1], section() + interface(RAW) + start + b"".join(blocks), "one section", order)
 
 
-def stated_lengths(harness):
+def test_stated_lengths(harness):
     """A frame that states fewer bytes than are removed gets no length below 0."""
     old, new = [ethernet(ipv6_chain(it)) for it in ([0, 60], [60])]
     for stated in (0, 4, 7, 8, 9, len(old)):
@@ -131,7 +131,7 @@ def stated_lengths(harness):
             harness.equal(harness.run("rewrite", "--without", "0", content=content), (0, wanted, "", None), order, stated)
 
 
-def empty_outputs(harness):
+def test_empty_outputs(harness):
     """Files without an interface make an output without one, in place of what was there."""
     paths = [harness.file(it, ".pcapng") for it in (section(), section(">") + block(5, bytes(12), ">"))]
     for command in [harness.plain, harness.sanitized, harness.checked]:
@@ -153,7 +153,7 @@ def empty_outputs(harness):
     harness.equal((found[0], found[3]), (1, None), "no file that can be read")
 
 
-def memory_for_kept(harness):
+def test_memory_for_kept(harness):
     """If memory runs out for a fragment that is to be kept, the status says so."""
     data = payload(11, 60)
     parts = [frame(ipv6_part(number, *it)) for number in range(6) for it in pieces(data, [24, 16])[:2]]
@@ -163,7 +163,7 @@ def memory_for_kept(harness):
         refuse_each(harness, ["defrag", "--keep", harness.file(content)])
 
 
-def room_for_kept(harness):
+def test_room_for_kept(harness):
     """Fragments that are kept need no memory for their bytes."""
     part = frame(ipv6_part(1, *pieces(payload(13, 60), [24, 16])[1]))
     for head, long_frame in [(section() + interface(), packet(part + bytes(1 << 20))), (file_header(snap_len=262144), record(part + bytes(200000)))]:
@@ -187,7 +187,7 @@ def run_with(harness, command, arguments, prepare, content=b""):
     return process.returncode, process.stdout
 
 
-def closed_streams(harness):
+def test_closed_streams(harness):
     """Messages never go to a file that is opened."""
     content = capture([ethernet(ipv6_chain([0, 51]))] * 3)
     path, output = harness.file(content), harness.path()
@@ -216,7 +216,7 @@ def limit_files():
     resource.setrlimit(resource.RLIMIT_FSIZE, (1 << 22, 1 << 22))
 
 
-def appended_outputs(harness):
+def test_appended_outputs(harness):
     """Standard output that is the input is refused."""
     contents = [capture([ethernet(ipv6_chain([0]))] * 4000), section() + interface() + packet(ethernet(ipv6_chain([0]))) * 4000]
     for content in contents:
@@ -280,7 +280,7 @@ def stopped(harness, command, arguments, number, path):
     return status, output, errors
 
 
-def signals(harness):
+def test_signals(harness):
     """After a signal, the record is finished, the counts are printed, and the program ends by the signal."""
     frames = [frame(ipv6_part(number % 50, 0, True, bytes(8))) for number in range(1000)]
     mixed = [frames[0]] + [ethernet(ipv6_chain([0, 51, 60])), ethernet(ipv6_chain([44], payload=UDP + bytes(97)))] * 30000
@@ -325,7 +325,7 @@ def silent_pipe(harness, command, arguments, number):
     return status, output + rest, errors.decode()
 
 
-def signals_in_pipes(harness):
+def test_signals_in_pipes(harness):
     """A signal ends the wait for bytes of a pipe."""
     start = section() + interface() + packet(ethernet(ipv6_chain([0])))
     for command in [harness.plain, harness.sanitized, harness.checked]:

@@ -12,8 +12,8 @@ from captures import *
 from test_use import refuse_each
 
 COMMANDS = [["stat"], ["show"], ["filter", "header 44"]]
-IEEE802_11 = 105
-REFUSED = "link layer IEEE802_11 (802.11) isn't supported"
+PRISM_HEADER = 119
+REFUSED = "link layer PRISM_HEADER (802.11 plus Prism header) isn't supported"
 ANY = "fault or not fault"
 PACKET = ipv6_chain([0, 44])
 OTHER = ipv4(17, UDP)
@@ -48,7 +48,7 @@ def several_interfaces(order="<"):
     return content, 2 * len(LINKS)
 
 
-def interfaces(harness):
+def test_interfaces(harness):
     """Packets of interfaces of several kinds, in both byte orders, and in several sections."""
     for orders in ["<", ">", "<>", "><<"]:
         parts = [several_interfaces(order) for order in orders]
@@ -92,7 +92,7 @@ TIMES = [(b"", 1000000005, "1970-01-01T00:16:40.000005000Z"), (option(9, b"\6"),
          (option(9, b"\xbf"), (1 << 64) - 1, "1970-01-01T00:00:01.999999999Z")]
 
 
-def times(harness):
+def test_times(harness):
     """Resolutions, offsets, times after 2^32 seconds, and packets without a time."""
     for options, units, wanted in TIMES:
         content = section() + interface(options=options) + packet(ethernet(PACKET), units=units)
@@ -110,7 +110,7 @@ def times(harness):
         harness.equal(harness.run("filter", ANY, *arguments, content=content)[1], head + packet(ethernet(OTHER)), arguments)
 
 
-def lengths(harness):
+def test_lengths(harness):
     """Packets that are truncated, by the snap length or by their block."""
     frame = ethernet(PACKET)
     for content, kept in [(packet(frame, kept=60), 60), (simple(frame, 60), 60), (packet(frame, kept=0), 0)]:
@@ -120,9 +120,9 @@ def lengths(harness):
     harness.equal(shown[0]["captured_len"], len(frame) + 500000, "a long packet")
 
 
-def left_out(harness):
+def test_left_out(harness):
     """Interfaces with other link layers are named once, and their packets are numbered and left out."""
-    head = section() + interface() + interface(IEEE802_11) + interface(IEEE802_11) + interface(60000)
+    head = section() + interface() + interface(PRISM_HEADER) + interface(PRISM_HEADER) + interface(60000)
     packets = [packet(bytes(60), 1), packet(ethernet(PACKET)), packet(bytes(60), 2), packet(ethernet(OTHER)),
                packet(bytes(60), 3)]
     content = head + b"".join(packets)
@@ -143,17 +143,17 @@ def left_out(harness):
     harness.equal(found[:3], (1, head + packets[1] + packets[3], "ipcap: %s: %s" % (path, words)), "filter")
     found = harness.run("filter", "--packets", "1-2", ANY, path)
     harness.equal(found[1], head + packets[1], "--packets")
-    content = section() + interface(IEEE802_11) + packet(bytes(60))
+    content = section() + interface(PRISM_HEADER) + packet(bytes(60))
     path = harness.file(content, ".pcapng")
     for command in [["stat"], ["stat", "--json"], ["show"], ["filter", "fault"]]:
         wanted = (1, b"", "ipcap: %s: interface 0: %s\n" % (path, REFUSED), None)
         harness.equal(harness.run(*command, path), wanted, command)
-    later = section() + interface() + packet(ethernet(PACKET)) + interface(IEEE802_11) + packet(bytes(60), 1)
+    later = section() + interface() + packet(ethernet(PACKET)) + interface(PRISM_HEADER) + packet(bytes(60), 1)
     found = harness.run("show", "--one-line", content=later + packet(ethernet(OTHER)))
     harness.equal((found[0], found[1].count(b"\n"), found[2]), (1, 2, "ipcap: standard input: interface 1: %s\n" % REFUSED), "later")
 
 
-def copies(harness):
+def test_copies(harness):
     """The output for a pcapng file has its blocks as they are, except for packets and what must not be copied."""
     comment = option(1, b"a comment")
     names = option(2, b"eth0") + option(9, b"\x09") + END
@@ -197,7 +197,7 @@ def copies(harness):
             harness.equal((found[0], found[2]), (1, "ipcap: standard output: No space left on device\n"), len(content))
 
 
-def among_files(harness):
+def test_among_files(harness):
     """With several files, the output is a classic one, with the link layer of the first."""
     frame = ethernet(PACKET)
     classic = harness.file(capture([frame]))
@@ -258,7 +258,7 @@ HOSTILE = [
 ]
 
 
-def hostile(harness):
+def test_hostile(harness):
     """Lengths and numbers that can't be right are refused, with the offset of their block."""
     good = packet(ethernet(PACKET))
     start = section() + interface()
@@ -280,7 +280,7 @@ def hostile(harness):
     harness.check(status == 1 and " is one too many: 65536 are supported\n" in errors, errors)
 
 
-def truncated(harness):
+def test_truncated(harness):
     """Of a truncated file, all packets before the damage are read."""
     parts = [section(), interface(), UNKNOWN[3], packet(ethernet(PACKET)), UNKNOWN[0],
              packet(ethernet(OTHER), options=option(1, b"it"))]
@@ -295,7 +295,7 @@ def truncated(harness):
                       (int(kept not in ends), packets, words.partition("offset")[2]), kept)
 
 
-def damaged(harness):
+def test_damaged(harness):
     """Whatever bytes are changed, each command ends in an orderly way."""
     draw = random.Random(11)
     content = several_interfaces("<")[0] + UNKNOWN[2] + several_interfaces(">")[0] + simple(b"frame")
@@ -307,7 +307,7 @@ def damaged(harness):
         harness.equal(status == 0, errors == "", bytes(changed).hex(), errors)
 
 
-def between_programs(harness):
+def test_between_programs(harness):
     """Each block is written when it arrives, before the next one does."""
     parts = [packet(ethernet(PACKET)), UNKNOWN[2], section(">"), interface(RAW, order=">"), packet(PACKET, order=">")]
     head = section() + interface()
@@ -327,7 +327,7 @@ def between_programs(harness):
         watch.cancel()
 
 
-def refused_memory(harness):
+def test_refused_memory(harness):
     """Each failed allocation is an error, unless the program gets by without that memory."""
     path = harness.file(several_interfaces()[0], ".pcapng")
     refuse_each(harness, ["stat", path])

@@ -78,7 +78,7 @@ def with_bits(numbers, bits):
     return [i for i, number in enumerate(numbers) if bits & {44: 0xff06, 51: 0xffff}.get(number, 0)]
 
 
-def headers(harness):
+def test_headers(harness):
     """Any headers are left out of any chain: alone, together, by name or by number."""
     for left_out in [[0], [43], [44], [51], [60], [0, 60], [60, 51, 0], [51, 43], [0, 43, 44, 51, 60]]:
         frames, wanted, covered = [], [], 0
@@ -98,7 +98,7 @@ def headers(harness):
             harness.equal(rewrite(harness, [frame], name)[0], [wanted], name)
 
 
-def reserved_bits(harness):
+def test_reserved_bits(harness):
     """Reserved bits of any headers of any chain are cleared, after headers were left out, also under an authentication header."""
     for left_out, bits, breaks in itertools.product([[], [60], [44], [51, 0]], [0, 0xffff, 0x0100, 2, 4, 0x00f9], [False, True]):
         frames, wanted, covered, broken = [], [], 0, 0
@@ -120,7 +120,7 @@ def reserved_bits(harness):
     harness.equal(rewrite(harness, [ethernet(with_reserved(long, 1 << 15)[0])], options=["--clear"]), ([ethernet(ipv6_chain(long))], ""), "a long chain")
 
 
-def reserved_bits_refused(harness):
+def test_reserved_bits_refused(harness):
     """Reserved bits that can't be cleared stay, and the packet is counted by its reason. Others of its kind without them aren't."""
     def rows(bits):
         second = ipv6(44, fragment(44, 0, 1) + bytes([17, bits]) + bytes(6) + UDP)
@@ -149,7 +149,7 @@ def reserved_bits_refused(harness):
     harness.equal(found, ([covered], message(1, BROKEN)), "IPv4")
 
 
-def fragments(harness):
+def test_fragments(harness):
     """Each fragment loses the headers before its fragment header. Made whole, they are the packet without these headers."""
     payload = bytes(range(64))
     for left_out, before in [([0], [0]), ([60], [60, 43]), ([0, 43], [0, 60, 43])]:
@@ -175,7 +175,7 @@ def ordered(numbers):
     return [number for _, number in sorted(zip(places, numbers), key=lambda it: it[0])]
 
 
-def orders(harness):
+def test_orders(harness):
     """Any headers of any chain are put in order, after headers were left out and reserved bits cleared."""
     for left_out, bits, breaks in itertools.product([[], [60], [51, 0]], [0, 0xffff], [False, True]):
         frames, wanted, covered, broken = [], [], 0, 0
@@ -197,7 +197,7 @@ def orders(harness):
     harness.equal(rewrite(harness, [ethernet(tagged[0])], options=["--in-order"]), ([ethernet(tagged[1])], ""), "headers of one kind")
 
 
-def orders_refused(harness):
+def test_orders_refused(harness):
     """A packet whose order can't be changed is counted by its reason. Others of its kind that are in order aren't."""
     def rows(one, other):
         first = ipv6(one, header(one, other) + header(other, 44) + fragment(60, 0, 1) + options(17) + bytes(8))
@@ -213,7 +213,7 @@ def orders_refused(harness):
     harness.equal(rewrite(harness, frames, options=["--in-order"]), (frames, ""), "in order")
 
 
-def other_bytes(harness):
+def test_other_bytes(harness):
     """All bytes but those of the header stay: of other packets, link layers, and after the packet."""
     plain, arp = ethernet(ipv6_chain([])), ethernet(bytes(28), (), 0x0806)
     wanted, packets = [plain, arp, b"\1\2", ethernet(b"\x60")], [plain, arp, b"\1\2", ethernet(b"\x60")]
@@ -236,7 +236,7 @@ def other_bytes(harness):
         harness.equal(found, (0, capture([head + ipv6_chain([])], link_layer), "", None), "link layer", link_layer)
 
 
-def jumbograms(harness):
+def test_jumbograms(harness):
     """The option of a jumbogram states its new length (RFC 2675, section 2). A packet that would be none any more stays as it is."""
     def jumbogram(next_header, following, stated=None):
         length = 8 + len(following) if stated is None else stated
@@ -255,7 +255,7 @@ def jumbograms(harness):
         harness.check(found[2].endswith(message(1, "unchanged: " + reason)), found[2])
 
 
-def outputs(harness):
+def test_outputs(harness):
     """The same is written to a file, to standard output, and from standard input."""
     content, wanted = [capture([ethernet(ipv6_chain(numbers)), ethernet(ipv6_chain([]))]) for numbers in ([60], [])]
     path = harness.file(content)
@@ -265,7 +265,7 @@ def outputs(harness):
     harness.equal(harness.run("rewrite", "--without", "60", "-", content=content[:-3])[0], 1, "a truncated capture")
 
 
-def refused(harness):
+def test_refused(harness):
     """Packets that can't be changed stay as they are, and are counted by reason."""
     first = ipv6(0, options(44) + fragment(60, 0, 1) + options(17) + bytes(8))
     rows = [([60], first, "a header in the part that is fragmented"), ([44], first, "the fragment header of a fragment"),
@@ -291,7 +291,7 @@ def refused(harness):
     harness.equal(found, ([ethernet(ipv6_chain([]))], "1 packet with a transport checksum that no longer holds\n"), "segments left")
 
 
-def forms_of_files(harness):
+def test_forms_of_files(harness):
     """Blocks of pcapng files keep their times, interfaces and comments."""
     comment = option(1, b"note") + struct.pack("<HH", 0, 0)
     for order, extra, words in itertools.product("<>", range(4), [["--without", "0"], ["--clear"]]):
@@ -339,7 +339,7 @@ def random_packet(rng, left_out, clears, orders_them, breaks):
     return old, old if is_refused else new, is_refused, breaks_value and breaks
 
 
-def random_packets(harness):
+def test_random_packets(harness):
     """Random changes of random chains."""
     for seed in range(60):
         rng = random.Random(seed)
@@ -393,7 +393,7 @@ def reserved_in_scapy(payload, octet, bits):
             for it in (1, 0)]
 
 
-def scapy_agrees(harness):
+def test_scapy_agrees(harness):
     """What is written is what scapy builds without the header, checksums included."""
     built, built_ipv4, upper = packets_for_readers()
     for left_out in (0, 60, 43, 44):
@@ -432,7 +432,7 @@ def fields_of(harness, content, *header):
     return [[it for proto in one if proto.get("name") != "geninfo" for it in walk(proto)] for one in packets]
 
 
-def tshark_agrees(harness):
+def test_tshark_agrees(harness):
     """tshark reads a packet as before, field by field, but for the header that was left out."""
     built, built_ipv4, upper = packets_for_readers()
     for left_out, name in [(0, "ipv6.hopopts"), (60, "ipv6.dstopts"), (43, "ipv6.routing"), (44, "ipv6.fraghdr")]:
@@ -469,7 +469,7 @@ def tshark_agrees(harness):
                   "orders as tshark finds them", protocols)
 
 
-def wrong_usage(harness):
+def test_wrong_usage(harness):
     """What `rewrite` refuses."""
     path = harness.file(capture([]))
     for arguments in [["--without"], ["--without", "0", "a", "b"], ["--without", "0", "-c", "1"], ["--clear=0", path]]:

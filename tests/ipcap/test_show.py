@@ -66,7 +66,7 @@ def drawn_capture():
     return content + record(ethernet(LATER_FRAGMENT))
 
 
-def drawings(harness):
+def test_drawings(harness):
     """Drawings that were made by hand."""
     content = drawn_capture()
     status, found, errors, _ = harness.run("show", content=content)
@@ -75,7 +75,7 @@ def drawings(harness):
     harness.equal((status, len(found), errors), (0, len(DRAWN), ""), "the whole")
 
 
-def lines(harness):
+def test_lines(harness):
     """--one-line prints the first lines, and -c stops after so many packets."""
     content = drawn_capture()
     titles = [line + "\n" for line in DRAWN.split("\n") if line.startswith("packet ")]
@@ -97,7 +97,7 @@ def lines(harness):
         harness.check(found.startswith(b"packet 1: 1970-01-01T%s," % wanted.encode()), "a fraction of a second or more", found)
 
 
-def objects(harness):
+def test_objects(harness):
     """--json prints an object per packet, with the names and codes of wolfaren.h."""
     status, found, errors, _ = harness.run("show", "--json", content=drawn_capture() + record(ethernet(b"\x50" + bytes(5))))
     harness.equal((status, errors), (0, ""), "--json")
@@ -139,7 +139,7 @@ def objects(harness):
     harness.equal((len(long["headers"]), "chain" in long), (100, False), "all headers")
 
 
-def rows(harness):
+def test_rows(harness):
     """--csv prints the members of --json as columns, those of the fault each with its own, and the numbers of the headers."""
     content = drawn_capture() + record(ethernet(b"\x50" + bytes(5)))
     status, found, errors, _ = harness.run("show", "--csv", content=content)
@@ -179,7 +179,7 @@ def described(packet):
     return [str(packet.get(name, "")) for name in ("src", "dst", "hop_limit", "src_port", "dst_port")]
 
 
-def tshark_agrees(harness):
+def test_tshark_agrees(harness):
     """Addresses, hop limits, ports, fragments and names are those that tshark finds, in each form of files."""
     draw, frames = random.Random(5), random_frames(200, 9)
     for outer, (_, number) in itertools.product((ipv4, ipv6), PORTS * 3):
@@ -207,7 +207,7 @@ def tshark_agrees(harness):
                 harness.equal(one["identification"], int(theirs["ipv6.fraghdr.ident"], 16), "identification", one)
 
 
-def names_of_numbers(harness):
+def test_names_of_numbers(harness):
     """Each number has the name that tshark has for it, and ends of chains and faults have those of `stat`."""
     path = harness.file(capture([ethernet(ipv6(number, bytes(40))) for number in range(256)]))
     trees = xml.etree.ElementTree.fromstring(harness.tshark(path, "-T", "pdml"))
@@ -231,7 +231,7 @@ def names_of_numbers(harness):
         harness.check(("^ " + text).encode() in harness.run("show", content=capture([packet_bytes], RAW))[1], text)
 
 
-def large_offsets(harness):
+def test_large_offsets(harness):
     """Where offsets have five digits, they do in each row of that packet, and the marks are below their bytes."""
     content = capture([ethernet(ipv6_chain([60] * 8190 + [0], 17, b"")), ethernet(ipv6_chain([60], 17, b""))], snap_len=262144)
     rows = harness.run("show", content=content)[1].decode().split("\n")
@@ -255,7 +255,7 @@ def carets(found):
             yield row + (line.index("^") - 6) // 3, line.strip()[2:]
 
 
-def places_of_faults(harness):
+def test_places_of_faults(harness):
     """The caret is below the first byte of the faulty header."""
     short, cut, length = "not enough bytes for the ", "truncated: not enough bytes for the ", "the length field of the "
     cases = [(ipv6(0, options(43, 3) + routing(17)[:5]), 40 + 32,
@@ -292,7 +292,7 @@ def places_of_faults(harness):
                       kept, "bytes kept")
 
 
-def long_packets(harness):
+def test_long_packets(harness):
     """A chain is drawn completely. After it some bytes are drawn, and the number of remaining bytes is printed."""
     found = harness.run("show", content=capture([ethernet(ipv6_chain([0], 17, bytes(1000)))]))[1].decode()
     harness.check(found.endswith("      and 968 bytes more\n"), found)
@@ -301,7 +301,7 @@ def long_packets(harness):
     harness.equal(found.count(" destination-options "), 2000, "headers of a long chain")
 
 
-def addresses(harness):
+def test_addresses(harness):
     """Addresses are as the system writes them."""
     draw = random.Random(1)
     values = [bytes(16), bytes(15) + b"\1", bytes(12) + b"\xc0\0\2\1", bytes(10) + b"\xff\xff\xc0\0\2\1", b"\xff" * 16,
@@ -317,7 +317,7 @@ def addresses(harness):
     harness.equal([(row["src"], row["dst"]) for row in found], wanted, "addresses")
 
 
-def buffers(harness):
+def test_buffers(harness):
     """Each form has the same text packet by packet, as from a pipe, and in larger parts."""
     content = capture(random_frames(1500, 3))
     path = harness.file(content)
@@ -332,7 +332,7 @@ def numbers_of(text):
     return [int(line.split()[1].strip(",:")) for line in text.decode().splitlines() if line.startswith("packet ")]
 
 
-def conditions(harness):
+def test_conditions(harness):
     """Packets that meet a condition are shown, with their numbers in the capture."""
     syn, arp = ipv4(6, TCP), ethernet(bytes(28), (), 0x0806)
     frames = [ethernet(ipv6_chain([0], 6, TCP)), arp, ethernet(ipv4(17, UDP)), ethernet(syn, (0x8100,)), ethernet(ipv6_chain([44])),
@@ -363,7 +363,7 @@ def conditions(harness):
     harness.equal(numbers_of(harness.run("show", "--one-line", "port 53", parts)[1]), [2], "the first fragment")
 
 
-def wrong_conditions(harness):
+def test_wrong_conditions(harness):
     """What is no condition, or has no file after it, is refused."""
     path = harness.file(capture([]))
     for arguments, words in [(["tcp"], "after a condition, show needs a file, or `-` for standard input"),
@@ -394,7 +394,7 @@ def has_our_names():
     return "4.99.3" in subprocess.run(["tcpdump", "--version"], stdout=subprocess.PIPE, stderr=subprocess.STDOUT).stdout.decode()
 
 
-def details(harness):
+def test_details(harness):
     """Ports, flags of TCP, types of ICMP messages, fragments and EtherTypes are those that tcpdump prints."""
     frames = [ethernet(outer(number, TCP if number == 6 else UDP + bytes(20))) for outer in (ipv4, ipv6) for number in (6, 17, 33, 132)]
     frames += [ethernet(ipv6_chain([0, 60], 17, UDP)), ethernet(ipv6(44, fragment(17, 0, 1) + UDP + bytes(4))), ethernet(LATER_FRAGMENT)]
@@ -436,7 +436,7 @@ def details(harness):
 EXPERIMENTS = {200, 201}
 
 
-def icmp_types(harness):
+def test_icmp_types(harness):
     """The name of each type of ICMP messages begins what tcpdump prints of it."""
     quoted = bytes(4) + ipv4(17, UDP)
     frames = [ethernet(ipv4(1, bytes([kind, 0, 0, 0]) + quoted)) for kind in range(256)]
@@ -464,9 +464,9 @@ def icmp_types(harness):
         harness.check(line.endswith(wanted), line)
 
 
-def names_of_ethertypes(harness):
+def test_names_of_ethertypes(harness):
     """What isn't IP is named by its EtherType as tcpdump names it, or by another number."""
-    types = [it for it in range(0x600, 0x10000) if it not in (0x0800, 0x86DD, 0x8100, 0x88A8, 0x9100, 0x9200, 0x8847, 0x8848, 0x8864, 0x8870)]
+    types = [it for it in range(0x600, 0x10000) if it not in (0x0800, 0x86DD, 0x8100, 0x88A8, 0x9100, 0x9200, 0x8847, 0x8848, 0x8864, 0x8870, 0x88E5)]
     path = harness.file(capture([ethernet(bytes(46), (), it) for it in types]))
     ours = harness.run("show", "--one-line", path)[1].decode().splitlines()
     theirs = tcpdump(path, "-e", "-q")
@@ -486,7 +486,7 @@ def names_of_ethertypes(harness):
         harness.check(line.endswith(" bytes, %s\n" % wanted), wanted, line)
 
 
-def colors(harness):
+def test_colors(harness):
     content = capture([ethernet(ipv6_chain([0, 43])), ethernet(ipv6(60, b"\x11"))])
     plain = harness.run("show", content=content)[1]
     harness.check(b"\033" not in plain, "no colour in a pipe")

@@ -4,11 +4,11 @@ import json
 import random
 
 from captures import *
-from harness import statistics
+from expected import statistics
 from test_stat import random_frames
 
 
-def sums(harness):
+def test_sums(harness):
     """The statistics of the parts of a capture add up to those of the whole, also in several steps."""
     frames = random_frames(300, 2) + [ethernet(b""), ethernet(ipv6(0, b""))]
     whole = harness.run("stat", "--json", harness.file(capture(frames)))[1]
@@ -47,7 +47,7 @@ def good(**parts):
     return json.dumps({**counts, **parts}, separators=(",", ":")).encode()
 
 
-def malformed(harness):
+def test_malformed(harness):
     text = good()
     cases = [(b"", "no statistics"), (b" \n ", "no statistics"), (b"x", "expected '{', found 'x'"), (b"[]", "'['"),
              (b"null", "'n'"), (b"{}", "has no \"version\""), (b"\xff", "byte 0xff"),
@@ -106,7 +106,7 @@ def malformed(harness):
     harness.check("line 3, column 2: " in harness.run("sum", content=text + b"\n\n{x")[2], "position of an error")
 
 
-def versions(harness):
+def test_versions(harness):
     """Members of a later version with our major number are skipped, wherever the version is."""
     text = good()
     later = b"{\"a\":1,\"b\":{\"c\":2},\"d\":\"text\",\"e\":{}," + good(version="1.7")[1:]
@@ -129,7 +129,7 @@ def versions(harness):
     refuse(harness, json.dumps({**third, "version": "1.4"}).encode(), "the object has no \"mismatched\"", "version 1.4")
 
 
-def names_in_json(harness):
+def test_names_in_json(harness):
     """The name of the file is left out of the sum, however long it is and whatever is in it."""
     wanted = harness.run("sum", "--json", content=good())
     for name in ["", "a.pcap", 'a\\b"c\x1b', "\u00e9\U0001f600\udcff", "x" * 5000]:
@@ -141,7 +141,7 @@ def names_in_json(harness):
         refuse(harness, good()[:-1] + b',"file":' + text.encode() + b"\n}", words, text)
 
 
-def largest_counts(harness):
+def test_largest_counts(harness):
     """Sums stop at 2^64 - 1, and such sums can be added again."""
     most = 2**64 - 1
     text = good(**{name: 2**63 for name in ["packets", "ipv6", "at_payload", "payload_bytes"]}, headers={"0": 2**63},
@@ -155,7 +155,7 @@ def largest_counts(harness):
     harness.equal(harness.run("sum", "--json", content=twice[1] + good() + twice[1]), twice, "sums added again")
 
 
-def damaged(harness):
+def test_damaged(harness):
     """A truncated object is refused. Whatever bytes are changed, the program ends in an orderly way."""
     text = good(faults={"too-short routing": 1})
     draw = random.Random(4)
@@ -170,7 +170,7 @@ def damaged(harness):
         harness.check((status == 0) == (errors == "") and (status == 1) == (found == b""), bytes(changed), status, errors)
 
 
-def bounds(harness):
+def test_bounds(harness):
     """Chains after the first 4096, and chains of more than 64 headers, are counted as `other`."""
     frames = []
     for number in range(5000):

@@ -114,7 +114,7 @@ def check_sums(harness, frames, words):
     harness.equal(found.strip(), b"", "packets that tshark finds wrong", words)
 
 
-def rewritten(harness):
+def test_rewritten(harness):
     """In each tunnel, the inner packet is what scapy builds without the header, and the outer one what scapy builds around it."""
     frames, wanted = [], []
     for name, version, data in itertools.product(TUNNELS, (4, 6), (b"data", b"odd")):
@@ -133,7 +133,7 @@ def rewritten(harness):
     harness.equal(rewrite(harness, beyond, "--without", "0"), (beyond, ""), "too many tunnels")
 
 
-def each_level(harness):
+def test_each_level(harness):
     """The outer packet is changed too, also if the inner one can't be, and each is counted by itself."""
     for inner, kept in [(with_headers([0]), with_headers([])), (with_headers([60]), with_headers([60]))]:
         both, wanted = [ipv6(number, (options(41) if number == 0 else b"") + packet_bytes) for number, packet_bytes in ((0, inner), (41, kept))]
@@ -156,7 +156,7 @@ def each_level(harness):
     harness.equal(found, ([frame(built("VXLAN", 6, ipv6_chain([43, 44])))], ""), "orders")
 
 
-def refused(harness):
+def test_refused(harness):
     """A packet stays as it is where the outer ones can't follow, and is counted by the reason."""
     inner = with_headers([0, 60])
     unstated = bytearray(built("GRE", 6, inner))
@@ -180,7 +180,7 @@ def refused(harness):
     harness.equal(rewrite(harness, later, "--without", "0"), (later, ""), "no packet in a tunnel")
 
 
-def other_bytes(harness):
+def test_other_bytes(harness):
     """Wrong checksums stay wrong, and all bytes but those of the change stay, in each form of files."""
     inner, less = with_headers([0, 60]), with_headers([60])
     for name, at in [("VXLAN", 14 + 26), ("GRE with a checksum", 14 + 24), ("IP", 14 + 10)]:
@@ -226,7 +226,7 @@ def defragment(harness, frames, *arguments, status=0):
     return [it for _, _, it in frames_of(found[1])], found[2].replace("ipcap: %s: " % path, "")
 
 
-def made_whole(harness):
+def test_made_whole(harness):
     """In each tunnel, the inner packet is the one that scapy fragmented, and the outer one what scapy builds around it."""
     rng, frames, wanted = random.Random(2), [], []
     for number, (name, outer, version) in enumerate(itertools.product(TUNNELS, (4, 6), (4, 6))):
@@ -247,7 +247,7 @@ def made_whole(harness):
     harness.equal(defragment(harness, tail), ([frame(bytes(in_udp(4, 4789, b"\x08\0\0\0\0\0\x05\0", ether(whole))))], ""), "bytes after packets")
 
 
-def apart(harness):
+def test_apart(harness):
     """Fragments of different tunnels aren't joined: of other addresses, kinds, numbers and VLANs."""
     kinds = ["IP", "GRE", "GRE with a key", "GTP-U", "VXLAN", "VXLAN with a VLAN", "Geneve"]
     places = [(name, fields) for name in kinds for fields in ({}, {"addresses": OTHER})]
@@ -277,7 +277,7 @@ def apart(harness):
     harness.equal(found, ([], "%d fragments of packets that aren't whole at the end\n" % len(parts)), "in a tunnel and not")
 
 
-def outer_fragments(harness):
+def test_outer_fragments(harness):
     """Outer packets are made whole before those in their tunnels."""
     from scapy.layers.inet import IP, fragment as fragment4
     parts, whole = parts_of(6, 7, payload(6, 1000))
@@ -293,7 +293,7 @@ def outer_fragments(harness):
     harness.equal(defragment(harness, frames[:-1])[0], [], "without --keep")
 
 
-def what_stays(harness):
+def test_what_stays(harness):
     """Fragments in tunnels stay as they are where the outer packets can't follow, and are counted."""
     parts, whole = parts_of(4, 3, payload(8, 1000))
     for reason, make in [("an authentication header that covers the change", lambda it: ipv6(51, authentication(4) + it)),
@@ -316,7 +316,7 @@ def what_stays(harness):
     harness.equal(report, "packets %s: 192.0.2.1 > 192.0.2.2, protocol 17, id 3: refused: too long for the length field of a packet that carries it\n" % numbers, "report")
 
 
-def kept_and_forms(harness):
+def test_kept_and_forms(harness):
     """With --keep, fragments stay where they were. In pcapng files, a whole packet has the interface and time of the last fragment."""
     (a, b, c), whole = parts_of(6, 1, payload(1, 1000))
     (d, e, f), _ = parts_of(6, 2, payload(2, 1000))
@@ -346,7 +346,7 @@ def kept_and_forms(harness):
     refuse_each(harness, ["defrag", "--tunnels", "--keep", harness.file(timed(frames))])
 
 
-def without_tunnels(harness):
+def test_without_tunnels(harness):
     """Where there is no tunnel, --tunnels changes nothing."""
     from test_defrag import random_capture
     for seed in range(3):
@@ -359,7 +359,7 @@ def without_tunnels(harness):
     harness.equal(harness.run("defrag", "--tunnels", content=faulty), harness.run("defrag", content=faulty), "faulty fragments")
 
 
-def random_tunnels(harness):
+def test_random_tunnels(harness):
     """Random fragments in random tunnels, of which some are lost."""
     for seed in range(12):
         rng, queues = random.Random(seed), []

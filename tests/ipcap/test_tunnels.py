@@ -7,7 +7,7 @@ import random
 import xml.etree.ElementTree as ElementTree
 
 from captures import *
-from harness import COUNTS, TABLES, statistics
+from expected import COUNTS, TABLES, statistics
 from test_stat import chain_in, random_frames
 from test_sum import refuse
 from test_use import refuse_each
@@ -166,7 +166,7 @@ def inner_statistics(**parts):
     return wanted
 
 
-def followed(harness):
+def test_followed(harness):
     """What each tunnel carries is found, and nothing where there is none."""
     packets, wanted = zip(*followed_packets())
     others = list(other_packets())
@@ -188,7 +188,7 @@ def followed(harness):
                    **{"inner_" + name: value for name, value in inner_statistics().items()}}, "no tunnels")
 
 
-def counted(harness):
+def test_counted(harness):
     """All counts of what tunnels carry."""
     frames = [ethernet(ipv4(47, gre(0x86DD, SIX))), ethernet(ipv6(44, fragment(4) + FOUR)),
               ethernet(over_udp("VXLAN", vxlan(ARP))), ethernet(ipv4(4, ipv6(44, fragment(17, 5, 1) + UDP))),
@@ -223,7 +223,7 @@ def nested(*makers):
     return packet
 
 
-def depths(harness):
+def test_depths(harness):
     """Tunnels are followed up to seven deep, and a chain with its path has room for 64 headers, two less per tunnel."""
     four, six = (lambda packet: ipv4(41, packet)), (lambda packet: ipv6(4 if packet[0] >> 4 == 4 else 41, packet))
     for depth in [1, 6, 7, 8, 60]:
@@ -254,7 +254,7 @@ def longest_text():
     return "IPv6 Geneve > " * 7 + "IPv6 " + numbers + " -> 255 truncated"
 
 
-def truncated(harness):
+def test_truncated(harness):
     """No byte after a truncated packet is read, and a tunnel is found where all its headers are there."""
     cases = [(ipv4(47, gre(0x86DD, SIX, 0xB000)), [36]), (over_udp("VXLAN", vxlan(ethernet(FOUR))), [36]),
              (over_udp("GTP-U", gtp_u(SIX, 0x34, optional=TWO_EXTENSIONS)), [28 + 24]),
@@ -268,7 +268,7 @@ def truncated(harness):
     harness.equal((found["inner_faults"], errors), ({}, ""), "faults")
 
 
-def hostile(harness):
+def test_hostile(harness):
     """No byte after a packet is read, whatever follows the headers of a tunnel, and counts add up."""
     draw, packets = random.Random(11), []
     headers = [(4, b""), (41, b""), (47, gre(0x6558, b"", 0xB000)), (47, gre(0x86DD, b""))]
@@ -351,7 +351,7 @@ def compare_with_tshark(harness, content, least):
     harness.equal(found["inner_chains"], chains, "what tshark finds")
 
 
-def tshark_agrees(harness):
+def test_tshark_agrees(harness):
     """tshark finds the same packets in tunnels: nested ones, in first fragments, and at every snap length."""
     made = [packet for packets in [gre_packets, gtp_u_packets, vxlan_packets, geneve_packets] for packet, _ in packets()]
     compare_with_tshark(harness, capture([ethernet(packet) for packet in made]), 11)
@@ -368,7 +368,7 @@ def tshark_agrees(harness):
         compare_with_tshark(harness, file_header() + b"".join(records), 1)
 
 
-def sums(harness):
+def test_sums(harness):
     """Statistics with and without tunnels add up, and all forms of output have those of tunnels."""
     frames = random_tunnels(80, 4, 4) + random_frames(40, 5)
     whole = harness.run("stat", "--json", "--tunnels", content=capture(frames))[1]
@@ -394,7 +394,7 @@ def sums(harness):
                   2 * json.loads(whole)["inner_packets"], "twice")
 
 
-def tables(harness):
+def test_tables(harness):
     """The human-readable output has tables of tunnels after all others."""
     path = harness.file(capture([ethernet(ipv4(47, gre(0x86DD, SIX))), ethernet(over_udp("VXLAN", vxlan(ARP))),
                                  ethernet(ipv4(41, ipv6(60, b"\x11")))]))
@@ -444,7 +444,7 @@ def good(**parts):
     return json.dumps({name: value for name, value in counts.items() if value is not None}, separators=(",", ":")).encode()
 
 
-def names_of_chains(harness):
+def test_names_of_chains(harness):
     """`ipcap sum` reads the chains that `ipcap stat` writes, and no others."""
     harness.equal(harness.run("sum", "--json", content=good()), (0, good() + b"\n", "", None), "as it was")
     for name in ["IPv4 > IPv6 -> 58", "IPv6 44 VXLAN > IPv6 -> 17", "IPv6 0,43,60 > IPv4 Geneve > IPv6 255 -> 0 fault",
@@ -464,7 +464,7 @@ def names_of_chains(harness):
     refuse(harness, good(inner_chains={"IPv6 > IPv4 -> 17": 1}), "don't add up", "the version of the outer packet")
 
 
-def malformed(harness):
+def test_malformed(harness):
     """Statistics of tunnels are there as a whole or not at all, add up, and are skipped by their names alone."""
     for name in COUNTS + TABLES:
         refuse(harness, good(**{"inner_" + name: None}), "the object has no \"inner_%s\"" % name, name)
@@ -510,7 +510,7 @@ INNER_CONDITIONS = {
 }
 
 
-def conditions(harness):
+def test_conditions(harness):
     """With --tunnels, a packet meets a condition if it or one in its tunnels does."""
     frames = list(CARRIERS.values())
     path = harness.file(capture(frames))
@@ -534,7 +534,7 @@ def conditions(harness):
         harness.equal(len(found) > 24, depth == 7, "depth", depth)
 
 
-def shown(harness):
+def test_shown(harness):
     """With --tunnels, each packet in a tunnel is shown after the one that carries it."""
     packets, wanted = zip(*followed_packets())
     path = harness.file(capture(packets, RAW))

@@ -17,7 +17,7 @@ STACK = 160 << 10
 COMMANDS = ["stat", "sum", "filter", "show", "defrag", "rewrite"]
 
 
-def helps(harness):
+def test_helps(harness):
     for arguments in [["--help"], ["-h"]] + [[c, "--help"] for c in COMMANDS] + [[c, "-h"] for c in COMMANDS]:
         status, found, errors, _ = harness.run(*arguments)
         harness.equal((status, errors), (0, ""), arguments)
@@ -35,7 +35,7 @@ def helps(harness):
         harness.equal(wanted[0], 0, arguments)
 
 
-def wrong_usage(harness):
+def test_wrong_usage(harness):
     """Without arguments, the usage is printed. Otherwise one line says what is wrong."""
     found = harness.run()
     harness.equal((found[0], found[1], found[2].encode()), (2, b"", harness.run("--help")[1]), "no argument")
@@ -63,7 +63,7 @@ def wrong_usage(harness):
     harness.equal(harness.run("filter", "--sh", "fault")[0], 0, "a shortened option")
 
 
-def old_processors(harness):
+def test_old_processors(harness):
     """On a processor without x86-64-v2, each command but for help and version says so, and so does the library's call."""
     if not shutil.which("qemu-x86_64"):
         print("old processors: skipped, qemu-x86_64 missing")
@@ -89,7 +89,7 @@ HIDDEN = [(b"a\x9b31mb", "a\\x9b31mb"), ("a\x9b31mb".encode(), "a\\xc2\\x9b31mb"
           ("\u00a0\u4e2d\u00e9\U0001f600".encode(), "\u00a0\u4e2d\u00e9\U0001f600")]
 
 
-def hidden_characters(harness):
+def test_hidden_characters(harness):
     """Characters that change the terminal, or the direction of its text, are escaped wherever arguments are shown."""
     for number, (given, shown) in enumerate(HIDDEN):
         name = os.fsdecode(given)
@@ -117,7 +117,7 @@ def make_lines(compiler, folder):
     return subprocess.run(command, stdout=subprocess.PIPE, check=True).stdout.decode()
 
 
-def hardening(harness):
+def test_hardening(harness):
     """The compiler is given the flags that harden a program, but for those that it doesn't take."""
     for compiler, branches, other in [("gcc", "-fcf-protection", "-mbranch-protection"),
                                       ("aarch64-linux-gnu-gcc", "-mbranch-protection=standard", "-fcf-protection")]:
@@ -137,7 +137,7 @@ def hardening(harness):
     harness.check("-D_FORTIFY_SOURCE=3" in lines and "-fcf-protection" not in lines and "clash" not in lines, "flags that are refused", lines)
 
 
-def names_of_files(harness):
+def test_names_of_files(harness):
     """Control characters in the names of files are escaped."""
     for name, shown in [("a\033[31m\nb\177.pcap", "a\\x1b[31m\\x0ab\\x7f.pcap"), ("é.pcap", "é.pcap")]:
         wanted = (1, b"", "ipcap: %s: No such file or directory\n" % shown, None)
@@ -145,7 +145,7 @@ def names_of_files(harness):
         harness.equal(harness.run("stat", name), wanted, name)
 
 
-def full_outputs(harness):
+def test_full_outputs(harness):
     content = capture([ethernet(ipv6_chain([0, 43]))] * 500)
     path = harness.file(content)
     good = harness.run("stat", "--json", path)[1]
@@ -201,7 +201,7 @@ def in_terminal(command, environment, standard_error=False, head=b"", part=b""):
     return process.wait(), shown
 
 
-def terminals(harness):
+def test_terminals(harness):
     path = harness.file(capture([ethernet(ipv6_chain([0, 43]))]))
     environment = dict(harness.environment, TERM="xterm")
     for command in [harness.plain, harness.sanitized, harness.checked]:
@@ -233,7 +233,7 @@ def take_interrupts():
     signal.signal(signal.SIGINT, signal.SIG_DFL)
 
 
-def interrupts(harness):
+def test_interrupts(harness):
     """After one interrupt, the rest of the pipe is still filtered. The second interrupt ends the program."""
     packet = record(ethernet(ipv6_chain([0])))
     for command in [harness.plain, harness.sanitized, harness.checked]:
@@ -253,7 +253,7 @@ def interrupts(harness):
             process.stdout.close()
 
 
-def bounded_memory(harness):
+def test_bounded_memory(harness):
     """A capture with a thousand times as many packets takes no more memory."""
     frames = [record(ethernet(ipv6_chain(numbers))) for numbers in [[0], [0, 43], [60, 44], [51]]]
     short, long = [harness.file(file_header() + b"".join(frames) * count) for count in [50, 50000]]
@@ -278,7 +278,7 @@ def refuse_each(harness, arguments, given=b""):
     harness.check(failures > 1, arguments, "failed on", failures)
 
 
-def manual(harness):
+def test_manual(harness):
     """What tcpdump writes to a pipe of the manual's examples arrives at once."""
     path = os.path.join(os.path.dirname(os.path.abspath(__file__)), "..", "..", "programs", "ipcap", "ipcap.1")
     with open(path) as file:
@@ -290,7 +290,7 @@ def limit_stack():
     resource.setrlimit(resource.RLIMIT_STACK, (STACK, STACK))
 
 
-def small_stacks(harness):
+def test_small_stacks(harness):
     """Threads with little room on their stacks, as some C libraries give them, count and filter files, also compressed ones."""
     parts = [ethernet(ipv6(44, fragment(17, offset, more) + bytes(16))) for offset, more in ((0, 1), (2, 0))]
     content = capture(([ethernet(ipv6_chain([0]))] + parts) * 9)
@@ -304,19 +304,19 @@ def small_stacks(harness):
             harness.equal((found.returncode, found.stdout), (0, harness.run(*arguments)[1]), name, command)
 
 
-def refused_memory(harness):
+def test_refused_memory(harness):
     """Each failed allocation ends the program with a message, unless it gets by without that memory."""
     content = capture([ethernet(ipv6_chain([60] * 40)), ethernet(ipv4(4, ipv6_chain([60] * 41)))])
     path = harness.file(content)
     counts = harness.run("stat", "--json", "--tunnels", path)[1]
-    harness.settle()
+    harness.finish()
     for arguments, given in [(["stat", path], b""), (["stat", "--tunnels", path], b""),
                              (["filter", "header 60", path], b""), (["show", path], b""), (["sum"], counts),
                              (["rewrite", "--without", "60", path], b"")]:
         refuse_each(harness, arguments, given)
 
 
-def damaged_captures(harness):
+def test_damaged_captures(harness):
     """Whatever bytes of a capture are changed, each command ends in an orderly way."""
     draw = random.Random(5)
     content = capture([ethernet(ipv6_chain([0, 43, 44, 51, 60])),

@@ -87,9 +87,9 @@ static bool open_handle(struct capture *capture, const uint8_t magic[MAGIC_LEN])
     if (!capture->handle && *capture->source.error) return fail_as_source(capture);
     if (!capture->handle) return fail(capture, "%s", error);
     capture->link_type = pcap_datalink(capture->handle);
-    capture->link_layer = find_link_layer(capture->link_type);
-    if (!capture->link_layer) write_refusal(capture->link_type, capture->error, sizeof capture->error);
-    return capture->link_layer;
+    if (is_supported(capture->link_type)) return true;
+    write_refusal(capture->link_type, capture->error, sizeof capture->error);
+    return false;
 }
 
 /* Adds the last interface to the names of those left out, unless its link layer is among them. */
@@ -112,9 +112,9 @@ static void name_left_out(struct capture *capture)
 static void take_interface(struct capture *capture)
 {
     const struct interface *interface = &capture->blocks.file.interfaces[capture->blocks.file.interface_count - 1];
-    if (!interface->link_layer) name_left_out(capture);
+    if (!interface->is_supported) name_left_out(capture);
     else if (!capture->blocks.has_interface) capture->link_type = interface->link_type;
-    if (interface->link_layer) capture->blocks.has_interface = true;
+    if (interface->is_supported) capture->blocks.has_interface = true;
 }
 
 /* Makes room for the last block in the head. Returns false if memory or the budget runs out. */
@@ -284,10 +284,21 @@ static bool read_from_blocks(struct capture *capture, struct packet *packet)
     packet->block = file->block;
     packet->block_len = file->len;
     packet->is_big_endian = file->is_big_endian;
-    packet->is_left_out = !found.interface->link_layer;
+    packet->is_left_out = !found.interface->is_supported;
     packet->has_time = found.has_time;
-    capture->link_layer = found.interface->link_layer;
     return true;
+}
+
+/* Finds the IP packet in the frame of a packet. */
+static void find_in_frame(struct packet *packet)
+{
+    struct wolfaren_frame frame;
+    packet->is_ip = false;
+    if (packet->is_left_out || !wolfaren_find_ip((uint32_t)packet->link_type, packet->frame, packet->header.caplen, &frame)) return;
+    packet->is_ip = frame.end == WOLFAREN_FRAME_IP;
+    packet->ip_offset = frame.offset;
+    packet->protocol = protocol_of(&frame);
+    packet->vlans = vlans_of(&frame);
 }
 
 /* Reads the next packet, even if it is to be skipped. */
@@ -297,8 +308,7 @@ static bool read_next(struct capture *capture, struct packet *packet)
     capture->number++;
     if (capture->follow) capture->follow(capture);
     packet->is_short = packet->header.caplen < packet->header.len;
-    packet->is_ip = !packet->is_left_out && find_ip(capture->link_layer, packet->frame, packet->header.caplen,
-                                                    &packet->ip_offset, &packet->protocol);
+    find_in_frame(packet);
     return true;
 }
 

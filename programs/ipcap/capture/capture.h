@@ -10,8 +10,8 @@
 #include <stdio.h>
 #include <time.h>
 
-#include "capture/link_layer.h"
 #include "capture/pcapng.h"
+#include "capture/protocol.h"
 #include "capture/source.h"
 
 /* A buffer size that is large enough for the text of every error and its terminating null byte. */
@@ -50,7 +50,6 @@ struct capture {
     bool keeps_head;  /* of a pcapng file, for an output */
     struct capture_blocks blocks;
     int link_type;    /* one of libpcap's DLT_ values: of a pcapng file, that of the first supported interface */
-    const struct link_layer *link_layer;
     bool is_live;    /* the input is not a regular file, so packets may arrive as they are captured */
     uint64_t number; /* number of packets read so far */
     const volatile sig_atomic_t *stop; /* null, or not 0 once no more packets are to be read */
@@ -85,6 +84,7 @@ struct packet {
     bool is_short;            /* truncated by the snap length */
     size_t ip_offset;         /* where the IP packet begins in the frame */
     struct protocol protocol; /* the last number that says what the frame carries */
+    uint32_t vlans;           /* the identifiers of its VLAN tags, as `vlans_of` returns them */
 };
 
 /*

@@ -3,7 +3,6 @@
 
 #include "capture/contexts.h"
 
-#include <pcap/pcap.h>
 #include <search.h>
 #include <stdlib.h>
 #include <string.h>
@@ -40,12 +39,10 @@ static void append_tunnel(struct context *context, const struct level *level, co
     const struct inner *inner = &level->inner;
     const size_t at = level->version == 4 ? 12 : 8, len = level->version == 4 ? 8 : ADDRESSES;
     const uint8_t kind[] = {(uint8_t)inner->tunnel, (uint8_t)level->version, inner->has_identifier};
-    const size_t frame_len = inner->frame ? (size_t)(inner->bytes - inner->frame) : 0;
-    const uint32_t vlans = inner->frame ? vlans_of(find_link_layer(DLT_EN10MB), inner->frame, frame_len) : 0;
     append(context, kind, sizeof kind);
     append(context, frame + level->offset + at, len);
     append(context, &inner->identifier, sizeof inner->identifier);
-    append(context, &vlans, sizeof vlans);
+    append(context, &inner->vlans, sizeof inner->vlans);
 }
 
 /* Gives a place the next number. Returns null if memory runs out. */

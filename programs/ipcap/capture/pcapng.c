@@ -7,6 +7,8 @@
 #include <stdlib.h>
 #include <string.h>
 
+#include "capture/protocol.h"
+
 /* The types of blocks. */
 enum {
     SECTION_HEADER = 0x0a0d0d0a,
@@ -237,7 +239,7 @@ static bool read_interface(struct pcapng *pcapng)
     if (!make_interface_room(pcapng)) return false;
     struct interface interface = {.link_type = link_type_of(half_word_at(pcapng, BODY_AT)),
                                   .snap_len = word_at(pcapng, SNAP_LEN_AT), .units_per_second = 1000000};
-    interface.link_layer = find_link_layer(interface.link_type);
+    interface.is_supported = is_supported(interface.link_type);
     if (!read_options(pcapng, "interface description", INTERFACE_OPTIONS_AT, &interface)) return false;
     pcapng->interfaces[pcapng->interface_count++] = interface;
     return true;

@@ -11,8 +11,6 @@
 #include <stdio.h>
 #include <time.h>
 
-#include "capture/link_layer.h"
-
 /* A buffer size that is large enough for the text of every error. */
 enum { PCAPNG_ERROR_ROOM = 160 };
 
@@ -22,7 +20,7 @@ enum { MOST_BLOCK = 16 << 20 };
 /* An interface of a section. */
 struct interface {
     int link_type;                       /* one of libpcap's DLT_ values */
-    const struct link_layer *link_layer; /* null if it isn't supported */
+    bool is_supported;                   /* frames of its link type can be read */
     uint32_t snap_len;                   /* 0 for no limit */
     uint64_t units_per_second;           /* of its timestamps */
     int64_t offset;                      /* what is added to its timestamps, in seconds */

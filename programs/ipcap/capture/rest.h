@@ -1,4 +1,4 @@
-/* What is left of a frame or of a payload while headers are skipped. */
+/* What is left of a payload while headers are skipped. */
 #ifndef IPCAP_REST_H
 #define IPCAP_REST_H
 
@@ -6,14 +6,9 @@
 #include <stddef.h>
 #include <stdint.h>
 
-#include "capture/link_layer.h"
-
 struct rest {
     const uint8_t *bytes;
     size_t len;
-    struct protocol protocol; /* the last number that says what is left */
-    unsigned tags;            /* number of VLAN tags that were skipped */
-    uint32_t vlans;           /* the identifiers of the first two, 12 bits each, that of the first one above */
 };
 
 /* Skips `count` bytes, unless there are fewer. */

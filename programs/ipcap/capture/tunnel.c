@@ -1,8 +1,6 @@
 /* Each function for a tunnel skips its headers, and names the document that defines them. */
 #include "capture/tunnel.h"
 
-#include <pcap/pcap.h>
-
 #include "capture/rest.h"
 
 /* Leaves out the bytes after the first `len`. */
@@ -30,26 +28,35 @@ static uint32_t long_number_at(const uint8_t *bytes)
     return (uint32_t)number_at(bytes) << 16 | number_at(bytes + 2);
 }
 
+/* Notes what was found in a frame, or after an EtherType. */
+static void set_found(struct inner *inner, const struct rest *rest, const struct wolfaren_frame *frame)
+{
+    inner->is_ip = frame->end == WOLFAREN_FRAME_IP;
+    inner->protocol = protocol_of(frame);
+    set_packet(inner, rest, frame->offset);
+}
+
 /* Finds the packet in an Ethernet frame. */
 static void find_in_frame(const struct rest *rest, struct inner *inner)
 {
-    size_t offset;
-    inner->frame = rest->bytes;
-    inner->is_ip = find_ip(find_link_layer(DLT_EN10MB), rest->bytes, rest->len, &offset, &inner->protocol);
-    set_packet(inner, rest, offset);
+    enum { ETHERNET = 1 };
+    struct wolfaren_frame frame;
+    if (!wolfaren_find_ip(ETHERNET, rest->bytes, rest->len, &frame)) return;
+    set_found(inner, rest, &frame);
+    inner->vlans = vlans_of(&frame);
 }
 
 /* Finds the packet after an EtherType. */
 static void find_by_type(const struct rest *rest, unsigned type, struct inner *inner)
 {
     enum { ETHERNET_FRAME = 0x6558 };
-    size_t offset;
+    struct wolfaren_frame frame;
     if (type == ETHERNET_FRAME) {
         find_in_frame(rest, inner);
         return;
     }
-    inner->is_ip = find_ip_after(type, rest->bytes, rest->len, &offset, &inner->protocol);
-    set_packet(inner, rest, offset);
+    wolfaren_find_ip_after((uint16_t)type, rest->bytes, rest->len, &frame);
+    set_found(inner, rest, &frame);
 }
 
 /* RFC 2003, RFC 4213, RFC 2473: the packet follows the outer IP header and its extension headers. */

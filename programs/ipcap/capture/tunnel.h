@@ -6,7 +6,7 @@
 #include <stddef.h>
 #include <stdint.h>
 
-#include "capture/link_layer.h"
+#include "capture/protocol.h"
 #include "packets/parts.h"
 
 enum tunnel { TUNNEL_IP, TUNNEL_GRE, TUNNEL_GTP_U, TUNNEL_VXLAN, TUNNEL_GENEVE };
@@ -18,7 +18,7 @@ struct inner {
     const uint8_t *bytes; /* of an IP packet: its bytes, and what follows it in the payload of the outer packet */
     size_t len;
     struct protocol protocol; /* the last number that says what the tunnel carries */
-    const uint8_t *frame;     /* the Ethernet frame with the packet, or null if there is none */
+    uint32_t vlans;           /* the identifiers of the VLAN tags of its frame, as `vlans_of` returns them, if it carries frames */
     bool has_identifier;      /* the tunnel has a number: the key of GRE, the endpoint's of GTP-U, the network's of VXLAN and Geneve */
     uint32_t identifier;
 };

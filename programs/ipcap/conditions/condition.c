@@ -8,6 +8,7 @@
 
 #include "commands/arguments.h"
 #include "commands/report.h"
+#include "conditions/grouping.h"
 #include "conditions/network.h"
 #include "conditions/ranges.h"
 #include "conditions/words.h"
@@ -179,13 +180,25 @@ static const struct {
     {"greater", "length >= N"},
     {"len", "length"},
     {"mask", "net ADDRESS/BITS"},
-    {"multicast", "dst NETWORK"},
+    {"multicast", "ip multicast, or ip6 multicast"},
+    {"broadcast", "dst ADDRESS, such as dst 255.255.255.255"},
     {"protochain", "header N, or leads-to N"},
+    {"ah", "header ah"},
+    {"igmp", "leads-to 2"},
+    {"pim", "leads-to 103"},
+    {"vrrp", "leads-to 112"},
     {"tcp[tcpflags]", "tcp-flags FLAGS"},
     {"icmp[icmptype]", "icmp-type TYPE"},
     {"icmp[icmpcode]", "icmp-code N"},
     {"icmp6[icmp6type]", "icmp6-type TYPE"},
     {"icmp6[icmp6code]", "icmp6-code N"},
+};
+
+/* Words of libpcap's expressions about the link layer. */
+static const char *const link_layer_words[] = {
+    "ether", "fddi", "tr", "wlan", "link", "ppp", "slip", "arp", "rarp", "aarp", "atalk", "decnet", "iso", "clnp", "esis", "isis",
+    "lat", "moprc", "mopdl", "stp", "ipx", "netbeui", "llc", "vlan", "mpls", "pppoed", "pppoes", "gateway", "inbound",
+    "outbound", "ifname", "on", "type", "subtype", "dir", "vpi", "vci", "lane",
 };
 
 /* Says what is written instead of `header` and a word, if that is a protocol, but no extension header of a packet. */
@@ -202,12 +215,22 @@ static void show_protocol(const char *word, size_t size)
             is_esp ? "esp" : text);
 }
 
-/* Says what is written instead of a word of libpcap's expressions. */
+/* Says what is written instead of a word of libpcap's expressions, or why nothing is. */
 static void show_ours(const char *word, size_t size)
 {
-    for (size_t i = 0; i < sizeof libpcap_words / sizeof *libpcap_words; i++)
-        if (strlen(libpcap_words[i].word) == size && memcmp(libpcap_words[i].word, word, size) == 0)
-            fprintf(stderr, "  for libpcap's `%s`, write `%s`\n", libpcap_words[i].word, libpcap_words[i].ours);
+    for (size_t i = 0; i < sizeof libpcap_words / sizeof *libpcap_words; i++) {
+        if (!is_word(word, size, libpcap_words[i].word)) continue;
+        fprintf(stderr, "  for libpcap's `%s`, write `%s`\n", libpcap_words[i].word, libpcap_words[i].ours);
+        return;
+    }
+    if (is_one_of(word, size, link_layer_words, sizeof link_layer_words / sizeof *link_layer_words))
+        fprintf(stderr, "  libpcap's `%.*s` asks about the link layer, which no term does\n", (int)size, word);
+    else if (is_word(word, size, "geneve"))
+        fputs("  libpcap's `geneve` asks about a packet in the payload, which no term does\n", stderr);
+    else if (memchr(word, '[', size))
+        fputs("  no term reads bytes at an offset; `ipcap filter --help-terms` lists the terms\n", stderr);
+    else if (size > 1 && size <= MOST_HEADER && word[0] == '\\')
+        fprintf(stderr, "  for libpcap's `%.*s`, write `%.*s`\n", (int)size, word, (int)size - 1, word + 1);
 }
 
 /* Reports what the condition needs at a place. */
@@ -306,6 +329,7 @@ static int read_joined(struct condition *condition, const struct text *joined, b
     if (*taken == 0) complain_of_condition(joined, error.expected, text.origins[error.offset]);
     free_text(&text);
     if (*taken == 0 || has_host_bits(&condition->filter) || has_impossible(&condition->filter)) return STATUS_USAGE;
+    if (!tell_grouping(joined->bytes, joined->ends[*taken - 1])) return fail_on_memory();
     return find_own_tests(condition, joined, *taken) ? -1 : fail_on_memory();
 }
 

@@ -45,6 +45,8 @@ static const struct {
     {"dst NETWORK", "the destination address is in the network", "dst 192.0.2.1"},
     {"net NETWORK", "either address is in the network", "net 10.0.0.0/8"},
     {"host ADDRESS", "either address is this one", "host 2001:db8::1"},
+    {"ip multicast", "the destination is in 224.0.0.0/3", "ip multicast"},
+    {"ip6 multicast", "the destination is in ff00::/8", "ip6 multicast"},
     {"src port PORTS", "the source port is one of these", "src port 1024-65535"},
     {"dst port PORTS", "the destination port is one of these", "dst port 443"},
     {"port PORTS", "either port is one of these", "port 53"},
@@ -77,7 +79,8 @@ static const char arguments[] =
     "After leads-to, icmp and icmp6 are numbers of either version.\n"
     "TCP, UDP, UDP-Lite, SCTP and DCCP have ports. A later fragment has none.\n"
     "host, net, port or portrange may follow src and dst. ip, ip6 or a NAME may precede src, dst and these: `tcp port 443`\n"
-    "is `( tcp and port 443 )`. An identifier alone takes the words before it: `port 80 or 443` is `port 80 or port 443`.\n"
+    "is `( tcp and port 443 )`. `src or dst` is either one, and `src and dst` both: `src and dst port 53` has two terms.\n"
+    "An identifier alone takes the words before it: `port 80 or 443` is `port 80 or port 443`.\n"
     "Terms are combined with `not`, `and` and `or`, or `!`, `&&` and `||`, and parentheses.\n";
 
 void print_terms(void)

@@ -11,9 +11,9 @@ static const struct {
     const char *format;
     uint32_t most; /* the largest number of the kind */
 } kinds[] = {
-    [PROTOCOL_ETHERTYPE] = {"EtherType 0x%04x", 0xffff}, [PROTOCOL_LLC] = {"LLC 0x%02x", 0xff},
-    [PROTOCOL_PPP] = {"PPP 0x%04x", 0xffff},             [PROTOCOL_NLPID] = {"NLPID 0x%02x", 0xff},
-    [PROTOCOL_FAMILY] = {"family %u", UINT32_MAX},
+    [WOLFAREN_ETHERTYPE] = {"EtherType 0x%04x", 0xffff}, [WOLFAREN_LLC] = {"LLC 0x%02x", 0xff},
+    [WOLFAREN_PPP] = {"PPP 0x%04x", 0xffff},             [WOLFAREN_NLPID] = {"NLPID 0x%02x", 0xff},
+    [WOLFAREN_FAMILY] = {"family %u", UINT32_MAX},      [WOLFAREN_IEEE80211] = {"802.11 0x%02x", 0xff},
 };
 
 bool protocol_key(const struct protocol *protocol, struct key *key)
@@ -22,7 +22,7 @@ bool protocol_key(const struct protocol *protocol, struct key *key)
     memset(key, 0, sizeof *key);
     key->bytes[KIND_AT] = (uint8_t)protocol->kind;
     for (size_t at = KEY_USED; at > NUMBER_AT; number >>= 8) key->bytes[--at] = (uint8_t)(number & 0xff);
-    return protocol->kind != PROTOCOL_UNKNOWN;
+    return protocol->kind != WOLFAREN_NO_NUMBER;
 }
 
 void write_protocol(const struct key *key, char text[CHAIN_TEXT_ROOM])
@@ -38,7 +38,7 @@ bool read_protocol(const char *text, struct key *key)
     const char *space = strrchr(text, ' ');
     if (!space) return false;
     unsigned long number = strtoul(space + 1, NULL, 0);
-    for (enum protocol_kind kind = PROTOCOL_ETHERTYPE; kind <= PROTOCOL_FAMILY; kind++) {
+    for (unsigned kind = WOLFAREN_ETHERTYPE; kind <= WOLFAREN_IEEE80211; kind++) {
         if (number > kinds[kind].most) continue;
         protocol_key(&(struct protocol){kind, (uint32_t)number, 0}, key);
         write_protocol(key, written);

@@ -4,7 +4,7 @@
 
 #include <stdbool.h>
 
-#include "capture/link_layer.h"
+#include "capture/protocol.h"
 #include "counts/chain_key.h"
 #include "counts/table.h"
 

@@ -38,66 +38,22 @@ static bool has_header(uint64_t headers, struct span packet)
     return wolfaren_filter_matches(&filter, packet.bytes, packet.len);
 }
 
-/* Whether a reserved bit of a header is 1 (RFC 8200, section 4.5; RFC 4302, section 2.3). */
-static bool is_reserved_set(const uint8_t *header, uint8_t number)
+/* Whether reserved bits of a packet are to be cleared. */
+static bool is_to_be_cleared(const struct rewriter *rewriter, struct span packet)
 {
-    if (number == WOLFAREN_FRAGMENT) return header[1] != 0 || (header[3] & 6) != 0;
-    return number == WOLFAREN_AUTHENTICATION && (header[2] != 0 || header[3] != 0);
+    return rewriter->clears && wolfaren_has_reserved_bits(packet.bytes, packet.len);
 }
 
-/* Whether a reserved bit is 1 in the headers of a packet that are there. */
-static bool has_reserved(struct rewriter *rewriter, struct span packet)
+/* Whether headers of a packet are to be put in order. */
+static bool is_to_be_ordered(const struct rewriter *rewriter, struct span packet)
 {
-    struct header_walk walk = {0};
-    if (!has_header(UINT64_C(1) << WOLFAREN_FRAGMENT | UINT64_C(1) << WOLFAREN_AUTHENTICATION, packet)) return false;
-    parse_packet(&rewriter->parts, packet.bytes, packet.len, NULL);
-    while (visit_header(&rewriter->parts, &walk))
-        if (is_reserved_set(packet.bytes + walk.header.offset, walk.header.number)) return true;
-    return false;
-}
-
-/* Returns the place of a header in the recommended order. Destination options before a routing header belong to it. */
-static int place_in_order(uint8_t number, bool is_before_routing)
-{
-    switch (number) {
-    case WOLFAREN_HOP_BY_HOP: return 0;
-    case WOLFAREN_ROUTING: return 1;
-    case WOLFAREN_FRAGMENT: return 2;
-    case WOLFAREN_AUTHENTICATION: return 3;
-    default: return is_before_routing ? 1 : 4;
-    }
-}
-
-/* Returns where the last routing header of a packet begins, or 0 if there is none. */
-static size_t last_routing(const struct parts *parts)
-{
-    struct header_walk walk = {0};
-    size_t last = 0;
-    while (visit_header(parts, &walk))
-        if (walk.header.number == WOLFAREN_ROUTING) last = walk.header.offset;
-    return last;
-}
-
-/* Whether the headers of a packet that are there are in another order than RFC 8200, section 4.1, recommends. */
-static bool is_out_of_order(struct rewriter *rewriter, struct span packet)
-{
-    struct header_walk walk = {0};
-    int before = 0;
-    parse_packet(&rewriter->parts, packet.bytes, packet.len, NULL);
-    const size_t routing = last_routing(&rewriter->parts);
-    while (visit_header(&rewriter->parts, &walk)) {
-        const int place = place_in_order(walk.header.number, walk.header.offset < routing);
-        if (place < before) return true;
-        before = place;
-    }
-    return false;
+    return rewriter->orders && !wolfaren_is_in_order(packet.bytes, packet.len);
 }
 
 /* Whether there is something to change in a packet. */
-static bool is_concerned(struct rewriter *rewriter, struct span packet)
+static bool is_concerned(const struct rewriter *rewriter, struct span packet)
 {
-    return has_header(rewriter->without, packet) || (rewriter->clears && has_reserved(rewriter, packet))
-        || (rewriter->orders && is_out_of_order(rewriter, packet));
+    return has_header(rewriter->without, packet) || is_to_be_cleared(rewriter, packet) || is_to_be_ordered(rewriter, packet);
 }
 
 /* Returns the place for the next result. */
@@ -220,13 +176,13 @@ static bool has_captured_len(const struct packet *packet)
 }
 
 /* Makes all changes of a packet. Returns WOLFAREN_NOT_REFUSED, or why the packet is refused. */
-static uint8_t make_changes(struct rewriter *rewriter, const struct packet *packet, struct change *change)
+static uint8_t make_changes(const struct rewriter *rewriter, const struct packet *packet, struct change *change)
 {
     if (!has_captured_len(packet)) return WOLFAREN_REFUSED_MISSING;
     uint8_t refusal = leave_out(rewriter, change);
-    if (refusal == WOLFAREN_NOT_REFUSED && rewriter->clears && has_reserved(rewriter, change->packet))
+    if (refusal == WOLFAREN_NOT_REFUSED && is_to_be_cleared(rewriter, change->packet))
         refusal = make_change(rewriter, change, wolfaren_cleared);
-    if (refusal == WOLFAREN_NOT_REFUSED && rewriter->orders && is_out_of_order(rewriter, change->packet))
+    if (refusal == WOLFAREN_NOT_REFUSED && is_to_be_ordered(rewriter, change->packet))
         refusal = make_change(rewriter, change, wolfaren_in_order);
     return refusal;
 }

@@ -161,7 +161,7 @@ static const struct {
 
 const char *protocol_name(const struct protocol *protocol)
 {
-    if (protocol->kind != PROTOCOL_ETHERTYPE) return "";
+    if (protocol->kind != WOLFAREN_ETHERTYPE) return "";
     for (size_t i = 0; i < sizeof ethertypes / sizeof *ethertypes; i++)
         if (ethertypes[i].number == protocol->number) return ethertypes[i].name;
     return "";
@@ -182,7 +182,7 @@ void put_protocol(struct writer *writer, const struct protocol *protocol)
 {
     struct key key;
     char text[CHAIN_TEXT_ROOM];
-    if (protocol->kind == PROTOCOL_ETHERTYPE) {
+    if (protocol->kind == WOLFAREN_ETHERTYPE) {
         put_ethertype(writer, protocol);
     } else if (protocol_key(protocol, &key)) {
         write_protocol(&key, text);

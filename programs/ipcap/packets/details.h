@@ -5,7 +5,7 @@
 #ifndef IPCAP_DETAILS_H
 #define IPCAP_DETAILS_H
 
-#include "capture/link_layer.h"
+#include "capture/protocol.h"
 #include "output/writer.h"
 #include "packets/parts.h"
 

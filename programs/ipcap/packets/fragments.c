@@ -295,10 +295,10 @@ static uint32_t interface_of(const struct packet *packet)
 }
 
 /* Returns the context of a packet: its interface, of which only the last 8 bits count, and its first two VLANs. */
-static uint32_t context_of(const struct capture *capture, const struct packet *packet)
+static uint32_t context_of(const struct packet *packet)
 {
     enum { VLAN_BITS = 24 };
-    return interface_of(packet) << VLAN_BITS | vlans_of(capture->link_layer, packet->frame, packet->header.caplen);
+    return interface_of(packet) << VLAN_BITS | packet->vlans;
 }
 
 /*
@@ -405,10 +405,10 @@ static bool settle(struct defragmenter *defragmenter, struct pending *pending, i
 }
 
 /* Finds the number of the place of the last packet. If memory runs out, notes that and returns false. */
-static bool find_context(struct defragmenter *defragmenter, const struct capture *capture, const struct packet *packet,
-                         const struct levels *levels, uint32_t *number)
+static bool find_context(struct defragmenter *defragmenter, const struct packet *packet, const struct levels *levels,
+                         uint32_t *number)
 {
-    const uint32_t arrival = context_of(capture, packet);
+    const uint32_t arrival = context_of(packet);
     *number = arrival;
     if (!defragmenter->has_tunnels) return true;
     if (number_context(&defragmenter->contexts, defragmenter->account, arrival, levels, packet->frame, number)) return true;
@@ -428,7 +428,7 @@ static bool add_outer(struct defragmenter *defragmenter, const struct capture *c
         parse_captured(&defragmenter->parts, packet);
         if (!is_fragment(&defragmenter->parts)) return true;
     }
-    if (!find_context(defragmenter, capture, packet, &levels, &context)) return true;
+    if (!find_context(defragmenter, packet, &levels, &context)) return true;
     enum fate fate = add(defragmenter, capture, packet, context, false, &pending);
     if (fate != COMPLETED) return fate == PASSED;
     const size_t slot = (size_t)(pending - defragmenter->pendings);
@@ -471,7 +471,7 @@ static enum fate add_inner(struct defragmenter *defragmenter, const struct captu
     uint32_t context;
     const uint8_t refusal = refuse_growth(levels, levels->count - 1, 0, false);
     if (refusal != WOLFAREN_NOT_REFUSED) defragmenter->refused[refusal]++;
-    if (refusal != WOLFAREN_NOT_REFUSED || !find_context(defragmenter, capture, packet, levels, &context)) return PASSED;
+    if (refusal != WOLFAREN_NOT_REFUSED || !find_context(defragmenter, packet, levels, &context)) return PASSED;
     enum fate fate = add(defragmenter, capture, inner, context, true, &pending);
     if (fate != COMPLETED) return fate;
     if (!settle(defragmenter, pending, make_inner_whole(defragmenter, pending, levels, packet))) return HELD;

@@ -1,7 +1,7 @@
 """Runs ipcap normally, with sanitizers, and under valgrind, and compares its output with what is expected.
 
 With sanitizers, memory that nothing has written holds other bytes than it would normally, so that a read of it changes what is
-printed. valgrind, which takes a second to start, runs each command of a group with each set of options and each status once."""
+printed. valgrind, which takes a second to start, runs each command of a test with each set of options and each status once."""
 
 import concurrent.futures
 import itertools
@@ -11,6 +11,7 @@ import subprocess
 import sys
 import tempfile
 
+import pytest
 
 # Runs a command in a process of its own, since a process has at least the peak memory of the one that started it, and prints
 # its peak memory in kilobytes to standard error.
@@ -18,10 +19,6 @@ MEASURE = """import resource, subprocess, sys
 status = subprocess.call(sys.argv[1:])
 sys.stderr.write("peak %d\\n" % resource.getrusage(resource.RUSAGE_CHILDREN).ru_maxrss)
 sys.exit(status)"""
-
-
-class Failure(Exception):
-    pass
 
 
 class Harness:
@@ -35,13 +32,14 @@ class Harness:
         self.files = itertools.count()
         self.pending = []
         self.seen = set()
-        self.pool = concurrent.futures.ThreadPoolExecutor(len(os.sched_getaffinity(0)))
+        workers = int(os.environ.get("PYTEST_XDIST_WORKER_COUNT", 1))
+        self.pool = concurrent.futures.ThreadPoolExecutor(max(2, len(os.sched_getaffinity(0)) // workers))
         self.environment = dict(os.environ, ASAN_OPTIONS="exitcode=98:max_malloc_fill_size=1048576", UBSAN_OPTIONS="halt_on_error=1:exitcode=98")
         self.environment.pop("NO_COLOR", None)
 
     def check(self, condition, *words):
         if not condition:
-            raise Failure(" ".join(str(word) for word in words))
+            pytest.fail(" ".join(str(word) for word in words), pytrace=False)
         self.passed += 1
 
     def equal(self, found, wanted, *words):
@@ -81,7 +79,7 @@ class Harness:
     def run(self, *arguments, content=b"", output=None):
         """Runs all builds with the arguments, and checks that they agree. Returns status, standard output, standard
         error, and what was written to the path `{}`, which is a different one for each build. The result under valgrind
-        is checked in `settle`."""
+        is checked at the end of the test."""
         sanitized = self.pool.submit(self.answer, self.sanitized, arguments, content, output)
         answer = self.answer(self.plain, arguments, content, output)
         self.check(answer[0] in (0, 1, 2), "status", answer[0], "of", arguments, answer[2])
@@ -107,11 +105,6 @@ class Harness:
             self.equal(checked.result(), answer, "different result under valgrind of", arguments)
         self.pending = []
 
-    def settle(self):
-        """Ends a group."""
-        self.finish()
-        self.seen = set()
-
     def stat(self, *arguments, content=b"", status=0):
         """Runs `stat --json`. Returns the statistics as an object, and standard error."""
         found = self.run("stat", "--json", *arguments, content=content)
@@ -125,37 +118,23 @@ class Harness:
         return found.stdout
 
 
-COUNTS = ["other_frames", "truncated_frames", "packets", "without_header", "ipv4", "ipv6", "at_payload", "at_later_fragment",
-          "at_truncated_header", "at_fault", "atomic_fragments", "first_fragments", "middle_fragments", "last_fragments",
-          "incomplete", "payload_bytes", "mismatched"]
-TABLES = ["other_protocols", "chains", "chain_headers", "chain_bytes", "headers", "payload_numbers", "later_fragment_numbers",
-          "truncated_headers", "faults"]
+def pytest_addoption(parser):
+    parser.addoption("--builds", required=True, help="the folder of what tests/ipcap/run has built")
 
 
-def statistics(**parts):
-    """Returns the expected output of `stat`: the given parts, and 0 or empty for the rest."""
-    return {"version": "1.4", **dict.fromkeys(COUNTS, 0), **{name: {} for name in TABLES}, **parts}
-
-
-def fragments(found):
-    """Returns how many fragments there are. Atomic ones are whole packets."""
-    return found["first_fragments"] + found["middle_fragments"] + found["last_fragments"]
-
-
-def main(groups):
-    plain, sanitized, refusing, *only = sys.argv[1:]
+@pytest.fixture
+def harness(request):
+    """Runs the builds in a folder of the test's own."""
+    builds = request.config.getoption("--builds")
     with tempfile.TemporaryDirectory() as folder:
-        harness = Harness(plain, sanitized, refusing, folder)
-        for name, group in groups:
-            if only and name not in only:
-                continue
-            before = harness.passed
-            try:
-                group(harness)
-                harness.settle()
-            except Failure as failure:
-                print("%s: %s" % (name, failure))
-                return 1
-            print("%s: %d checks" % (name, harness.passed - before), flush=True)
-        print("%d passed" % harness.passed)
-    return 0
+        it = Harness(f"{builds}/plain/ipcap", f"{builds}/sanitized/ipcap", f"{builds}/refuse.so", folder)
+        yield it
+        it.finish()
+        request.node.user_properties.append(("checks", it.passed))
+
+
+def pytest_terminal_summary(terminalreporter):
+    """Prints how many checks the tests made. A test's number is reported after its fixture has ended, which has no outcome's name."""
+    reports = terminalreporter.stats.get("", [])
+    checks = sum(number for it in reports if it.when == "teardown" for name, number in it.user_properties if name == "checks")
+    terminalreporter.write_line(f"{checks} checks passed")

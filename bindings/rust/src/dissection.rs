@@ -99,7 +99,8 @@ pub enum End {
     Payload,
     /// The payload follows them, but continues that of an earlier fragment: the fragment offset isn't 0.
     LaterFragment,
-    /// A header is incomplete, but lies within the stated length, or no length is stated.
+    /// A header is incomplete: an IP header, or an extension header that lies within the stated length, or no length is
+    /// stated.
     Truncated {
         /// How many bytes the header needs, and how many are present.
         error: LenError,

@@ -84,9 +84,9 @@
 //!
 //! Only here: `Dissection`, `BaseHeader`, `Fragment`, `FragmentKind`, `End`, `Filter`, `Statistics`, `FaultKind`,
 //! `HeaderOptions`, `HeaderOption`, `UnknownOption`, `RoutingAddresses`, `RoutingAddress`, `PacketSpan`, `Defragmenter`,
-//! `Added`, `Outcome`, `DropReason`, `Loss`, `without`, `with_header`, `with_payload`, `cleared`, `in_order`, `recommended_index`, `Which`,
-//! `Authentication`, `Rewritten`, `Ipv6ExtensionsBuilder`, `is_cpu_supported`, `err::AllocError`, `err::BuildError`,
-//! `err::FilterError`, `err::Expected`, `err::SpanError`, `err::RewriteError`.
+//! `Added`, `Outcome`, `DropReason`, `Loss`, `without`, `with_header`, `with_payload`, `cleared`, `has_reserved_bits`, `in_order`,
+//! `is_in_order`, `recommended_index`, `Which`, `Authentication`, `Rewritten`, `Ipv6ExtensionsBuilder`, `is_cpu_supported`,
+//! `err::AllocError`, `err::BuildError`, `err::FilterError`, `err::Expected`, `err::SpanError`, `err::RewriteError`.
 //!
 //! The table has all names of etherparse's layer of extension headers. Of the layer below, that is IP headers, protocol
 //! numbers, `IpFragOffset`, `LenSource` and `Layer`, etherparse has more names than the table lists. The constants of
@@ -175,8 +175,8 @@ pub use ipv6_slice::Ipv6Slice;
 pub use len_source::LenSource;
 pub use packet_span::PacketSpan;
 pub use rewrite::{
-    cleared, in_order, recommended_index, with_header, with_payload, without, Authentication,
-    Rewritten, Which,
+    cleared, has_reserved_bits, in_order, is_in_order, recommended_index, with_header,
+    with_payload, without, Authentication, Rewritten, Which,
 };
 pub use routing_addresses::{RoutingAddress, RoutingAddresses};
 pub use statistics::{FaultKind, Statistics};

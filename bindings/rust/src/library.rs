@@ -292,7 +292,7 @@ const _: () = {
 
 /// `WOLFAREN_ABI`: the checksum of the header that this file was written for (`scripts/abi` of the repository).
 #[cfg(all(test, not(miri)))]
-pub(crate) const ABI: u32 = 0x4729_9104;
+pub(crate) const ABI: u32 = 0x064a_3cb7;
 
 unsafe extern "C" {
     fn wolfaren_parse_chain(
@@ -465,6 +465,10 @@ unsafe extern "C" {
     ) -> bool;
 
     fn wolfaren_recommended_index(bytes: *const u8, len: usize, number: u8) -> usize;
+
+    fn wolfaren_has_reserved_bits(bytes: *const u8, len: usize) -> bool;
+
+    fn wolfaren_is_in_order(bytes: *const u8, len: usize) -> bool;
 
     fn wolfaren_in_order(
         bytes: *const u8,
@@ -1126,6 +1130,18 @@ pub(crate) fn cleared(bytes: &[u8], may_be_invalid: bool, out: &mut [u8]) -> Rew
 pub(crate) fn recommended_index(bytes: &[u8], number: u8) -> usize {
     // SAFETY: the bytes are a slice, which the call only reads.
     unsafe { wolfaren_recommended_index(bytes.as_ptr(), bytes.len(), number) }
+}
+
+/// Returns whether a reserved bit is 1 in a header of the packet at the start of the bytes.
+pub(crate) fn has_reserved_bits(bytes: &[u8]) -> bool {
+    // SAFETY: the bytes are a slice, which the call only reads.
+    unsafe { wolfaren_has_reserved_bits(bytes.as_ptr(), bytes.len()) }
+}
+
+/// Returns whether the headers of the packet at the start of the bytes are in the recommended order.
+pub(crate) fn is_in_order(bytes: &[u8]) -> bool {
+    // SAFETY: the bytes are a slice, which the call only reads.
+    unsafe { wolfaren_is_in_order(bytes.as_ptr(), bytes.len()) }
 }
 
 /// Writes the packet at the start of the bytes with its headers in the recommended order, to the start of `out`.

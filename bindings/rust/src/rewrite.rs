@@ -126,6 +126,13 @@ pub fn with_payload(
     ))
 }
 
+/// Returns whether a reserved bit is 1 in an extension header of the packet at the start of the bytes (RFC 8200, section 4.5;
+/// RFC 4302, section 2.3), so that [`cleared`] would change a header. If the headers end with an error, those before it count.
+#[must_use]
+pub fn has_reserved_bits(packet: &[u8]) -> bool {
+    library::has_reserved_bits(packet)
+}
+
 /// Writes a packet to the start of `out` with the reserved bits of its fragment and authentication headers set to zero (RFC
 /// 8200, section 4.5; RFC 4302, section 2.3). If `out` is as long as `packet`, the room is enough.
 ///
@@ -141,6 +148,13 @@ pub fn cleared(
 ) -> Result<Rewritten, RewriteError> {
     let may_be_invalid = authentication == Authentication::Invalid;
     result(&library::cleared(packet, may_be_invalid, out))
+}
+
+/// Returns whether the extension headers of the packet at the start of the bytes are in the order that [`in_order`] gives
+/// them, so that it would leave them as they are. If the headers end with an error, those before it count.
+#[must_use]
+pub fn is_in_order(packet: &[u8]) -> bool {
+    library::is_in_order(packet)
 }
 
 /// Writes a packet to the start of `out` with its extension headers in the order that RFC 8200, section 4.1, recommends:

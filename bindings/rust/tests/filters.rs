@@ -470,6 +470,8 @@ fn refused_texts() {
             "an address, a prefix or `port`",
         ),
         ("host ::/0", 5, Expected::Address, "an address"),
+        ("dst or ::1", 7, Expected::Source, "`src`"),
+        ("src and ::1", 8, Expected::Destination, "`dst`"),
         (
             "dst port 65536",
             9,
@@ -504,6 +506,10 @@ fn refused_texts() {
         );
         assert_eq!(expected.to_string(), words);
     }
+}
+
+#[test]
+fn refused_bytes_and_sizes() {
     for text in ["fault\0", "fault\0 and fragment"] {
         let error = Filter::parse(text).expect_err("no term has a null byte");
         assert_eq!(error.offset, 0);

@@ -1,10 +1,10 @@
-//! Tests `without`, `with_header`, `with_payload`, `cleared` and `in_order` with packets made here, by RFC 8200, section 4,
-//! and RFC 791, section 3.1.
+//! Tests `without`, `with_header`, `with_payload`, `cleared`, `has_reserved_bits`, `in_order` and `is_in_order` with packets
+//! made here, by RFC 8200, section 4, and RFC 791, section 3.1.
 #![cfg(not(miri))]
 use wolfaren::err::RewriteError;
 use wolfaren::{
-    cleared, in_order, ip_number, recommended_index, with_header, with_payload, without,
-    Authentication, IpNumber, Rewritten, Which,
+    cleared, has_reserved_bits, in_order, ip_number, is_in_order, recommended_index, with_header,
+    with_payload, without, Authentication, IpNumber, Rewritten, Which,
 };
 
 /// An IPv6 packet of headers with these numbers, each of 8 bytes or, for authentication, 16, and 4 bytes of payload.
@@ -292,6 +292,11 @@ fn reserved_bits() {
     let refused = clear(&covered, valid, 100);
     assert_eq!(refused, Err(RewriteError::Authenticated));
     assert_eq!(clear(&covered, invalid, 100), plain);
+    assert!(has_reserved_bits(&fragment) && has_reserved_bits(&covered));
+    fragment[49] = 0;
+    assert!(has_reserved_bits(&fragment));
+    fragment[51] = 0xf9;
+    assert!(!has_reserved_bits(&fragment) && !has_reserved_bits(&[]));
 }
 
 #[test]
@@ -311,6 +316,8 @@ fn orders() {
         Err(RewriteError::Authenticated)
     );
     assert_eq!(order(&covered, invalid, 100), Ok((packet(&[51, 60]), true)));
+    assert!(is_in_order(&wanted) && is_in_order(&packet(&[51, 60])) && is_in_order(&[]));
+    assert!(!is_in_order(&mixed) && !is_in_order(&covered));
     let mut fragment = mixed;
     fragment[59] = 1;
     assert_eq!(order(&fragment, valid, 100), Err(RewriteError::Fragmented));

@@ -1,41 +1,77 @@
-//! Checks that the texts of errors are those in the table of `docs/errors.md`, which the repository checks against its
-//! own code, and that an error with its sources has each text once.
+//! Checks that the texts of errors are those of the proved crates, and that an error with its sources has each text once.
 use std::collections::BTreeMap;
 use std::error::Error;
+use std::fs::{read_dir, read_to_string};
+use std::path::{Path, PathBuf};
 use wolfaren::err::{ip, ip_auth, ipv4, ipv6, ipv6_exts, Layer, LenError, ValueTooBigError};
 use wolfaren::{IpFragOffset, IpNumber, LenSource};
 
 /// A placeholder in braces in a text, and its value.
 type Values<'a> = &'a [(&'a str, &'a str)];
 
-/// Returns the names in a cell, which are quoted as code.
-fn names(cell: &str) -> Vec<String> {
-    cell.split(',')
-        .map(|name| name.trim().trim_matches('`').to_owned())
-        .collect()
+/// Texts by error and variant.
+type Texts = BTreeMap<(String, String), String>;
+
+/// Returns the folder of the proved crates.
+fn crates() -> PathBuf {
+    Path::new(env!("CARGO_MANIFEST_DIR")).join("../../crates")
 }
 
-/// Returns the texts of the table, by error and variant. A row may name several of both.
-fn table() -> BTreeMap<(String, String), String> {
-    let page = include_str!("../../../docs/errors.md");
-    let rows = page
-        .lines()
-        .skip_while(|line| *line != "| Error | Variant | Text |")
-        .skip(2);
-    rows.take_while(|line| line.starts_with('|'))
-        .flat_map(|line| {
-            let cells: Vec<&str> = line.split('|').map(str::trim).collect();
-            let text = cells[3].trim_matches('`').to_owned();
-            let variants = names(cells[2]);
-            names(cells[1]).into_iter().flat_map(move |error| {
-                let text = text.clone();
-                variants
-                    .clone()
-                    .into_iter()
-                    .map(move |variant| ((error.clone(), variant), text.clone()))
-            })
-        })
-        .collect()
+/// Returns the texts of the proved crates' errors.
+fn table() -> Texts {
+    let mut texts = Texts::new();
+    for name in [
+        "ip_base",
+        "ip_ext_headers",
+        "ip_ext_slices",
+        "ip_ext_chains",
+        "etherparse_ip",
+    ] {
+        add_folder(&crates().join(name).join("src/err"), "err", &mut texts);
+    }
+    texts
+}
+
+/// Adds the texts of the errors in a folder, whose module has this path.
+fn add_folder(folder: &Path, module: &str, texts: &mut Texts) {
+    for entry in read_dir(folder).unwrap() {
+        let path = entry.unwrap().path();
+        if path.is_dir() {
+            let name = path.file_name().unwrap().to_str().unwrap();
+            add_folder(&path, &format!("{module}::{name}"), texts);
+        } else {
+            add_source(&read_to_string(&path).unwrap(), module, texts);
+        }
+    }
+}
+
+/// Adds the texts of the errors in a source: each `#[error(..)]` precedes a variant or a struct.
+fn add_source(code: &str, module: &str, texts: &mut Texts) {
+    let (mut error, mut written) = (String::new(), None);
+    for line in code.lines().map(str::trim) {
+        if let Some(text) = line.strip_prefix("#[error(") {
+            written = Some(text);
+            continue;
+        }
+        let mut words = line.split(|it: char| it.is_whitespace() || "({<,".contains(it));
+        let is_type = line.starts_with("pub struct ") || line.starts_with("pub enum ");
+        let name = words.nth(if is_type { 2 } else { 0 }).unwrap_or("");
+        if is_type {
+            error = format!("{module}::{name}");
+        }
+        if let Some(text) = written.take() {
+            let variant = if is_type { "struct" } else { name };
+            texts.insert((error.clone(), variant.to_owned()), text_of(text));
+        }
+    }
+}
+
+/// Returns the text in what follows `#[error(`; that of an error which passes its inner error's on is `inner`.
+fn text_of(written: &str) -> String {
+    match written.strip_prefix('"') {
+        Some(text) => text[..text.rfind('"').unwrap()].to_owned(),
+        None => "inner".to_owned(),
+    }
 }
 
 /// Compares the text of an error that wraps no other with the table.
@@ -246,20 +282,15 @@ fn offsets_are_moved() {
 
 #[test]
 fn numbers_in_words() {
-    let page = include_str!("../../../docs/errors.md");
-    let rows = page
-        .lines()
-        .skip_while(|line| !line.starts_with("| Number | Name |"))
-        .skip(2);
+    let code = read_to_string(crates().join("ip_base/src/ip_number_impl.rt")).unwrap();
     let mut count = 0;
-    for line in rows.take_while(|line| line.starts_with('|')) {
-        let cells: Vec<&str> = line.split('|').map(str::trim).collect();
-        let number = IpNumber(cells[1].parse().unwrap());
-        assert_eq!(
-            format!("{number:?}"),
-            format!("{} ({})", cells[1], cells[2].trim_matches('`'))
-        );
-        count += 1;
+    for line in code.lines() {
+        if let Some((number, name)) = line.trim().split_once(" => \"") {
+            let name = name.trim_end_matches("\",");
+            let shown = IpNumber(number.parse().unwrap());
+            assert_eq!(format!("{shown:?}"), format!("{number} ({name})"));
+            count += 1;
+        }
     }
     assert_eq!(count, 5);
     assert_eq!(format!("{:?}", IpNumber(17)), "17");

@@ -52,6 +52,10 @@ pub enum Expected {
     IcmpType,
     /// The number or name of a type of ICMP for IPv6.
     Icmp6Type,
+    /// The word `src`, after `dst` and an operator.
+    Source,
+    /// The word `dst`, after `src` and an operator.
+    Destination,
 }
 
 impl Expected {
@@ -76,6 +80,8 @@ impl Expected {
             17 => Expected::TcpFlags,
             18 => Expected::IcmpType,
             19 => Expected::Icmp6Type,
+            20 => Expected::Source,
+            21 => Expected::Destination,
             _ => Expected::Operand,
         }
     }

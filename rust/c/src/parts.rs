@@ -1,0 +1,117 @@
+//! What C passes, as Rust has it.
+
+use core::slice::{from_raw_parts, from_raw_parts_mut};
+use wolfaren::defragment::{
+    Defragmenter, DefragmenterCounts, Links, PacketMemory, Settings, Slot, SlotTable, Table,
+};
+
+/// Returns the elements at a pointer, which may be null if there are none.
+///
+/// # Safety
+///
+/// So many elements are there, and nothing writes them.
+pub(crate) unsafe fn slice<'a, T>(first: *const T, count: usize) -> &'a [T] {
+    if count == 0 {
+        return &[];
+    }
+    // SAFETY: the caller says so.
+    unsafe { from_raw_parts(first, count) }
+}
+
+/// Returns the elements at a pointer, which may be null if there are none.
+///
+/// # Safety
+///
+/// So many elements are there, and nothing else reads or writes them.
+pub(crate) unsafe fn slice_mut<'a, T>(first: *mut T, count: usize) -> &'a mut [T] {
+    if count == 0 {
+        return &mut [];
+    }
+    // SAFETY: the caller says so.
+    unsafe { from_raw_parts_mut(first, count) }
+}
+
+/// `struct wolfaren_name`.
+#[repr(C)]
+pub struct Name {
+    text: *const u8,
+    size: usize,
+}
+
+/// Stores a name that a call finds.
+///
+/// # Safety
+///
+/// A name may be written at the pointer.
+pub(crate) unsafe fn put_name(name: *mut Name, find: impl FnOnce(&mut &'static [u8])) {
+    let mut found: &'static [u8] = &[];
+    find(&mut found);
+    let (text, size) = (found.as_ptr(), found.len());
+    // SAFETY: the caller says so.
+    unsafe { name.write(Name { text, size }) }
+}
+
+/// `struct wolfaren_links`.
+#[repr(C)]
+struct CLinks {
+    next: *mut u32,
+    next_count: usize,
+    previous: *mut u32,
+    previous_count: usize,
+}
+
+/// `struct wolfaren_defragmenter`.
+#[repr(C)]
+pub struct CDefragmenter {
+    slots: *mut Slot,
+    slot_count: usize,
+    places: u32,
+    ages: CLinks,
+    chains: CLinks,
+    memories: *mut PacketMemory,
+    memory_count: usize,
+    counts: *mut DefragmenterCounts,
+    settings: Settings,
+}
+
+impl CLinks {
+    /// Returns the links.
+    ///
+    /// # Safety
+    ///
+    /// Both arrays are there, and nothing else reads or writes them.
+    unsafe fn links<'a>(&self) -> Links<'a> {
+        // SAFETY: the caller says so.
+        unsafe {
+            Links {
+                next: slice_mut(self.next, self.next_count),
+                previous: slice_mut(self.previous, self.previous_count),
+            }
+        }
+    }
+}
+
+impl CDefragmenter {
+    /// Returns the defragmenter. No call changes its lengths or settings.
+    ///
+    /// # Safety
+    ///
+    /// All its parts are there. Nothing else reads or writes them or, if the call only reads, nothing writes them.
+    pub(crate) unsafe fn defragmenter<'a>(&self) -> Defragmenter<'a> {
+        // SAFETY: the caller says so.
+        unsafe {
+            let table = Table {
+                places: self.places,
+                ages: self.ages.links(),
+                chains: self.chains.links(),
+            };
+            let slots = slice_mut(self.slots, self.slot_count);
+            Defragmenter {
+                slots: SlotTable { slots, table },
+                memories: slice_mut(self.memories, self.memory_count),
+                counts: &mut *self.counts,
+                settings: self.settings,
+            }
+        }
+    }
+}

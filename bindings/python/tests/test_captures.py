@@ -98,9 +98,9 @@ class Packets(Scratch):
 
     def test_left_out(self):
         """Packets of an interface whose link layer isn't supported are left out, and it is named after the last packet."""
-        content = (blocks.section() + blocks.interface(105) + blocks.interface(RAW) + blocks.packet(bytes(60))
+        content = (blocks.section() + blocks.interface(119) + blocks.interface(RAW) + blocks.packet(bytes(60))
                    + blocks.packet(PACKETS[0], 1) + blocks.packet(bytes(60)))
-        named = "interface 0: link layer IEEE802_11 .* isn't supported$"
+        named = "interface 0: link layer PRISM_HEADER .* isn't supported$"
         for missing, reason in [(0, f"^{named}"), (1, f"^can't read packet 3: .* is truncated; {named}")]:
             path = self.file(content[:len(content) - missing])
             found = packets(path)
@@ -162,7 +162,7 @@ class Packets(Scratch):
     def test_unreadable(self):
         """The capture is opened by the call, before a packet is asked for."""
         for path, words in [(self.file(b"no capture", "x"), "unknown file format"),
-                            (self.file(capture([b""], 105), "y"), "link layer IEEE802_11 .* isn't supported"),
+                            (self.file(capture([b""], 119), "y"), "link layer PRISM_HEADER .* isn't supported"),
                             (f"{self.folder}/none", "No such file"), (self.folder, "Is a directory")]:
             with self.assertRaisesRegex(CaptureError, words):
                 packets(path)
@@ -318,7 +318,7 @@ class Program(Scratch):
         several = (blocks.section() + blocks.interface(snap_len=262144) + blocks.interface(RAW)
                    + b"".join(map(blocks.packet, frames)) + blocks.simple(frames[0]) + blocks.block(5, bytes(12))
                    + b"".join(blocks.packet(it, 1) for it in PACKETS))
-        left_out = several + blocks.interface(105) + blocks.packet(ARP, 2) + blocks.packet(PACKETS[0], 1)
+        left_out = several + blocks.interface(119) + blocks.packet(ARP, 2) + blocks.packet(PACKETS[0], 1)
         return [capture(frames, snap_len=262144), several, left_out, gzip.compress(several)]
 
     def damaged(self):
@@ -384,10 +384,10 @@ class Writes(Scratch):
     def test_left_out(self):
         """The output has all but the packets of an interface that isn't supported, as that of ipcap; the error names it."""
         packet = [blocks.packet(PACKETS[0]), blocks.packet(bytes(60), 1), blocks.packet(PACKETS[0])]
-        head = blocks.section() + blocks.interface(RAW) + blocks.interface(105)
+        head = blocks.section() + blocks.interface(RAW) + blocks.interface(119)
         path = self.file(head + b"".join(packet), "c.pcapng")
         before = self.file(b"kept", "b.pcap")
-        with self.assertRaisesRegex(CaptureError, ": interface 1: link layer IEEE802_11 .* isn't supported$") as raised:
+        with self.assertRaisesRegex(CaptureError, ": interface 1: link layer PRISM_HEADER .* isn't supported$") as raised:
             Filter("version 6").write(path, before)
         self.assertEqual((raised.exception.path, raised.exception.written), (path, Written(3, 2)))
         ipcap("filter", "-w", f"{self.folder}/c", "version 6", path, status=1)

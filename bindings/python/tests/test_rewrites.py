@@ -1,4 +1,4 @@
-"""Tests of `without`, `with_header`, `with_payload`, `cleared` and `in_order`. Packets with the change are made here, and by scapy."""
+"""Tests of `without`, `with_header`, `with_payload`, `cleared`, `has_reserved_bits`, `in_order` and `is_in_order`. Packets with the change are made here, and by scapy."""
 
 import copy
 import itertools
@@ -7,7 +7,7 @@ import unittest
 
 from support import LATER_FRAGMENT, TCP, UDP, authentication, fragment, header, ipv4, ipv6, ipv6_chain, options
 
-from wolfaren import Refusal, RewriteError, cleared, in_order, with_header, with_payload, without
+from wolfaren import Refusal, RewriteError, cleared, has_reserved_bits, in_order, is_in_order, with_header, with_payload, without
 
 
 class Rewrites(unittest.TestCase):
@@ -66,6 +66,16 @@ class Rewrites(unittest.TestCase):
         self.assert_refused(Refusal.AUTHENTICATED, packet, call=cleared)
         self.assertEqual(cleared(packet, may_be_invalid=True), (ipv6_chain([51]), True))
 
+    def test_reserved_bits(self):
+        for number, bits in (44, {8, 9, 10, 11, 12, 13, 14, 15, 29, 30}), (51, set(range(16, 32))), (60, set()):
+            plain = ipv6_chain([number])
+            self.assertIs(has_reserved_bits(plain), False)
+            for bit in range(8 if number == 44 else 16, 64):
+                packet = bytearray(plain)
+                packet[40 + bit // 8] |= 0x80 >> bit % 8
+                self.assertIs(has_reserved_bits(memoryview(packet)), bit in bits)
+        self.assertIs(has_reserved_bits(b""), False)
+
     def test_covered_fragment_header(self):
         self.assertEqual(without(ipv6_chain([44, 51]), number=44), (ipv6_chain([51]), True))
         self.assertEqual(without(ipv6_chain([60, 44, 51]), index=1), (ipv6_chain([60, 51]), True))
@@ -88,6 +98,13 @@ class Rewrites(unittest.TestCase):
         first = bytearray(ipv6_chain([44, 43]))
         first[43] = 1
         self.assert_refused(Refusal.FRAGMENTED, first, call=in_order)
+
+    def test_is_in_order(self):
+        for numbers in [], [60], [0, 60, 43, 44, 51, 60], [60, 43, 43], [43, 60, 43], [43, 60, 60]:
+            self.assertIs(is_in_order(ipv6_chain(numbers)), True)
+        for numbers in [44, 43], [60, 44], [60, 51], [51, 44], [44, 60, 43], [60, 44, 43]:
+            self.assertIs(is_in_order(bytearray(ipv6_chain(numbers))), False)
+        self.assertIs(is_in_order(b""), True)
 
     def test_checksums(self):
         packet = bytearray(ipv6_chain([43, 60]))

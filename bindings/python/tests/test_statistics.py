@@ -233,7 +233,7 @@ class Captures(unittest.TestCase):
 
     def test_unreadable(self):
         for path, words in [(write(self.folder.name, "x", b"no capture"), "unknown file format"),
-                            (write(self.folder.name, "y", capture([b""], 105)), "link layer IEEE802_11 .* isn't supported"),
+                            (write(self.folder.name, "y", capture([b""], 119)), "link layer PRISM_HEADER .* isn't supported"),
                             (f"{self.folder.name}/none", "No such file"), (self.folder.name, "Is a directory")]:
             with self.assertRaisesRegex(CaptureError, words) as raised:
                 statistics_of(path)

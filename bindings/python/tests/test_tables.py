@@ -142,8 +142,8 @@ class Tables(Scratch):
             found = table(path)
             self.assertEqual(found.link_layer.tolist(), ["RAW", "EN10MB", "RAW"])
             self.assertEqual((found.ip_offset.tolist(), found.version.tolist()), ([0, 14, 0], [6, 6, 4]))
-        with self.assertRaisesRegex(CaptureError, ": interface 2: link layer IEEE802_11 .* isn't supported"):
-            table(self.file(content + blocks.interface(105)))
+        with self.assertRaisesRegex(CaptureError, ": interface 2: link layer PRISM_HEADER .* isn't supported"):
+            table(self.file(content + blocks.interface(119)))
 
     def test_errors(self):
         whole = capture([ethernet(it) for it in PACKETS])
@@ -172,7 +172,7 @@ class Tables(Scratch):
             table(f"{path}\0")
 
     def test_left_out(self):
-        content = (blocks.section() + blocks.interface(RAW) + blocks.interface(105) + blocks.packet(PACKETS[0])
+        content = (blocks.section() + blocks.interface(RAW) + blocks.interface(119) + blocks.packet(PACKETS[0])
                    + blocks.packet(bytes(60), 1) + blocks.packet(PACKETS[2]))
         with self.assertRaisesRegex(CaptureError, "interface 1: link layer") as raised:
             table(self.file(content))

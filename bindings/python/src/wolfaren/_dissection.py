@@ -35,7 +35,8 @@ class End(enum.IntEnum):
     LATER_FRAGMENT = lib.WOLFAREN_AT_LATER_FRAGMENT
     """The payload follows them, but continues that of an earlier fragment: the fragment offset isn't 0."""
     TRUNCATED_HEADER = lib.WOLFAREN_AT_TRUNCATED_HEADER
-    """A header is incomplete, but lies within the stated length, or no length is stated."""
+    """A header is incomplete: an IP header, or an extension header that lies within the stated length, or no length is
+    stated."""
     FAULT = lib.WOLFAREN_AT_FAULT
     """A header doesn't fit within the stated length, or is malformed."""
 

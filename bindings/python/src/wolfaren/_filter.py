@@ -66,6 +66,8 @@ class Filter:
                                              before it
         src NET, dst NET, net NET            NET is an IPv4 or IPv6 address, alone or with a slash and a number of bits
         host A                               A is an IPv4 or IPv6 address
+        net 10, net 192.168, net 192.168.1   as `net 10.0.0.0/8`, `net 192.168.0.0/16`, `net 192.168.1.0/24`
+        ip multicast, ip6 multicast          the destination is in 224.0.0.0/3, in ff00::/8
         src port P, dst port P, port P, portrange P       P is a port or a range such as 1024-65535
         proto N                              as `leads-to N`; of an extension header, `( header N or leads-to N )`
         no-transport                         the payload should start with an upper-layer header, but lacks part of it
@@ -75,9 +77,9 @@ class Filter:
                                              flag or several with commas between: fin, syn, rst, psh, ack, urg, ece, cwr
 
     As in tcpdump's expressions, `host`, `net`, `port` or `portrange` may follow `src` and `dst`, and `ip`, `ip6` or the name
-    of a protocol may precede `src`, `dst` and these: `tcp src port 80` is `( tcp and src port 80 )`, of two terms. An
-    address, prefix, port or protocol alone takes the words of the term before it: `tcp port 80 or 443` is
-    `tcp port 80 or tcp port 443`.
+    of a protocol may precede `src`, `dst` and these: `tcp src port 80` is `( tcp and src port 80 )`, of two terms. `src or
+    dst` is either one, and `src and dst port 53` is `( src port 53 and dst port 53 )`. An address, prefix, port or protocol
+    alone takes the words of the term before it: `tcp port 80 or 443` is `tcp port 80 or tcp port 443`.
 
     TCP, UDP, UDP-Lite, SCTP and DCCP have ports. Ports, types, codes and flags of TCP are read from the payload, so
     extension headers may precede them. A later fragment has none, nor has a packet with an error or a truncated header. The

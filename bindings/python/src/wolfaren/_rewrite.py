@@ -117,6 +117,15 @@ def with_payload(packet: Buffer, number: int, payload: Buffer, *, may_be_invalid
     return _rewritten(lib.wolfaren_with_payload, packet, number, new, len(new), may_be_invalid=may_be_invalid, added=len(new))
 
 
+def has_reserved_bits(packet: Buffer) -> bool:
+    """Returns whether a reserved bit is 1 in an extension header of the packet at the start of the bytes.
+
+    `cleared` would then change a header. If the headers end with an error, those before it count.
+    """
+    data = ffi.from_buffer("uint8_t[]", packet)
+    return bool(lib.wolfaren_has_reserved_bits(data, len(data)))
+
+
 def cleared(packet: Buffer, *, may_be_invalid: bool = False) -> Rewritten:
     """Returns the packet at the start of the bytes with the reserved bits of its fragment and authentication headers set to zero.
 
@@ -126,6 +135,15 @@ def cleared(packet: Buffer, *, may_be_invalid: bool = False) -> Rewritten:
     only be changed if `may_be_invalid` is true.
     """
     return _rewritten(lib.wolfaren_cleared, packet, may_be_invalid=may_be_invalid)
+
+
+def is_in_order(packet: Buffer) -> bool:
+    """Returns whether the extension headers of the packet at the start of the bytes are in the order that `in_order` gives them.
+
+    `in_order` would then leave them as they are. If the headers end with an error, those before it count.
+    """
+    data = ffi.from_buffer("uint8_t[]", packet)
+    return bool(lib.wolfaren_is_in_order(data, len(data)))
 
 
 def in_order(packet: Buffer, *, may_be_invalid: bool = False) -> Rewritten:

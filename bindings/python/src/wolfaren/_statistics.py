@@ -119,14 +119,14 @@ def _chains_in(packets: Packets, start: int, parts: Any) -> Iterator[tuple[int, 
 
 
 # The numbers by which frames say what they carry, in the order of ipcap's table, and how many digits these have.
-_PROTOCOLS = {"EtherType": 4, "LLC": 2, "PPP": 4, "NLPID": 2}
+_PROTOCOLS = {"EtherType": 4, "LLC": 2, "PPP": 4, "NLPID": 2, "802.11": 2}
 
 
 def _protocol_order(protocol: tuple[str, int]) -> tuple[Any, ...]:
     """Returns what protocols are sorted by: `other` last, then by descending count, and then as ipcap does."""
     name, count = protocol
     kind, _, number = name.partition(" ")
-    kinds = [*_PROTOCOLS, "family"]
+    kinds = ["EtherType", "LLC", "PPP", "NLPID", "family", "802.11"]
     return (name == "other", -count) + ((kinds.index(kind), int(number, 0)) if number else ())
 
 

@@ -19,12 +19,13 @@
 #                     LIBDIR, BINDIR, INCLUDEDIR, MANDIR, BASHDIR and ZSHDIR; DESTDIR=.. is prepended to the paths)
 # make install-lib    install the library alone: the archive of `make lib`, and the shared library if it is built
 # make uninstall      remove what `make install` installs
-# make dist           pack libraries, programs, page, Rust and Python package for machines without Rattle, as
+# make dist           pack libraries, programs, page, Rust and Python packages for machines without Rattle, as
 #                     build/wolfaren-VERSION-x86_64-linux.tar.gz, and without the programs for ARM64
-# make deb            make Debian packages of libraries, headers, programs and Python package, in build/
+# make deb            make Debian packages of libraries, headers, programs, plain Rust and Python package, in build/
 #                     (MAINTAINER='NAME <ADDRESS>')
 # make test-c         test the library, ipcap, and the packages in bindings/rust and bindings/python
 # make rust           make the plain Rust package in build/rust, without Rattle and without proofs
+# make rust-c         build its C library in build/rust-c (RUST_TARGET=.., CC=.., AR=..: for another machine; CARGO_FLAGS)
 # make docs           write pages in build/docs/: the documents, each crate's calls with their contracts, the definitions, and,
 #                     where doxygen, Cargo and sphinx are there, the C interface and the packages. Needs Python's markdown
 # make page           build the files that page/index.html needs
@@ -46,7 +47,7 @@
 # The last eight and make test-c take CARGO_FLAGS="..", additional flags for Cargo, such as one that locates the crate
 # on a machine without network access. So does make test, or ETHERPARSE=.., a program that makes a package of the crate in the
 # folder that it is given, and prints those flags.
-.PHONY: run try test quick rust lib lib-x86_64 lib-aarch64 programs portable wheel wheel-x86_64 wheel-aarch64 install install-lib install-pcap-lib uninstall dist deb test-c docs page test-page mutants memory bench bench-border cost diff diff-test diff-fields fuzz fuzz-test
+.PHONY: run try test quick rust rust-c lib lib-x86_64 lib-aarch64 programs portable wheel wheel-x86_64 wheel-aarch64 install install-lib install-pcap-lib uninstall dist deb test-c docs page test-page mutants memory bench bench-border cost diff diff-test diff-fields fuzz fuzz-test
 .SILENT:
 
 CC_IS_THERE = command -v $(firstword $(1)) >/dev/null || { \
@@ -105,6 +106,9 @@ rust:
 	$(PYTHON_IS_THERE)
 	scripts/rust
 	scripts/check-rust
+
+rust-c: rust
+	scripts/rust-c build/rust-c $(RUST_TARGET)
 
 lib: lib-$(TARGET)
 

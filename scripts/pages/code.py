@@ -6,8 +6,12 @@ import re
 from dataclasses import dataclass, field
 
 ROOT = os.path.dirname(os.path.dirname(os.path.dirname(os.path.abspath(__file__))))
+# crates that are no part of the product
+OTHERS = re.compile(r"check_|ip_vectors|ip_workloads|ipexts_calls")
 ITEM = re.compile(r"(?P<pub>pub(?:\(\w+\))? )?(?:const )?(?P<kind>fn|struct|enum|trait|const|type) (?P<name>\w+)")
 IMPL = re.compile(r"impl(?:<.*?>)? (?:(?P<trait>\S.*?) for )?(?P<type>&?[\w\[\]()]+)")
+# the text of an error, which precedes a variant or a struct
+TEXT = re.compile(r"#\[error\((?:\"(.*)\".*|transparent)\)\]")
 CLAUSE = re.compile(r"\s*(?P<kind>requires|ensures)(?P<star>\*)?(?: (?P<name>\w+))? \{(?P<text>.*)")
 GHOST = re.compile(r"\s*ghost (?P<name>\w+)(?: =|:) \{(?P<text>.*)")
 # an import of definitions, in code or in a file of definitions: a module, and names of it or a name for it
@@ -26,6 +30,8 @@ class Item:
     name: str
     owner: str
     path: str
+    module: str = ""  # of an error, its module below `err`
+    imports: dict = field(default_factory=dict)  # the last module of the path of each name that its file imports
     doc: str = ""
     head: str = ""
     is_public: bool = True
@@ -36,6 +42,16 @@ class Item:
     @property
     def label(self):
         return f"{self.owner}::{self.name}" if self.owner else self.name
+
+    @property
+    def is_law(self):
+        """Returns whether it is a function without arguments and result, which only proves its clauses."""
+        return self.head == f"pub fn {self.name}()"
+
+    @property
+    def title(self):
+        """Returns the label, before which an error has its module."""
+        return f"{self.module}::{self.label}" if self.module else self.label
 
 
 @dataclass
@@ -67,6 +83,11 @@ def crates():
     return found
 
 
+def product():
+    """Returns the crates of the product, as `crates` does."""
+    return {name: below for name, below in crates().items() if not OTHERS.match(name)}
+
+
 def scope_of(text):
     """Returns the names that a file imports from definitions, each with its module and its name there. An alias of a
     module is a name with an empty name there."""
@@ -79,6 +100,32 @@ def scope_of(text):
             if name:
                 found[renamed or name] = (module, name)
     return found
+
+
+def paths_of(text):
+    """Returns the paths of a `use`, whose braces may be nested."""
+    head, brace, rest = text.partition("{")
+    if not brace:
+        return [text]
+    parts, depth = [""], 0
+    for it in rest.rpartition("}")[0]:
+        depth += (it == "{") - (it == "}")
+        parts = [*parts, ""] if it == "," and not depth else [*parts[:-1], parts[-1] + it]
+    return [head + path for part in parts if part.strip() for path in paths_of(part.strip())]
+
+
+def imports_of(text):
+    """Returns the names that a file imports, each with the last module of its path."""
+    uses = re.findall(r"^(?:pub )?use ([^;]*);", text, re.M)
+    return {name: module for use in uses for path in paths_of(use) for module, name in re.findall(r"(\w+)::(\w+)$", path)}
+
+
+def shown_as(line):
+    """Returns documentation that says with which text an error is shown, or none."""
+    it = TEXT.fullmatch(line)
+    if not it:
+        return []
+    return ["", f"Shown as `` {it[1]} ``." if it[1] else "Shown as the error that it holds."]
 
 
 def braced(first, lines, at):
@@ -112,7 +159,8 @@ class Reader:
         self.text = read(path)
         self.lines = self.text.split("\n")
         self.path = os.path.relpath(path, folder)
-        self.scope = scope_of(self.text)
+        module = re.fullmatch(r"err/(\w+)/\w+\.rt", self.path)
+        self.of_file = {"module": module[1] if module else "", "imports": imports_of(self.text), "scope": scope_of(self.text)}
         self.items, self.doc, self.owner, self.impl = [], [], "", None
 
     def read(self):
@@ -130,7 +178,7 @@ class Reader:
             self.doc.append(bare[4:])
             return at
         elif bare.startswith(("#[", "//")) or not bare:
-            self.doc = self.doc if bare else []
+            self.doc = self.doc + shown_as(bare) if bare else []
             return at
         elif line.startswith("impl"):
             self.take_impl(line)
@@ -147,14 +195,14 @@ class Reader:
         self.owner = re.sub(r"\W", "", it["type"])
         trait = re.sub(r"^(\w+::)+", "", it["trait"] or "")
         if trait and not line.endswith("{}"):
-            self.impl = Item("impl", trait, self.owner, self.path, head=line.rstrip("{ "), scope=self.scope)
+            self.impl = Item("impl", trait, self.owner, self.path, head=line.rstrip("{ "), **self.of_file)
             self.items.append(self.impl)
 
     def take_item(self, found, bare, at, is_inner):
         """Reads an item from its first line on."""
         owner = self.owner if is_inner else ""
         is_public = found["pub"] == "pub " or bool(self.impl) or (is_inner and self.is_in_trait())
-        item = Item(found["kind"], found["name"], owner, self.path, "\n".join(self.doc), is_public=is_public, scope=self.scope)
+        item = Item(found["kind"], found["name"], owner, self.path, doc="\n".join(self.doc), is_public=is_public, **self.of_file)
         if item.kind in ("fn", "const", "type"):
             at = self.take_head(item, bare, at)
         else:
@@ -178,9 +226,15 @@ class Reader:
         margin = re.match(r" *", self.lines[at - len(head)])[0]
         item.head = "\n".join(it.removeprefix(margin) for it in head).rstrip("{; \n")
         item.head = re.sub(r"\s*=[^=>].*", "", item.head, flags=re.S) if item.kind == "const" and len(item.head) > 120 else item.head
-        while item.kind == "fn" and (it := CLAUSE.match(self.lines[at])):
-            text, at = braced(it["text"], self.lines, at + 1)
+        while item.kind == "fn" and (it := CLAUSE.match(self.lines[self.after_remarks(at)])):
+            text, at = braced(it["text"], self.lines, self.after_remarks(at) + 1)
             item.clauses.append((it["kind"] + (it["star"] or ""), it["name"] or "", text))
+        return at
+
+    def after_remarks(self, at):
+        """Returns the index of the first line from this one on that is neither empty nor a comment."""
+        while at < len(self.lines) - 1 and re.match(r"\s*(//|$)", self.lines[at]):
+            at += 1
         return at
 
     def take_members(self, item, bare, at):
@@ -199,9 +253,15 @@ class Reader:
                 item.clauses.append(("invariant", it["name"], text))
             elif line.strip().startswith("///"):
                 doc.append(line.strip()[4:])
+            elif line.startswith("    #["):
+                doc += shown_as(line.strip())[1:]
             elif len(line) - len(line.lstrip()) == 4 and not line.strip().startswith(("#", "}", "//")):
                 if item.kind == "enum" or line.strip().startswith("pub "):
                     item.members.append((line.strip().rstrip(",{ "), "\n".join(doc), []))
+                doc = []
+            elif doc and item.members and (it := re.match(r" {8}(\w+): ", line)):
+                head, said, clauses = item.members[-1]
+                item.members[-1] = (head, f"{said} `{it[1]}`: {' '.join(doc)}", clauses)
                 doc = []
         return at
 

@@ -7,7 +7,7 @@ import markdown
 
 WORD = re.compile(r"[A-Za-z_◌][\w'◌]*(?:\.[A-Za-z_][\w']*)?")
 # a section of an RFC, as documents and comments name it
-RFC = re.compile(r"RFC (\d+)((?:, (?:sections? )?[\d.]+[\d](?: and [\d.]*\d)?)?)")
+RFC = re.compile(r"RFC\s(\d+)((?:,\s(?:sections?\s)?(?:\d+\.)*\d+(?:\sand\s(?:\d+\.)*\d+)?)?)")
 EXTENSIONS = ["tables", "fenced_code", "toc", "sane_lists"]
 LAYOUT = """<!DOCTYPE html>
 <html lang="en">
@@ -36,7 +36,7 @@ def page(title, body, top="../"):
 def with_rfcs(text):
     """Returns HTML in which each RFC, with its first section, is a link."""
     def link(found):
-        section = re.search(r"[\d.]*\d", found[2])
+        section = re.search(r"(?:\d+\.)*\d+", found[2])
         return (f'<a href="https://www.rfc-editor.org/rfc/rfc{found[1]}{f"#section-{section[0]}" if section else ""}">'
                 f"{found[0]}</a>")
     return RFC.sub(link, text)
@@ -52,12 +52,18 @@ def line(text):
     return re.sub(r"^<p>(.*)</p>$", r"\1", prose(text), flags=re.S)
 
 
+def first_sentence(text):
+    """Returns the HTML of the first sentence of a text."""
+    return line(re.split(r"(?<=\.)\s+(?=[A-Z`])|\n\n", text)[0])
+
+
 class Links:
     """Where each word of a contract is defined, and which items and definitions use it."""
 
     def __init__(self, crates):
         self.crates = crates
         self.targets, self.types, self.passed_on, self.users, self.missing = {}, {}, {}, {}, set()
+        self.types_named = {}  # where each type is named in signatures and members
 
     def add_definition(self, crate, module, it):
         for name in it.names:
@@ -68,7 +74,7 @@ class Links:
     def add_item(self, crate, item):
         address = f"crates/{crate}.html#{anchor(item)}"
         if item.kind in ("struct", "enum", "trait"):
-            self.types.setdefault(item.name, []).append((crate, address))
+            self.types.setdefault(item.name, []).append((crate, item.module, address))
 
     def address(self, module, name):
         """Returns the address of a definition or of a type, or nothing if it has no page, such as those of std."""
@@ -80,7 +86,8 @@ class Links:
         if found or not re.search(r"\.specs\.(declared|contracts)\.", f"{module}."):
             return found
         crate, kind = module.split(".")[0], module.removesuffix(".TheVariants").split(".")[-1]
-        return next((at for it, at in self.types.get(kind, []) if it == crate), None)
+        found = [(own, at) for it, own, at in self.types.get(kind, []) if it == crate]
+        return next((at for own, at in found if own in module.split(".")), found[0][1] if found else None)
 
     def of_word(self, word, scope, own):
         """Returns the address of a word, and the module and name that it stands for. `own` has the words of its own file."""
@@ -110,16 +117,28 @@ class Links:
             at = found.end()
         return "".join([*parts, html.escape(text[at:])])
 
-    def used_by(self, address, top="../"):
-        users = sorted(self.users.get(address, {}).items(), key=lambda it: it[1])
-        if not users:
+    def of_type(self, name, prefix, crate, item):
+        """Returns the address of a type that an item of a crate names, or nothing. Of types with the same name, that of the module
+        before it or in the import is meant, and otherwise that of the crate."""
+        module = prefix or item.imports.get(name, "super")
+        module = item.module if module == "super" else module
+        found = self.types.get(name, [])
+        for which in ([at for it, own, at in found if own == module and it == crate], [at for _, own, at in found if own and own == module],
+                      [at for it, _, at in found if it == crate], [at for _, _, at in found if len(found) == 1]):
+            if which:
+                return which[0]
+        return None
+
+    def used_by(self, address, users=None, top="../"):
+        found = sorted((self.users if users is None else users).get(address, {}).items(), key=lambda it: it[1])
+        if not found:
             return ""
-        named = ", ".join(f'<a href="{top}{at}"><code>{html.escape(label)}</code></a>' for at, label in users)
-        return f'<details><summary>Used by {len(users)}</summary><p>{named}</p></details>'
+        named = ", ".join(f'<a href="{top}{at}"><code>{html.escape(label)}</code></a>' for at, label in found)
+        return f'<details><summary>Used by {len(found)}</summary><p>{named}</p></details>'
 
 
 def anchor(item):
-    return f"{item.owner}.{item.name}" if item.owner else item.name
+    return ".".join(it for it in (item.module, item.owner, item.name) if it)
 
 
 def clause(links, it, scope, user):
@@ -128,48 +147,54 @@ def clause(links, it, scope, user):
     return f'<tr><th>{html.escape(head)}</th><td><code>{links.code(text, scope, {}, user)}</code></td></tr>'
 
 
-def of_types(links, text, crate, user):
-    """Returns the HTML of a signature, in which each type with a page is a link. Of types with the same name, that of the crate
-    itself is meant."""
+def of_types(links, text, crate, item, user):
+    """Returns the HTML of a signature, in which each type with a page is a link. That the item names the type is noted, except for
+    the item itself and its own calls."""
     def link(found):
-        at = links.types.get(found[0], [])
-        own = [address for it, address in at if it == crate] or [address for _, address in at if len(at) == 1]
-        return f'<a href="../{own[0]}">{found[0]}</a>' if own else found[0]
-    return re.sub(r"\b[A-Z]\w+", link, html.escape(text))
+        at = links.of_type(found[2], found[1] or "", crate, item)
+        if not at:
+            return found[0]
+        if at != user[1] and at != f"crates/{crate}.html#{'.'.join(it for it in (item.module, item.owner) if it)}":
+            links.types_named.setdefault(at, {})[user[1]] = user[0]
+        return f'{found[1] + "::" if found[1] else ""}<a href="../{at}">{found[2]}</a>'
+    return re.sub(r"\b(?:(\w+)::)?([A-Z]\w+)", link, html.escape(text))
 
 
 def item_section(links, crate, item):
     """Returns the HTML of an item: its signature, documentation, members and contract."""
     at = f"crates/{crate}.html#{anchor(item)}"
-    user = (item.label if item.kind != "impl" else f"{item.name} for {item.owner}", at)
+    user = (item.title if item.kind != "impl" else f"{item.name} for {item.owner}", at)
     parts = [f'<section id="{anchor(item)}"><h3><code>{html.escape(user[0])}</code></h3>',
-             f"<pre>{of_types(links, item.head, crate, user)}</pre>", prose(item.doc)]
+             f"<pre>{of_types(links, item.head, crate, item, user)}</pre>", prose(item.doc)]
     if item.members:
-        rows = "".join(f"<tr><td><code>{of_types(links, text, crate, user)}</code></td><td>{line(doc)}"
+        rows = "".join(f"<tr><td><code>{of_types(links, text, crate, item, user)}</code></td><td>{line(doc)}"
                        + ("<table>" + "".join(clause(links, it, item.scope, user) for it in clauses) + "</table>" if clauses else "")
                        + "</td></tr>" for text, doc, clauses in item.members)
         parts.append(f'<table class="members">{rows}</table>')
     if item.clauses:
         rows = "".join(clause(links, it, item.scope, user) for it in item.clauses)
         parts.append(f'<table class="contract">{rows}</table>')
+    if item.kind in ("struct", "enum", "trait"):
+        parts.append(links.used_by(at, links.types_named))
     return "\n".join([*parts, "</section>"])
 
 
 def crate_page(links, crate, said, items, private, below):
     """Returns the page of a crate. Of its private types, those that definitions name are on it."""
     named_by_definitions = [it for it in private if f"crates/{crate}.html#{anchor(it)}" in links.users]
-    of_kind = {"Calls": [it for it in items if it.kind == "fn" and not it.owner],
+    of_kind = {"Calls": [it for it in items if it.kind == "fn" and not it.owner and not it.is_law],
                "Types": [it for it in items if it.kind in ("struct", "enum", "trait", "type")],
                "Methods": [it for it in items if it.owner and it.kind in ("fn", "const")],
                "Impls": [it for it in items if it.kind == "impl"],
                "Constants": [it for it in items if it.kind == "const" and not it.owner],
+               "Laws": [it for it in items if it.is_law],
                "Private types that definitions name": named_by_definitions}
     parts = [f"<h1>{crate}</h1>", prose(said)]
     parts.append("<p>Builds on " + (", ".join(f'<a href="{it}.html">{it}</a>' for it in below) or "nothing") + "."
                  f' Its words: <a href="../definitions/{crate}.html">definitions</a>.</p>')
     for kind, found in of_kind.items():
         if found:
-            named = ", ".join(f'<a href="#{anchor(it)}"><code>{html.escape(it.label)}</code></a>' for it in found)
+            named = ", ".join(f'<a href="#{anchor(it)}"><code>{html.escape(it.title)}</code></a>' for it in found)
             parts.append(f"<h2>{kind}</h2><p>{named}</p>")
             parts += [item_section(links, crate, it) for it in found]
     return page(crate, "\n".join(parts))

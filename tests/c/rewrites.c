@@ -1,7 +1,8 @@
 /*
  * Tests wolfaren_without_number, wolfaren_without_index, wolfaren_with_header, wolfaren_recommended_index,
- * wolfaren_with_payload, wolfaren_cleared and wolfaren_in_order: against packets that are built here with the change, by RFC
- * 8200, section 4, and RFC 791, section 3.1; each refusal; rooms of each length; and any bytes.
+ * wolfaren_with_payload, wolfaren_cleared, wolfaren_has_reserved_bits, wolfaren_in_order and wolfaren_is_in_order: against
+ * packets that are built here with the change, by RFC 8200, section 4, and RFC 791, section 3.1; each refusal; rooms of each
+ * length; and any bytes.
  */
 #include "wolfaren.h"
 
@@ -599,6 +600,67 @@ static void test_recommended_index(void)
     expect(wolfaren_recommended_index(NULL, 0, 0) == 0, "no packet");
 }
 
+/* Whether a call writes the packet as it is. */
+static bool is_unchanged(const struct packet *packet, enum call call)
+{
+    const struct change change = {call, 0, true, {0, NULL, 0}};
+    uint8_t out[MOST_LEN];
+    const size_t len = rewrite(packet->bytes, packet->len, change, MOST_LEN, out).len;
+    return len == packet->len && memcmp(out, packet->bytes, len) == 0;
+}
+
+/* Each bit of a header that is neither its next header nor its length: of a fragment header byte 1 and two bits of byte 3 are
+ * reserved, of an authentication header bytes 2 and 3, of others none. */
+static void test_reserved_bits(void)
+{
+    static const struct extension extensions[] = {{0, 0}, {43, 0}, {44, 0}, {51, 0}, {60, 0}};
+    for (size_t i = 0; i < sizeof extensions / sizeof *extensions; i++) {
+        const uint8_t number = extensions[i].number;
+        const struct packet plain = built(&extensions[i], 1);
+        expect(!wolfaren_has_reserved_bits(plain.bytes, plain.len), "no bit is set");
+        for (unsigned bit = number == WOLFAREN_FRAGMENT ? 8 : 16; bit < 64; bit++) {
+            const unsigned byte = bit / 8;
+            const bool is_reserved = number == WOLFAREN_FRAGMENT ? byte == 1 || bit == 29 || bit == 30
+                                                                 : number == WOLFAREN_AUTHENTICATION && (byte == 2 || byte == 3);
+            struct packet packet = plain;
+            packet.bytes[IPV6_LEN + byte] |= (uint8_t)(0x80 >> bit % 8);
+            expect(wolfaren_has_reserved_bits(packet.bytes, packet.len) == is_reserved, "a reserved bit");
+            expect(is_unchanged(&packet, CLEARED) == !is_reserved, "a bit that is cleared");
+        }
+    }
+    const struct extension several[] = {{0, 1}, {44, 2}, {60, 3}};
+    struct packet packet = built(several, 3);
+    packet.bytes[IPV6_LEN + 16 + 1] = 1;
+    for (size_t len = 0; len <= packet.len; len++)
+        expect(wolfaren_has_reserved_bits(packet.bytes, len) == (len >= IPV6_LEN + 16 + 8), "the header before the missing bytes");
+    expect(!wolfaren_has_reserved_bits(NULL, 0), "no packet");
+}
+
+/* Chains in the order of RFC 8200, section 4.1, and in other orders. */
+static void test_is_in_order(void)
+{
+    static const struct {
+        size_t count;
+        uint8_t numbers[6];
+        bool is_in_order;
+    } rows[] = {{0, {0}, true},          {1, {0}, true},          {6, {0, 60, 43, 44, 51, 60}, true}, {2, {60, 43}, true},
+                {2, {43, 43}, true},     {2, {60, 60}, true},     {3, {60, 43, 60}, true},            {3, {43, 60, 43}, true},
+                {2, {44, 43}, false},    {2, {60, 44}, false},    {2, {60, 51}, false},               {2, {51, 44}, false},
+                {3, {44, 60, 43}, false}, {3, {60, 44, 43}, false}, {4, {0, 43, 60, 44}, false},      {3, {43, 51, 43}, false}};
+    for (size_t i = 0; i < sizeof rows / sizeof *rows; i++) {
+        struct extension extensions[6];
+        for (size_t k = 0; k < rows[i].count; k++) extensions[k] = (struct extension){rows[i].numbers[k], (uint8_t)k};
+        const struct packet packet = built(extensions, rows[i].count);
+        expect(wolfaren_is_in_order(packet.bytes, packet.len) == rows[i].is_in_order, "the order");
+        expect(is_unchanged(&packet, IN_ORDER) == rows[i].is_in_order, "an order that changes");
+    }
+    const struct extension extensions[] = {{44, 1}, {43, 2}};
+    const struct packet packet = built(extensions, 2);
+    for (size_t len = 0; len <= packet.len; len++)
+        expect(wolfaren_is_in_order(packet.bytes, len) == (len < IPV6_LEN + 8 + 24), "the headers before the missing bytes");
+    expect(wolfaren_is_in_order(NULL, 0), "no packet");
+}
+
 int main(void)
 {
     struct extension extensions[MOST_HEADERS];
@@ -612,6 +674,8 @@ int main(void)
     test_longest();
     test_unstated();
     test_recommended_index();
+    test_reserved_bits();
+    test_is_in_order();
     test_any_bytes();
     return 0;
 }

@@ -42,6 +42,8 @@ static uint64_t state = 1;
 /* The arguments of calls, and their results. The extension headers of the packet begin at `offset` with `number`. */
 static uint8_t packet[MOST_PACKET], added[256], out[WOLFAREN_WHOLE_PACKET_ROOM], batch[PACKETS * MOST_PACKET];
 static uint8_t number, added_number, payload_number, matches[PACKETS], address[16];
+static uint32_t link_type;
+static uint16_t ethertype;
 static size_t len, added_len, offset, index_of_header, room, headers_room, count, text_len, written, outside, wanted_slots, memory_size;
 static bool may_be_invalid;
 static char text[TEXT], words[WOLFAREN_TEXT_ROOM];
@@ -58,6 +60,7 @@ static struct wolfaren_option option;
 static struct wolfaren_routing routing;
 static struct wolfaren_fragment fragment;
 static struct wolfaren_authentication authentication;
+static struct wolfaren_frame frame_found;
 static struct wolfaren_packet parsed;
 static struct wolfaren_payload payload;
 static struct wolfaren_dissection dissection, dissections[PACKETS];
@@ -85,6 +88,8 @@ CALL(parse_chain, (number, packet + offset, len - offset, headers, headers_room,
 CALL(parse_ipv4_chain, (number, packet + offset, len - offset, headers, headers_room, &chain))
 RESULT(next_header, (&cursor, packet + offset, len - offset, &header))
 CALL(fault_at, (&cursor, packet + offset, len - offset, &fault))
+RESULT(find_ip, (link_type, packet, len, &frame_found))
+CALL(find_ip_after, (ethertype, packet, len, &frame_found))
 CALL(dissect, (packet, len, headers, headers_room, &dissection))
 RESULT(dissect_packets, (batch, sizeof batch, spans, count, dissections, room, &outside))
 CALL(init_statistics, (&statistics))
@@ -118,7 +123,9 @@ RESULT(with_header, (packet, len, added_number, added, added_len, index_of_heade
 RESULT(recommended_index, (packet, len, number))
 RESULT(with_payload, (packet, len, payload_number, added, added_len, may_be_invalid, out, room, &rewritten))
 RESULT(cleared, (packet, len, may_be_invalid, out, room, &rewritten))
+RESULT(has_reserved_bits, (packet, len))
 RESULT(in_order, (packet, len, may_be_invalid, out, room, &rewritten))
+RESULT(is_in_order, (packet, len))
 RESULT(fault_text, (&fault, words, sizeof words))
 RESULT(outcome_text, (number, words, sizeof words))
 RESULT(loss_text, (number, words, sizeof words))
@@ -302,6 +309,22 @@ static void measure_packet_calls(void)
     measure(&fault_text);
 }
 
+/* Finds IP after headers that lead on: labels of MPLS without the last one, and any bytes. */
+static void measure_frame_calls(void)
+{
+    static const uint16_t ethertypes[] = {0x0800, 0x86dd, 0x8100, 0x8847, 0x8864, 0x0806};
+    len = draw(MOST_PACKET);
+    if (draw(2)) memset(packet, 0, len);
+    else draw_bytes(packet, len, 256);
+    link_type = (uint32_t)draw(280);
+    ethertype = ethertypes[draw(6)];
+    if (len >= 14) packet[12] = (uint8_t)(ethertype >> 8), packet[13] = (uint8_t)ethertype;
+    measure(&find_ip);
+    link_type = 1;
+    measure(&find_ip);
+    measure(&find_ip_after);
+}
+
 static void measure_chain_calls(void)
 {
     static struct call *const calls[] = {&fragment_fields, &authentication_fields, &routing_fields, &routing_address, &parse_ipv4_chain,
@@ -343,7 +366,7 @@ static void measure_statistics_calls(void)
 static void measure_rewrites(void)
 {
     static struct call *const calls[] = {&without_number, &without_index, &with_header, &recommended_index, &with_payload, &cleared,
-                                         &in_order};
+                                         &has_reserved_bits, &in_order, &is_in_order};
     if (draw(2))
         make_whole_packet();
     else
@@ -535,6 +558,7 @@ static void measure_all(void)
     measure(&init_statistics);
     for (int i = 0; i < ROUNDS; i++) {
         measure_packet_calls();
+        measure_frame_calls();
         measure_chain_calls();
         measure_header_calls();
         measure_statistics_calls();

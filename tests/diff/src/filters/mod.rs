@@ -125,6 +125,8 @@ pub enum Expected {
     Network,
     Byte,
     NetworkOrPort,
+    Source,
+    Destination,
     Address,
     Ports,
     IcmpType,

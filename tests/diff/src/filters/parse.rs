@@ -203,6 +203,9 @@ impl Parser {
         self.at += 1;
         let mut last = first.clone();
         qualifiers.push(first);
+        if is_side {
+            self.other_side(&mut qualifiers)?;
+        }
         if is_side && self.is_at(&["host", "net", "port", "portrange"]) {
             last = self.words[self.at].1.clone();
             qualifiers.push(last.clone());
@@ -216,6 +219,26 @@ impl Parser {
             "proto" => Expected::Protocol,
             _ => Expected::NetworkOrPort,
         })
+    }
+
+    /// Takes an operator and the other one of `src` and `dst`, if an operator follows one.
+    fn other_side(&mut self, qualifiers: &mut Vec<String>) -> Result<(), Refusal> {
+        let is_and = self.is_at(&["and", "&&"]);
+        if !is_and && !self.is_at(&["or", "||"]) {
+            return Ok(());
+        }
+        if is_and && self.terms + qualifiers.len() + 1 > MOST_TERMS {
+            return self.refuse(Expected::FewerTerms);
+        }
+        self.at += 1;
+        let (other, expected) = match qualifiers.last().map(String::as_str) {
+            Some("src") => ("dst", Expected::Destination),
+            _ => ("src", Expected::Source),
+        };
+        self.take(|word| (word == other).then_some(()), expected)?;
+        qualifiers.push(if is_and { "and" } else { "or" }.to_owned());
+        qualifiers.push(other.to_owned());
+        Ok(())
     }
 
     /// Takes an identifier after the qualifiers.
@@ -279,7 +302,13 @@ impl Parser {
     /// Takes the rest of a term that begins with the name of a protocol or of a number of packets.
     fn named_term(&mut self, word: &str) -> Result<Term, Refusal> {
         if let Some(term) = protocol_term(word) {
-            return Ok(term);
+            let multicast = if self.is_at(&["multicast"]) {
+                multicast(word)
+            } else {
+                None
+            };
+            self.at += usize::from(multicast.is_some());
+            return Ok(multicast.unwrap_or(term));
         }
         match quantity(word) {
             Some(quantity) => Ok(Term::Compared(quantity, self.comparison()?)),
@@ -316,6 +345,18 @@ fn protocol_term(word: &str) -> Option<Term> {
     }
 }
 
+/// Returns the term that `multicast` is after the name of a version.
+fn multicast(word: &str) -> Option<Term> {
+    let mut address = vec![0; if word == "ip" { 4 } else { 16 }];
+    let (first, bits) = match word {
+        "ip" => (224, 3),
+        "ip6" => (255, 8),
+        _ => return None,
+    };
+    address[0] = first;
+    Some(Term::Destination(Network { address, bits }))
+}
+
 /// Returns what the words say with an identifier, if it is one for them.
 fn said(qualifiers: &[String], identifier: &str) -> Option<Formula> {
     if let Some(term) = qualifiers.first().and_then(|word| protocol_term(word)) {
@@ -341,11 +382,15 @@ fn said(qualifiers: &[String], identifier: &str) -> Option<Formula> {
         });
     }
     let side = |source: Term, destination: Term, either: Term| match (has("src"), has("dst")) {
-        (true, _) => source,
-        (_, true) => destination,
-        _ => either,
+        (true, true) if has("and") => Formula::And(
+            Box::new(Formula::Term(source)),
+            Box::new(Formula::Term(destination)),
+        ),
+        (true, false) => Formula::Term(source),
+        (false, true) => Formula::Term(destination),
+        _ => Formula::Term(either),
     };
-    let term = if has("port") || has("portrange") {
+    Some(if has("port") || has("portrange") {
         let made = || ports(identifier);
         side(
             Term::SourcePort(made()?),
@@ -356,6 +401,8 @@ fn said(qualifiers: &[String], identifier: &str) -> Option<Formula> {
         let made = || {
             if has("host") {
                 host(identifier)
+            } else if has("net") {
+                network(identifier).or_else(|| front(identifier))
             } else {
                 network(identifier)
             }
@@ -365,8 +412,7 @@ fn said(qualifiers: &[String], identifier: &str) -> Option<Formula> {
             Term::Destination(made()?),
             Term::Either(made()?),
         )
-    };
-    Some(Formula::Term(term))
+    })
 }
 
 /// Returns the number of terms.
@@ -596,6 +642,27 @@ fn host(word: &str) -> Option<Network> {
         return None;
     }
     network(word)
+}
+
+/// Returns the network of the IPv4 addresses that begin with one, two or three numbers.
+fn front(word: &str) -> Option<Network> {
+    let (numbers, bits) = match word.split_once('/') {
+        Some((numbers, bits)) => (numbers, Some(bits)),
+        None => (word, None),
+    };
+    let mut address = Vec::new();
+    for part in numbers.split('.') {
+        address.push(byte(part)? as u8);
+    }
+    if address.len() > 3 {
+        return None;
+    }
+    let bits = match bits {
+        Some(bits) => number(bits, 32)? as usize,
+        None => 8 * address.len(),
+    };
+    address.resize(4, 0);
+    Some(Network { address, bits })
 }
 
 fn network(word: &str) -> Option<Network> {

@@ -185,7 +185,10 @@ fn term(packet: &[u8], random: &mut Random, words: &mut Vec<String>) {
             protocol_before(random, words);
             let side = one_of(&["src", "dst", "net"], random);
             let is_side = side != "net";
-            word(words, side);
+            word(words, side.clone());
+            if is_side {
+                other_side(&side, random, words);
+            }
             if is_side && random.percent(30) {
                 word(words, one_of(&["net", "host"], random));
             }
@@ -198,13 +201,18 @@ fn term(packet: &[u8], random: &mut Random, words: &mut Vec<String>) {
             word(words, comparison(random));
             word(words, count(random));
         }
+        14 if random.percent(30) => {
+            word(words, one_of(&["ip", "ip6", "tcp"], random));
+            word(words, "multicast");
+        }
         14 => word(words, one_of(&NAMES, random)),
         15 => base_field(packet, random, words),
         16..18 => {
             protocol_before(random, words);
             let side = one_of(&["src", "dst", ""], random);
             if !side.is_empty() {
-                word(words, side);
+                word(words, side.clone());
+                other_side(&side, random, words);
             }
             word(words, one_of(&["port", "port", "portrange"], random));
             word(words, ports(packet, random));
@@ -259,6 +267,16 @@ fn term(packet: &[u8], random: &mut Random, words: &mut Vec<String>) {
             word(words, if random.percent(90) { address } else { network });
         }
     }
+}
+
+/// Appends an operator and mostly the other one of `src` and `dst`, or nothing.
+fn other_side(side: &str, random: &mut Random, words: &mut Vec<String>) {
+    if random.percent(80) {
+        return;
+    }
+    word(words, one_of(&["and", "or", "&&", "||"], random));
+    let other = if side == "src" { "dst" } else { "src" };
+    word(words, if random.percent(90) { other } else { side });
 }
 
 /// Appends the name of a version or a protocol, which the packet has to have, too.
@@ -448,9 +466,15 @@ fn network(packet: &[u8], random: &mut Random) -> String {
             Ipv6Addr::from(bytes).to_string()
         }),
     };
-    match random.below(10) {
+    match random.below(11) {
         0..2 => address,
         2 => format!("{address}/"),
+        10 => {
+            let parts: Vec<&str> = address.split('.').collect();
+            let front = parts[..parts.len().min(1 + random.below(4))].join(".");
+            let bits = ["", "/8", "/16", "/33", "/"][random.below(5)];
+            format!("{front}{bits}")
+        }
         3 => format!("{address}/0"),
         _ => format!("{address}/{}", random.below(8 * len + 2)),
     }

@@ -6,6 +6,7 @@
  * an authentication header.
  *
  * Which call to choose:
+ *  - For the IP packet in a frame of a link layer: wolfaren_find_ip.
  *  - For packets as they were captured, which may be truncated or fragments: wolfaren_dissect.
  *  - For a condition on such packets: wolfaren_parse_filter once, and then wolfaren_filter_matches.
  *  - For statistics of such packets: wolfaren_count_packet, or wolfaren_count_dissection to dissect them too, and
@@ -19,8 +20,8 @@
  *  - For fragments, which make packets whole: wolfaren_defragmenter_init, wolfaren_defragmenter_add and
  *    wolfaren_defragmenter_packet.
  *  - For packets with other extension headers or another payload: wolfaren_without_number, wolfaren_without_index,
- *    wolfaren_with_header (at any index, such as wolfaren_recommended_index), wolfaren_with_payload, wolfaren_cleared and
- *    wolfaren_in_order.
+ *    wolfaren_with_header (at any index, such as wolfaren_recommended_index), wolfaren_with_payload, wolfaren_cleared (if
+ *    wolfaren_has_reserved_bits) and wolfaren_in_order (unless wolfaren_is_in_order).
  *  - For new chains, or headers in another order: wolfaren_link_headers and wolfaren_write_headers.
  *
  * The header needs C99 or C++11, or a later standard.
@@ -44,6 +45,9 @@
  * uses less than 8 KB. A kernel must therefore save the SSE registers around calls, and must not take an interrupt on the
  * same stack. For ARM64 it is compiled for ARMv8-A, the AAPCS64 calling convention and little-endian data, and may use
  * vector registers.
+ *
+ * For other machines, `make rust-c` builds a library of the same source with Rust's compiler. It also needs the C library.
+ * Nothing is proved of it, but it is tested on x86-64, ARMv7 and i686, and on s390x, which is big-endian.
  */
 #ifndef WOLFAREN_H
 #define WOLFAREN_H
@@ -60,13 +64,14 @@
 #define WOLFAREN_VERSION (10000 * WOLFAREN_VERSION_MAJOR + 100 * WOLFAREN_VERSION_MINOR + WOLFAREN_VERSION_PATCH)
 
 /* A checksum of the structs, numbers and calls in this header, made by scripts/abi of the repository. */
-#define WOLFAREN_ABI 0x47299104u
+#define WOLFAREN_ABI 0x064a3cb7u
 
 /* The symbol that is named after the checksum. */
-#define WOLFAREN_ABI_SYMBOL wolfaren_abi_47299104
+#define WOLFAREN_ABI_SYMBOL wolfaren_abi_064a3cb7
 
-/* The machines for which the library is built. */
-#if !defined(__ELF__) && !defined(__linux__)
+/* The machines for which the library is built. That of `make rust-c` is for any machine, and its users define WOLFAREN_PLAIN. */
+#ifdef WOLFAREN_PLAIN
+#elif !defined(__ELF__) && !defined(__linux__)
 #error "libwolfaren is built for ELF with the System V calling convention, as on Linux, not for Windows or macOS"
 #elif !defined(__LP64__) || !(defined(__x86_64__) || defined(__aarch64__))
 #error "libwolfaren needs a 64-bit machine with 64-bit pointers: x86-64 or ARM64"
@@ -258,6 +263,55 @@ bool wolfaren_next_header(struct wolfaren_cursor *cursor, const uint8_t *bytes, 
 void wolfaren_fault_at(const struct wolfaren_cursor *cursor, const uint8_t *bytes, size_t len,
                        struct wolfaren_fault *fault) WOLFAREN_NONNULL(1, 4);
 
+/* What is after the headers of a frame: values of `end` in struct wolfaren_frame. */
+enum {
+    WOLFAREN_FRAME_IP = 0,        /* an IP packet, or what the headers announce as one */
+    WOLFAREN_FRAME_OTHER = 1,     /* anything else */
+    WOLFAREN_FRAME_TRUNCATED = 2  /* a header that isn't there completely */
+};
+
+/* Kinds of numbers by which headers of frames say what follows: values of `number_kind` in struct wolfaren_frame. */
+enum {
+    WOLFAREN_NO_NUMBER = 0,
+    WOLFAREN_ETHERTYPE = 1, /* IEEE 802.3, section 3.2.6 */
+    WOLFAREN_LLC = 2,       /* a destination service access point (IEEE 802.2, section 3.3) */
+    WOLFAREN_PPP = 3,       /* a PPP protocol number (RFC 1661, section 2) */
+    WOLFAREN_NLPID = 4,     /* a network layer protocol identifier (RFC 2427, section 4) */
+    WOLFAREN_FAMILY = 5,    /* an address family of the system that captured the frame */
+    WOLFAREN_IEEE80211 = 6  /* the type of an 802.11 frame times 16, and its subtype (IEEE 802.11, section 9.2.4.1.3) */
+};
+
+/* What the headers of a frame lead to. Fields that don't apply are 0. */
+struct wolfaren_frame {
+    size_t offset;         /* length of the headers in bytes: where the packet begins, or anything else, or a truncated header */
+    size_t needed;         /* how many bytes a truncated header needs at least, from `offset` on */
+    size_t vlan_count;     /* number of VLAN tags */
+    uint32_t number;       /* the last number that says what the frame carries */
+    uint16_t first_vlan;   /* the identifier of the first VLAN tag */
+    uint16_t second_vlan;  /* the identifier of the second VLAN tag */
+    uint8_t number_kind;   /* WOLFAREN_NO_NUMBER .. */
+    uint8_t version;       /* the IP version that the number stands for, 4 or 6, whatever the packet begins with */
+    uint8_t end;           /* WOLFAREN_FRAME_IP .. */
+};
+
+/*
+ * Finds the IP packet in the `len` bytes of a frame, which may be any bytes. The link type is a LINKTYPE_ value, as files have
+ * it (www.tcpdump.org/linktypes.html), or libpcap's DLT_ value for it. Returns false, and leaves `found` unchanged, if the link
+ * type isn't supported; otherwise fills `found` in completely.
+ *
+ * The headers are those of Ethernet, 802.11 (data frames that aren't protected, without padding after the header), radiotap,
+ * PPI, Token Ring, FDDI, IP over InfiniBand, LLC and SNAP, VLAN tags, MACsec without encryption, network service headers, MPLS,
+ * PPP, PPPoE, Cisco HDLC, Frame Relay, SLIP, BSD loopback, Linux cooked captures, netfilter logs, ipnet and Juniper's.
+ * Attributes of netfilter logs have their least significant byte first, as libpcap delivers them on the machines of this
+ * library.
+ */
+WOLFAREN_USE_RESULT
+bool wolfaren_find_ip(uint32_t link_type, const uint8_t *frame, size_t len, struct wolfaren_frame *found) WOLFAREN_NONNULL(4);
+
+/* Finds the IP packet in the `len` bytes after an EtherType, as wolfaren_find_ip does in a frame. */
+void wolfaren_find_ip_after(uint16_t ethertype, const uint8_t *bytes, size_t len, struct wolfaren_frame *found)
+    WOLFAREN_NONNULL(4);
+
 /* Which fragment a packet is: values of `fragment` in struct wolfaren_dissection. */
 enum {
     WOLFAREN_NOT_FRAGMENTED = 0,
@@ -273,11 +327,12 @@ enum {
     WOLFAREN_AT_PAYLOAD = 0,
     /* The payload follows them, but continues that of an earlier fragment: the fragment offset isn't 0. */
     WOLFAREN_AT_LATER_FRAGMENT = 1,
-    /* A header is incomplete, but lies within the stated length, or no length is stated. `fault` says which, and how many
-     * bytes it needs: those that its length field states or, if that isn't there either, the least that it can have. */
+    /* A header is incomplete: an IP header, or an extension header that lies within the stated length, or no length is
+     * stated. `fault` says which, and how many bytes it needs: those that its length field states or, if that isn't there
+     * either, the least that it can have. */
     WOLFAREN_AT_TRUNCATED_HEADER = 2,
-    /* A header doesn't fit within the stated length, or is malformed. `fault` says how. A header whose length field is there
-     * is a fault or not whether or not the rest of it is there. */
+    /* A header doesn't fit within the stated length, or is malformed. `fault` says how. For an extension header whose length
+     * field is there, this doesn't depend on whether the rest of it is. */
     WOLFAREN_AT_FAULT = 3
 };
 
@@ -919,6 +974,13 @@ bool wolfaren_with_payload(const uint8_t *bytes, size_t len, uint8_t number, con
     WOLFAREN_NONNULL(9);
 
 /*
+ * Returns whether a reserved bit is 1 in an extension header of the packet (RFC 8200, section 4.5; RFC 4302, section 2.3), so that
+ * wolfaren_cleared would change a header. If the headers end with an error, those before it count.
+ */
+WOLFAREN_USE_RESULT
+bool wolfaren_has_reserved_bits(const uint8_t *bytes, size_t len);
+
+/*
  * Writes a packet as wolfaren_without_number does, with the reserved bits of its fragment and authentication headers set to
  * zero (RFC 8200, section 4.5; RFC 4302, section 2.3). A packet with an authentication header is refused only if one of these
  * bits is 1 in it or after it, and a fragment only if one is 1 in the part that is fragmented. If `room` is `len`, it is enough.
@@ -926,6 +988,13 @@ bool wolfaren_with_payload(const uint8_t *bytes, size_t len, uint8_t number, con
 WOLFAREN_USE_RESULT
 bool wolfaren_cleared(const uint8_t *bytes, size_t len, bool may_be_invalid, uint8_t *out, size_t room,
                       struct wolfaren_rewritten *rewritten) WOLFAREN_NONNULL(6);
+
+/*
+ * Returns whether the extension headers of the packet are in the order that wolfaren_in_order gives them, so that it would leave
+ * them as they are. If the headers end with an error, those before it count.
+ */
+WOLFAREN_USE_RESULT
+bool wolfaren_is_in_order(const uint8_t *bytes, size_t len);
 
 /*
  * Writes a packet as wolfaren_without_number does, with its extension headers in the order that RFC 8200, section 4.1,
@@ -944,8 +1013,9 @@ bool wolfaren_in_order(const uint8_t *bytes, size_t len, bool may_be_invalid, ui
  * Formats the fault as text, such as "not enough bytes for the routing header at offset 40: 8 needed, 1 there". It names
  * the faulty extension header, if there is one, and otherwise the layer. Writes the text and a terminating null byte to
  * `text`, which has `room` bytes. Returns the length of the text in bytes, without the null byte. If the return value is
- * `room` or more, nothing is written. Returns 0 for a fault of kind WOLFAREN_NO_FAULT or of an unknown kind. A fault of any
- * other kind has a text, even if no call reports its values.
+ * `room` or more, nothing is written. Returns 0 for a fault of kind WOLFAREN_NO_FAULT or of an unknown kind, for one of kind
+ * WOLFAREN_TOO_SHORT with an unknown layer or length source, and for a version or header length above 255. Any other fault
+ * has a text, even if no call reports its values.
  */
 size_t wolfaren_fault_text(const struct wolfaren_fault *fault, char *text, size_t room) WOLFAREN_NONNULL(1);
 
@@ -1075,7 +1145,9 @@ enum wolfaren_expected {
     WOLFAREN_EXPECTED_PORTS = 16,             /* a port or a range of ports */
     WOLFAREN_EXPECTED_TCP_FLAGS = 17,         /* flags of TCP */
     WOLFAREN_EXPECTED_ICMP_TYPE = 18,         /* the number or name of a type of ICMP */
-    WOLFAREN_EXPECTED_ICMP6_TYPE = 19         /* the number or name of a type of ICMPv6 */
+    WOLFAREN_EXPECTED_ICMP6_TYPE = 19,        /* the number or name of a type of ICMPv6 */
+    WOLFAREN_EXPECTED_SOURCE = 20,            /* `src` */
+    WOLFAREN_EXPECTED_DESTINATION = 21        /* `dst` */
 };
 
 /* Where the text of a filter is wrong. */
@@ -1120,6 +1192,8 @@ struct wolfaren_filter_error {
  *                                        before it
  *   src NET, dst NET, net NET            NET is an IPv4 or IPv6 address, alone or with a slash and a number of bits
  *   host A                               A is an IPv4 or IPv6 address
+ *   net 10, net 192.168, net 192.168.1   as `net 10.0.0.0/8`, `net 192.168.0.0/16`, `net 192.168.1.0/24`
+ *   ip multicast, ip6 multicast          the destination is in 224.0.0.0/3, in ff00::/8
  *   src port P, dst port P, port P, portrange P       P is a port or a range such as 1024-65535
  *   proto N                              as `leads-to N`; of an extension header, `( header N or leads-to N )`
  *   no-transport                         the payload should start with an upper-layer header, but lacks part of it
@@ -1129,8 +1203,9 @@ struct wolfaren_filter_error {
  *                                        flag or several with commas between: fin, syn, rst, psh, ack, urg, ece, cwr
  *
  * As in tcpdump's expressions, `host`, `net`, `port` or `portrange` may follow `src` and `dst`, and `ip`, `ip6` or the name of
- * a protocol may precede `src`, `dst` and these: `tcp src port 80` is `( tcp and src port 80 )`, of two terms. An address,
- * prefix, port or protocol alone takes the words of the term before it: `tcp port 80 or 443` is `tcp port 80 or tcp port 443`.
+ * a protocol may precede `src`, `dst` and these: `tcp src port 80` is `( tcp and src port 80 )`, of two terms. `src or dst` is
+ * either one, and `src and dst port 53` is `( src port 53 and dst port 53 )`. An address, prefix, port or protocol alone takes
+ * the words of the term before it: `tcp port 80 or 443` is `tcp port 80 or tcp port 443`.
  *
  * TCP, UDP, UDP-Lite, SCTP and DCCP have ports. Ports, types, codes and flags of TCP are read from the payload, so extension
  * headers may precede them. A later fragment has none, nor has a packet with an error or a truncated header. The terms about
@@ -1244,8 +1319,9 @@ static inline const char *wolfaren_number_name(uint8_t number)
 }
 #endif
 
-/* The layouts of the structs that the library reads and writes. */
-#if defined(__cplusplus) && __cplusplus >= 201103L
+/* The layouts of the structs that the library reads and writes, with pointers of 64 bits. */
+#if defined(WOLFAREN_PLAIN) && SIZE_MAX <= 0xffffffff
+#elif defined(__cplusplus) && __cplusplus >= 201103L
 #define WOLFAREN_LAYOUT(type, size, last, offset) \
     static_assert(sizeof(struct type) == (size) && offsetof(struct type, last) == (offset), "layout of struct " #type)
 #elif defined(__STDC_VERSION__) && __STDC_VERSION__ >= 201112L
@@ -1257,6 +1333,7 @@ WOLFAREN_LAYOUT(wolfaren_fault, 32, value, 28);
 WOLFAREN_LAYOUT(wolfaren_header, 24, next_header, 17);
 WOLFAREN_LAYOUT(wolfaren_chain, 56, fragmented, 52);
 WOLFAREN_LAYOUT(wolfaren_cursor, 16, number, 8);
+WOLFAREN_LAYOUT(wolfaren_frame, 40, end, 34);
 WOLFAREN_LAYOUT(wolfaren_dissection, 104, end, 102);
 WOLFAREN_LAYOUT(wolfaren_statistics, 8152, faults, 7128);
 WOLFAREN_LAYOUT(wolfaren_packet_span, 16, len, 8);

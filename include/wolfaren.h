@@ -64,10 +64,10 @@
 #define WOLFAREN_VERSION (10000 * WOLFAREN_VERSION_MAJOR + 100 * WOLFAREN_VERSION_MINOR + WOLFAREN_VERSION_PATCH)
 
 /* A checksum of the structs, numbers and calls in this header, made by scripts/abi of the repository. */
-#define WOLFAREN_ABI 0x064a3cb7u
+#define WOLFAREN_ABI 0xf6aca4f4u
 
 /* The symbol that is named after the checksum. */
-#define WOLFAREN_ABI_SYMBOL wolfaren_abi_064a3cb7
+#define WOLFAREN_ABI_SYMBOL wolfaren_abi_f6aca4f4
 
 /* The machines for which the library is built. That of `make rust-c` is for any machine, and its users define WOLFAREN_PLAIN. */
 #ifdef WOLFAREN_PLAIN
@@ -1283,6 +1283,14 @@ void wolfaren_find_layer_name(uint8_t layer, struct wolfaren_name *name) WOLFARE
 void wolfaren_find_len_source_name(uint8_t len_source, struct wolfaren_name *name) WOLFAREN_NONNULL(2);
 void wolfaren_find_number_name(uint8_t number, struct wolfaren_name *name) WOLFAREN_NONNULL(2);
 
+/*
+ * Stores the word for a code in `word`, as filters have it and ipcap prints it. A code without a word has the empty word. From
+ * C and C++, call wolfaren_kind_word and the others below.
+ */
+void wolfaren_find_kind_word(uint8_t kind, struct wolfaren_name *word) WOLFAREN_NONNULL(2);
+void wolfaren_find_layer_word(uint8_t layer, struct wolfaren_name *word) WOLFAREN_NONNULL(2);
+void wolfaren_find_number_word(uint8_t number, struct wolfaren_name *word) WOLFAREN_NONNULL(2);
+
 /* Returns the name of a kind of error, such as "TooShort" for WOLFAREN_TOO_SHORT. */
 static inline const char *wolfaren_kind_name(uint8_t kind)
 {
@@ -1313,6 +1321,30 @@ static inline const char *wolfaren_number_name(uint8_t number)
     struct wolfaren_name name;
     wolfaren_find_number_name(number, &name);
     return name.text;
+}
+
+/* Returns the word for a kind of error: "too-short" for WOLFAREN_TOO_SHORT. */
+static inline const char *wolfaren_kind_word(uint8_t kind)
+{
+    struct wolfaren_name word;
+    wolfaren_find_kind_word(kind, &word);
+    return word.text;
+}
+
+/* Returns the word for a header or packet: "hop-by-hop" for WOLFAREN_HOP_BY_HOP_HEADER. */
+static inline const char *wolfaren_layer_word(uint8_t layer)
+{
+    struct wolfaren_name word;
+    wolfaren_find_layer_word(layer, &word);
+    return word.text;
+}
+
+/* Returns the word for a protocol number: "routing" for 43, "ICMPv6" for 58. */
+static inline const char *wolfaren_number_word(uint8_t number)
+{
+    struct wolfaren_name word;
+    wolfaren_find_number_word(number, &word);
+    return word.text;
 }
 
 #ifdef __cplusplus

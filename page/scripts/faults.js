@@ -11,8 +11,8 @@ Wolfaren.faults = (function () {
     }
     // Returns the name of an error as `ipcap stat` has it, without its kind for a truncated header.
     function nameOf(fault, isTruncated) {
-        const layer = Wolfaren.names.layers[layerOf(fault)];
-        return isTruncated ? layer : `${Wolfaren.names.kinds[fault.kind]} ${layer}`;
+        const layer = Wolfaren.library.layerWord(layerOf(fault));
+        return isTruncated ? layer : `${Wolfaren.library.kindWord(fault.kind)} ${layer}`;
     }
     // Returns a sentence. `offset` counts from the start of the bytes on the page.
     function textOf(fault, offset) {

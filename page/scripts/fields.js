@@ -8,7 +8,7 @@ Wolfaren.fields = (function () {
         return bytes.length > most ? `${hex(bytes.subarray(0, most))}…` : hex(bytes);
     }
     function named(number) {
-        return `${number} ${Wolfaren.names.ofNumber(number)}`.trim();
+        return `${number} ${Wolfaren.library.numberWord(number)}`.trim();
     }
     function of(part, bytes) {
         const b = bytes.subarray(part.offset, part.offset + part.len);

@@ -76,5 +76,15 @@ Wolfaren.library = (function () {
             fault: faultAt(view, answer + 56), identification: view.getUint32(answer + 88, true), fragmentOffset: view.getUint32(answer + 92, true),
             version: view.getUint16(answer + 96, true), number: view.getUint16(answer + 98, true), fragment: view.getUint16(answer + 100, true), end: view.getUint16(answer + 102, true) };
     }
-    return { isSupported, load, parseChain, dissect };
+    // Returns the word for a code: that which the call stores as a slice with a 0 at its end.
+    function word(call, code) {
+        const at = place([]).answer;
+        call(code, BigInt(at));
+        const view = new DataView(memory.buffer);
+        return String.fromCharCode(...new Uint8Array(memory.buffer, size(view, at), size(view, at + 8) - 1));
+    }
+    const kindWord = (kind) => word(calls.wolfaren_find_kind_word, kind);
+    const layerWord = (layer) => word(calls.wolfaren_find_layer_word, layer);
+    const numberWord = (number) => word(calls.wolfaren_find_number_word, number);
+    return { isSupported, load, parseChain, dissect, kindWord, layerWord, numberWord };
 })();

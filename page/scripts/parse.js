@@ -50,12 +50,12 @@ Wolfaren.parse = (function () {
     }
     function pushHeaders(model, headers, base) {
         model.headers = headers.map((it) => ({ ...it, offset: it.offset + base }));
-        for (const it of model.headers) push(model, Wolfaren.names.styles[it.number], Wolfaren.names.ofNumber(it.number), it.offset, it.len, { ...it, isHeader: true });
+        for (const it of model.headers) push(model, Wolfaren.names.styles[it.number], Wolfaren.library.numberWord(it.number), it.offset, it.len, { ...it, isHeader: true });
     }
     // Adds the payload. That of a fragment is part of one, in the colour of the fragment header. A truncated header is in the
     // colour of its kind.
     function pushRest(model, next, isFragment, at, len, isTruncated) {
-        const name = isFragment ? "part of payload" : Wolfaren.names.ofNumber(next) || "payload";
+        const name = isFragment ? "part of payload" : Wolfaren.library.numberWord(next) || "payload";
         const style = isTruncated ? `${Wolfaren.names.styles[next]} incomplete` : isFragment ? "rest of-fragment" : "rest";
         Object.assign(model, { next, isFragment, restLen: len });
         push(model, style, name, at, len, { isRest: true, number: next });

@@ -47,12 +47,12 @@ Wolfaren.table = (function () {
         return `${start}${said.length > 0 ? `: ${said.join(", ")}` : ""}${restText(model)}${endText(model)}.`;
     }
     function headersText(headers) {
-        const all = headers.map((it) => `${Wolfaren.names.ofNumber(it.number)} (${it.len})`);
+        const all = headers.map((it) => `${Wolfaren.library.numberWord(it.number)} (${it.len})`);
         return all.length > 8 ? [...all.slice(0, 6), `${all.length - 6} more headers`] : all;
     }
     function restText(model) {
         if (model.next === undefined || model.fault) return "";
-        const name = Wolfaren.names.ofNumber(model.next), missing = model.packet ? model.packet.missing : 0;
+        const name = Wolfaren.library.numberWord(model.next), missing = model.packet ? model.packet.missing : 0;
         const what = !model.isFragment ? name || "a payload" : name ? `part of a payload of ${name}` : "part of a payload";
         return `; then ${what} (${model.next}) with ${Wolfaren.names.bytes(model.restLen)}${missing > 0 ? `, ${missing} missing` : ""}`;
     }

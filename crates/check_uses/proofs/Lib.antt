@@ -7,5 +7,6 @@ pub mod OptionLemmas
 pub mod AgreementLemmas
 pub mod AcceptedLemmas
 pub mod LayerLemmas
+pub mod WordLemmas
 pub mod FrameLemmas
 pub mod TwoFragmentLemmas

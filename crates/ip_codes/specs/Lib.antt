@@ -1,3 +1,4 @@
 pub mod Codes
 pub mod CodeNames
+pub mod CodeWords
 pub mod EndLayer

@@ -12,7 +12,8 @@
 //! | 5 | an IPv4 header length below 5 | `Ipv6Header` | | | |
 //!
 //! The other layers follow in the order of `Layer`, up to 12 for `Icmpv4`. The module `kind` has the kinds of errors
-//! as constants. A name is a constant text for C, with a zero after it; a code without a name has the empty name.
+//! as constants. A name is a constant text for C, with a zero after it; a code without a name has the empty name. A word is
+//! what filters and programs call a code, in the same form.
 #![tactic(auto)]
 
 mod ends;
@@ -20,9 +21,11 @@ mod error_layers;
 mod errors;
 mod layers;
 mod names;
+mod words;
 
 pub use ends::{end_code_of, kind_code_of};
 pub use error_layers::end_layer;
 pub use errors::{error_kind_of, kind};
 pub use layers::{header_code_of, layer_code_of, len_source_code_of};
 pub use names::{kind_name, layer_name, len_source_name, number_name};
+pub use words::{kind_word, layer_word, number_word};

@@ -3,7 +3,6 @@
 #include <stdio.h>
 
 #include "conditions/network.h"
-#include "packets/names.h"
 
 #define FLAG(number) (UINT64_C(1) << (number))
 
@@ -77,7 +76,7 @@ static int print_flags(const char *word, const struct wolfaren_filter_test *test
 /* Prints the terms of which one has to hold for an error in a layer, and returns the length. */
 static int print_layer(const char *word, const struct wolfaren_filter_test *test)
 {
-    const char *layer = test->number <= UINT8_MAX ? layer_name((uint8_t)test->number) : "";
+    const char *layer = test->number <= UINT8_MAX ? wolfaren_layer_word((uint8_t)test->number) : "";
     (void)word;
     return *layer ? print_flag_terms(test->address_low, layer) : print_never();
 }

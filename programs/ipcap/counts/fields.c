@@ -44,7 +44,7 @@ static bool read_chain_bytes(const char *name, size_t *element)
 
 static void write_layer(size_t layer, char name[ELEMENT_NAME_ROOM])
 {
-    snprintf(name, ELEMENT_NAME_ROOM, "%s", layer_name((uint8_t)layer));
+    snprintf(name, ELEMENT_NAME_ROOM, "%s", wolfaren_layer_word((uint8_t)layer));
 }
 
 static bool read_layer(const char *name, size_t *layer)
@@ -57,8 +57,8 @@ static bool read_layer(const char *name, size_t *layer)
 
 static void write_fault(size_t element, char name[ELEMENT_NAME_ROOM])
 {
-    snprintf(name, ELEMENT_NAME_ROOM, "%s %s", kind_name((uint8_t)(element / LAYERS)),
-             layer_name((uint8_t)(element % LAYERS)));
+    snprintf(name, ELEMENT_NAME_ROOM, "%s %s", wolfaren_kind_word((uint8_t)(element / LAYERS)),
+             wolfaren_layer_word((uint8_t)(element % LAYERS)));
 }
 
 /* Reads the name of a kind, a space, and the name of a layer. */

@@ -2,7 +2,6 @@
 
 #include <string.h>
 
-#include "packets/names.h"
 
 /* A row shows 16 bytes, each in a cell of two digits and a space. */
 enum { ROW_BYTES = 16, CELL = 3 };
@@ -59,12 +58,12 @@ static bool next_range(struct drawing *drawing, struct range *range)
     }
     if (visit_header(parts, &drawing->walk)) {
         const struct wolfaren_header *header = &drawing->walk.header;
-        *range = (struct range){header->offset, header->offset + header->len, number_name(header->number),
+        *range = (struct range){header->offset, header->offset + header->len, wolfaren_number_word(header->number),
                                 header_color(header->number)};
         return true;
     }
     if (index > packet->headers + 1 || end_of_chain(parts) != CHAIN_WHOLE || packet->payload_len == 0) return false;
-    const char *name = is_fragment(parts) ? "part of payload" : number_name((uint8_t)packet->payload_number);
+    const char *name = is_fragment(parts) ? "part of payload" : wolfaren_number_word((uint8_t)packet->payload_number);
     *range = (struct range){packet->payload_offset, packet->payload_offset + packet->payload_len,
                             *name ? name : "payload", plain_color};
     return true;

@@ -7,7 +7,6 @@
 #include "counts/fields.h"
 #include "counts/protocol_key.h"
 #include "output/text.h"
-#include "packets/names.h"
 
 /* How many protocols other than IP the human-readable table has by default. */
 enum { MOST_PROTOCOLS = 5 };
@@ -91,7 +90,7 @@ static void write_item(struct output *output, const struct array *array, const s
 {
     char name[ELEMENT_NAME_ROOM], text[2 * ELEMENT_NAME_ROOM];
     array->write_name(item->element, name);
-    const char *words = array->has_numbers && !output->json ? number_name((uint8_t)item->element) : "";
+    const char *words = array->has_numbers && !output->json ? wolfaren_number_word((uint8_t)item->element) : "";
     snprintf(text, sizeof text, "%s%s%s", name, *words ? " " : "", words);
     write_count(output, text, item->count);
 }

@@ -4,7 +4,6 @@
 #include "output/title.h"
 #include "packets/address.h"
 #include "packets/details.h"
-#include "packets/names.h"
 
 /* What is written of a packet, in this order. Members of the fault are in an object of their own in JSON. */
 enum member {
@@ -131,7 +130,7 @@ static void set_chain(struct record *record, const struct path *path)
 static void set_payload(struct record *record)
 {
     const struct wolfaren_dissection *of = &record->parts->packet;
-    set_code(record, PAYLOAD_NUMBER, of->payload_number, number_name((uint8_t)of->payload_number));
+    set_code(record, PAYLOAD_NUMBER, of->payload_number, wolfaren_number_word((uint8_t)of->payload_number));
     set_number(record, PAYLOAD_OFFSET, of->payload_offset);
     set_number(record, PAYLOAD_LEN, of->payload_len);
     set_number(record, MISSING, of->missing);
@@ -160,15 +159,15 @@ static void set_fault(struct record *record)
 {
     const struct wolfaren_fault *fault = &record->parts->packet.fault;
     if (fault->kind == WOLFAREN_NO_FAULT) return;
-    const char *kind = has_fault(record->parts) ? kind_name(fault->kind) : "";
-    snprintf(record->fault_name, sizeof record->fault_name, "%s%s%s", kind, *kind ? " " : "", layer_name(faulty_layer(fault)));
+    const char *kind = has_fault(record->parts) ? wolfaren_kind_word(fault->kind) : "";
+    snprintf(record->fault_name, sizeof record->fault_name, "%s%s%s", kind, *kind ? " " : "", wolfaren_layer_word(faulty_layer(fault)));
     wolfaren_fault_text(fault, record->fault, sizeof record->fault);
     set_text(record, FAULT_NAME, record->fault_name);
     set_text(record, FAULT_TEXT, record->fault);
     set_fault_numbers(record, fault);
-    set_code(record, KIND, fault->kind, kind_name(fault->kind));
-    if (fault->header != WOLFAREN_NO_LAYER) set_code(record, HEADER, fault->header, layer_name(fault->header));
-    if (fault->layer != WOLFAREN_NO_LAYER) set_code(record, LAYER, fault->layer, layer_name(fault->layer));
+    set_code(record, KIND, fault->kind, wolfaren_kind_word(fault->kind));
+    if (fault->header != WOLFAREN_NO_LAYER) set_code(record, HEADER, fault->header, wolfaren_layer_word(fault->header));
+    if (fault->layer != WOLFAREN_NO_LAYER) set_code(record, LAYER, fault->layer, wolfaren_layer_word(fault->layer));
 }
 
 /* Sets all values of a packet. */
@@ -190,7 +189,7 @@ static void put_headers(struct writer *writer, const struct parts *parts, bool h
     struct header_walk walk = {0};
     while (visit_header(parts, &walk)) {
         if (walk.visited > 1) put_byte(writer, ' ');
-        if (has_names) put_text(writer, number_name(walk.header.number));
+        if (has_names) put_text(writer, wolfaren_number_word(walk.header.number));
         else put_number(writer, walk.header.number);
     }
 }
@@ -223,10 +222,10 @@ static void put_named_number(struct writer *writer, const char *name, uint8_t nu
 {
     put_name(writer, name, false);
     put_number(writer, number);
-    if (*number_name(number) == '\0') return;
+    if (*wolfaren_number_word(number) == '\0') return;
     put_name(writer, name_of_name, false);
     put_byte(writer, '"');
-    put_text(writer, number_name(number));
+    put_text(writer, wolfaren_number_word(number));
     put_byte(writer, '"');
 }
 

@@ -1,4 +1,4 @@
-/* Names of protocol numbers and of errors. */
+/* Finds the codes of the library's words, and numbers. */
 #ifndef IPCAP_NAMES_H
 #define IPCAP_NAMES_H
 
@@ -6,14 +6,7 @@
 #include <stddef.h>
 #include <stdint.h>
 
-/* Returns the name of a protocol number, or an empty string if it isn't in our list. */
-const char *number_name(uint8_t number);
-
-/* Return the name of a kind of error, such as `too-short`, and of a header or packet, such as `routing`. */
-const char *kind_name(uint8_t kind);
-const char *layer_name(uint8_t layer);
-
-/* Find the kind and the layer whose name has these `len` bytes. Return false if there is none. */
+/* Find the kind and the layer whose word has these `len` bytes. Return false if there is none. */
 bool find_kind(const char *name, size_t len, uint8_t *kind);
 bool find_layer(const char *name, size_t len, uint8_t *layer);
 

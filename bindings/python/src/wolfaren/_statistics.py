@@ -12,7 +12,7 @@ from collections.abc import Callable, Iterable, Iterator, Mapping
 from typing import TYPE_CHECKING, Any, Generic, TypeVar
 
 from ._dissection import End, FaultKind, Layer
-from ._library import Buffer, captures, ffi, lib, path_for_c, raise_kept
+from ._library import Buffer, captures, ffi, lib, name_of, path_for_c, raise_kept
 from ._locks import new_lock
 from ._many import Packets, dtype_of
 from ._optional import import_for
@@ -32,14 +32,8 @@ MOST_HEADERS = 64
 # The version of the JSON: major and minor number.
 _FORMAT = (1, 4)
 
-_KINDS = {FaultKind.TOO_SHORT: "too-short", FaultKind.HOP_BY_HOP_NOT_AT_START: "not-at-start",
-          FaultKind.ZERO_PAYLOAD_LEN: "zero-length", FaultKind.UNSUPPORTED_IP_VERSION: "unsupported-version",
-          FaultKind.IPV4_HEADER_LENGTH: "header-length"}
-_LAYERS = {Layer.IP_HEADER: "IP-header", Layer.IPV4_HEADER: "IPv4-header", Layer.IPV4_PACKET: "IPv4-packet",
-           Layer.AUTHENTICATION_HEADER: "authentication", Layer.IPV6_HEADER: "IPv6-header",
-           Layer.IPV6_PACKET: "IPv6-packet", Layer.IPV6_EXTENSION_HEADER: "IPv6-extension",
-           Layer.HOP_BY_HOP_HEADER: "hop-by-hop", Layer.DESTINATION_OPTIONS_HEADER: "destination-options",
-           Layer.ROUTING_HEADER: "routing", Layer.FRAGMENT_HEADER: "fragment"}
+_KINDS = {it: name_of(lib.wolfaren_find_kind_word, it) for it in FaultKind}
+_LAYERS = {it: name_of(lib.wolfaren_find_layer_word, it) for it in Layer if it}
 _ENDS: dict[int, str] = {End.FAULT: " fault", End.TRUNCATED_HEADER: " truncated"}
 
 _TYPE = ffi.typeof("struct wolfaren_statistics")

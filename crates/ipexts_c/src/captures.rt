@@ -51,10 +51,7 @@ pub extern "C" fn wolfaren_next_record(
 
 /// Calls `display_text` with the error that has these fields.
 #[unsafe(no_mangle)]
-pub extern "C" fn wolfaren_capture_error_text(
-    error: &CaptureErrorFields,
-    text: &mut [u8],
-) -> usize
+pub extern "C" fn wolfaren_capture_error_text(error: &CaptureErrorFields, text: &mut [u8]) -> usize
     ensures most { result ≤ 255 }
     ensures end { result < length text.old → slice_index text.new result ≡ 0 }
     ensures after { drop (result + 1) text.new ≡ drop (result + 1) text.old }

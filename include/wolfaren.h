@@ -6,6 +6,7 @@
  * an authentication header.
  *
  * Which call to choose:
+ *  - For the frames of a capture file: wolfaren_begin_capture once, and then wolfaren_next_record.
  *  - For the IP packet in a frame of a link layer: wolfaren_find_ip.
  *  - For packets as they were captured, which may be truncated or fragments: wolfaren_dissect.
  *  - For a condition on such packets: wolfaren_parse_filter once, and then wolfaren_filter_matches.
@@ -64,10 +65,10 @@
 #define WOLFAREN_VERSION (10000 * WOLFAREN_VERSION_MAJOR + 100 * WOLFAREN_VERSION_MINOR + WOLFAREN_VERSION_PATCH)
 
 /* A checksum of the structs, numbers and calls in this header, made by scripts/abi of the repository. */
-#define WOLFAREN_ABI 0xf6aca4f4u
+#define WOLFAREN_ABI 0xf67c891au
 
 /* The symbol that is named after the checksum. */
-#define WOLFAREN_ABI_SYMBOL wolfaren_abi_f6aca4f4
+#define WOLFAREN_ABI_SYMBOL wolfaren_abi_f67c891a
 
 /* The machines for which the library is built. That of `make rust-c` is for any machine, and its users define WOLFAREN_PLAIN. */
 #ifdef WOLFAREN_PLAIN
@@ -262,6 +263,111 @@ bool wolfaren_next_header(struct wolfaren_cursor *cursor, const uint8_t *bytes, 
  */
 void wolfaren_fault_at(const struct wolfaren_cursor *cursor, const uint8_t *bytes, size_t len,
                        struct wolfaren_fault *fault) WOLFAREN_NONNULL(1, 4);
+
+/* An interface of a section of a pcapng capture, as its description says (draft-ietf-opsawg-pcapng, section 4.2). */
+struct wolfaren_interface {
+    uint16_t link_type;        /* such as 1 for Ethernet */
+    uint32_t snap_len;         /* the length to which packets were truncated, in bytes; 0 if they weren't */
+    uint64_t ticks_per_second; /* of its clock; 0 if 64 bits don't hold the number, so that times aren't known */
+    uint64_t offset;           /* the seconds that are added to each time, in two's complement */
+};
+
+/* What a capture file is like: values of `form` in struct wolfaren_capture. */
+enum {
+    WOLFAREN_PCAPNG = 0,       /* draft-ietf-opsawg-pcapng */
+    WOLFAREN_MICROSECONDS = 1, /* classic (draft-ietf-opsawg-pcap), with times in microseconds */
+    WOLFAREN_NANOSECONDS = 2,  /* classic, with times in nanoseconds */
+    WOLFAREN_MODIFIED = 3      /* classic, of patched versions of libpcap: 8 more bytes in the header of each record */
+};
+
+/*
+ * A reader of a capture file. The caller sets the first two members and `limit`, and may read all of it. A copy of it and of its
+ * interfaces is a reader at the same place. The memory for interfaces may move: set `interfaces` to the new place.
+ */
+struct wolfaren_capture {
+    struct wolfaren_interface *interfaces; /* memory for the interfaces of a section of pcapng; null if `room` is 0 */
+    size_t room;                           /* how many it has memory for: a section that describes more is an error */
+    size_t interface_count;                /* how many the section describes so far */
+    uint64_t offset;                       /* where the next record or block begins, in bytes from the start of the capture */
+    uint32_t limit;     /* the greatest number of captured bytes that a record may state, and the greatest length of a block */
+    uint32_t snap_len;  /* of a classic file: the length to which packets were truncated */
+    uint16_t link_type; /* of a classic file */
+    uint8_t form;       /* WOLFAREN_PCAPNG .. */
+    uint8_t byte_order; /* 0 if the numbers of the file or the section have their least significant byte first, otherwise 1 */
+};
+
+/* What is wrong with a capture: values of `kind` in struct wolfaren_capture_error. `value` and `other` are named where they
+ * aren't 0. */
+enum {
+    WOLFAREN_NO_CAPTURE_ERROR = 0,
+    WOLFAREN_UNKNOWN_MAGIC = 1,         /* the file begins with no magic number of capture files */
+    WOLFAREN_UNKNOWN_VERSION = 2,       /* the major version (value) isn't 2 */
+    WOLFAREN_LONG_RECORD = 3,           /* a record states more captured bytes (value) than the limit (other) */
+    WOLFAREN_UNKNOWN_BYTE_ORDER = 4,    /* a section header has no byte-order magic */
+    WOLFAREN_BLOCK_LENGTH = 5,          /* a block states too few bytes (value), or no multiple of 4 */
+    WOLFAREN_LONG_BLOCK = 6,            /* a block states more bytes (value) than the limit (other) */
+    WOLFAREN_BLOCK_LENGTHS = 7,         /* a block states one length at its start (value) and another one at its end (other) */
+    WOLFAREN_UNKNOWN_SECTION = 8,       /* the major version of a section (value) isn't 1 */
+    WOLFAREN_TOO_MANY_INTERFACES = 9,   /* a section describes more interfaces than there is memory for (value) */
+    WOLFAREN_UNKNOWN_INTERFACE = 10,    /* a packet is of an interface (value) that isn't described */
+    WOLFAREN_LONG_PACKET = 11           /* a packet states more captured bytes (value) than its block has */
+};
+
+/* What is wrong with a capture, and where. */
+struct wolfaren_capture_error {
+    uint64_t offset; /* where the record or block begins, in bytes from the start of the capture */
+    uint64_t value;  /* a number that it states */
+    uint64_t other;  /* another one, or a limit */
+    uint8_t kind;    /* WOLFAREN_NO_CAPTURE_ERROR .. */
+};
+
+/* What comes next in a capture: values of `kind` in struct wolfaren_record. */
+enum {
+    WOLFAREN_NEXT_FRAME = 0, /* a frame; continue `record_len` bytes later */
+    WOLFAREN_NEXT_BLOCK = 1, /* a block of pcapng without a frame; continue `record_len` bytes later */
+    WOLFAREN_NEXT_NEEDS = 2, /* a record or block of which some bytes aren't there yet; continue with `needed` bytes or more */
+    WOLFAREN_NEXT_ENDED = 3, /* no bytes */
+    WOLFAREN_NEXT_ERROR = 4  /* nothing that can be read */
+};
+
+/* What comes next in a capture. Fields that don't apply are 0. */
+struct wolfaren_record {
+    size_t offset;          /* where the captured bytes begin, or the body of another block, in bytes from its start */
+    size_t len;             /* number of these bytes */
+    size_t record_len;      /* length of the record or block in bytes */
+    size_t needed;          /* how many bytes have to be there: those of the header, or else those of the record or block */
+    uint64_t time;          /* the time of capture in nanoseconds since 1970-01-01 00:00 UTC, if `has_time` */
+    struct wolfaren_capture_error error; /* what is wrong, if `kind` is WOLFAREN_NEXT_ERROR */
+    uint32_t original_len;  /* length of the packet in bytes when it was captured: more than `len` if it was truncated */
+    uint32_t interface;     /* the number of the interface in the section; 0 in a classic file */
+    uint32_t block_type;    /* the type of another block */
+    uint16_t link_type;     /* as wolfaren_find_ip takes it */
+    uint8_t has_time;       /* 1 if the time is known: simple packets have none */
+    uint8_t kind;           /* WOLFAREN_NEXT_FRAME .. */
+};
+
+/*
+ * Begins to read the capture file that begins with the `len` bytes; `capture->offset` is where its first record or block begins:
+ * continue with wolfaren_next_record for the bytes from there on. Returns false if the bytes begin no capture, with the reason in
+ * `error`, or WOLFAREN_NO_CAPTURE_ERROR if there are fewer than 24 of them. Nothing else is changed then.
+ */
+WOLFAREN_USE_RESULT
+bool wolfaren_begin_capture(struct wolfaren_capture *capture, const uint8_t *bytes, size_t len,
+                            struct wolfaren_capture_error *error) WOLFAREN_NONNULL(1, 4);
+
+/*
+ * Stores in `record` what comes next in a capture. If that is a frame or another block, moves past it. The `len` bytes are those
+ * from `capture->offset` on: as many as there are, or as the caller has read so far. More bytes change no frame, block or error,
+ * so a caller that gets WOLFAREN_NEXT_NEEDS reads on, and the capture is truncated there if no more bytes come.
+ *
+ * Blocks are checked as far as their fields are used: the lengths of options that are skipped aren't. A record or block that is
+ * longer than the limit is an error, so a buffer of `limit` + 24 bytes is always enough.
+ */
+void wolfaren_next_record(struct wolfaren_capture *capture, const uint8_t *bytes, size_t len, struct wolfaren_record *record)
+    WOLFAREN_NONNULL(1, 4);
+
+/* Formats an error in a capture as text, as wolfaren_fault_text does an error in a packet. The text is empty without an error. */
+size_t wolfaren_capture_error_text(const struct wolfaren_capture_error *error, char *text, size_t room) WOLFAREN_NONNULL(1);
 
 /* What is after the headers of a frame: values of `end` in struct wolfaren_frame. */
 enum {
@@ -1365,6 +1471,10 @@ WOLFAREN_LAYOUT(wolfaren_fault, 32, value, 28);
 WOLFAREN_LAYOUT(wolfaren_header, 24, next_header, 17);
 WOLFAREN_LAYOUT(wolfaren_chain, 56, fragmented, 52);
 WOLFAREN_LAYOUT(wolfaren_cursor, 16, number, 8);
+WOLFAREN_LAYOUT(wolfaren_interface, 24, offset, 16);
+WOLFAREN_LAYOUT(wolfaren_capture, 48, byte_order, 43);
+WOLFAREN_LAYOUT(wolfaren_capture_error, 32, kind, 24);
+WOLFAREN_LAYOUT(wolfaren_record, 88, kind, 87);
 WOLFAREN_LAYOUT(wolfaren_frame, 40, end, 34);
 WOLFAREN_LAYOUT(wolfaren_dissection, 104, end, 102);
 WOLFAREN_LAYOUT(wolfaren_statistics, 8152, faults, 7128);

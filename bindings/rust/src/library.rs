@@ -292,7 +292,7 @@ const _: () = {
 
 /// `WOLFAREN_ABI`: the checksum of the header that this file was written for (`scripts/abi` of the repository).
 #[cfg(all(test, not(miri)))]
-pub(crate) const ABI: u32 = 0xf6ac_a4f4;
+pub(crate) const ABI: u32 = 0xf67c_891a;
 
 unsafe extern "C" {
     fn wolfaren_parse_chain(

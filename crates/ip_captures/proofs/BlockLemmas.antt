@@ -69,7 +69,7 @@ least_len-least kind.SimplePacket = omega arith
 least_len-least kind.EnhancedPacket = omega arith
 least_len-least kind.Other = omega arith
 
-no_length_error : (limit least len : ℕ) → length_error limit least len ≡ None → least ≤ len
+pub no_length_error : (limit least len : ℕ) → length_error limit least len ≡ None → least ≤ len
 no_length_error limit least len e = grind (arith, nat_tests, e)
 
 right_head : (limit : ℕ) (order : ByteOrder) (s : List ℕ) (x : Option ByteOrder)

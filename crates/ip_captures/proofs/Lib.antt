@@ -4,3 +4,4 @@ mod RecordLemmas
 mod OptionLemmas
 mod BlockLemmas
 mod BlockLists
+mod CaptureLemmas

@@ -2,6 +2,8 @@ pub mod Numbers
 pub mod Pieces
 pub mod Frame
 pub mod Next
+pub mod ErrorFields
+pub mod RecordFields
 pub mod ClassicHeader
 pub mod ClassicRecord
 pub mod ClassicNext
@@ -12,5 +14,6 @@ pub mod Block
 pub mod BlockGiven
 pub mod PcapngNext
 pub mod PcapngCapture
+pub mod CaptureFields
 pub mod Capture
 pub mod ClassicWriter

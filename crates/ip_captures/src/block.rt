@@ -97,7 +97,7 @@ impl BlockHead {
 
 /// Returns the order of the bytes of a block: of a section header its own, of others that of the section.
 #[inline]
-fn order_of(order: ByteOrder, bytes: &[u8]) -> Option<ByteOrder>
+pub(crate) fn order_of(order: ByteOrder, bytes: &[u8]) -> Option<ByteOrder>
     requires { 12 ≤ length bytes.now }
     ensures { result ≡ order_of order bytes.now }
 {

@@ -10,7 +10,7 @@ use crate::{CaptureError, ClassicHeader, Frame, Next, Variant};
 impl Variant {
     /// Returns the length of the header of a record, in bytes.
     #[inline(always)]
-    fn record_header_len(self) -> usize
+    pub(crate) fn record_header_len(self) -> usize
         ensures { result ≡ header_len self }
     {
         match self {

@@ -6,6 +6,7 @@ use crate::ByteOrder;
 use crate::options::option_value;
 
 /// What an interface description block says (draft-ietf-opsawg-pcapng, section 4.2).
+#[repr(C)]
 #[derive(Clone, Copy, Debug, Default, PartialEq, Eq)]
 pub struct Interface {
     /// The link type, such as 1 for Ethernet.

@@ -23,19 +23,23 @@
 
 mod block;
 mod block_laws;
+mod block_reader;
 mod byte_order;
 mod capture;
+mod capture_fields;
 mod classic_capture;
 mod classic_frames;
 mod classic_header;
 mod classic_writer;
 mod err;
+mod error_fields;
 mod frame;
 mod interface;
 mod next;
 mod options;
 mod packet_block;
 mod pcapng_capture;
+mod record_fields;
 mod record_laws;
 
 pub use block::BlockKind;
@@ -44,12 +48,15 @@ pub use block_laws::{
 };
 pub use byte_order::ByteOrder;
 pub use capture::Capture;
+pub use capture_fields::CaptureFields;
 pub use classic_capture::ClassicCapture;
 pub use classic_frames::ClassicFrames;
 pub use classic_header::{ClassicHeader, Variant};
 pub use err::{BlockError, CaptureError};
+pub use error_fields::CaptureErrorFields;
 pub use frame::{Block, Frame};
 pub use interface::Interface;
 pub use next::Next;
 pub use pcapng_capture::PcapngCapture;
+pub use record_fields::RecordFields;
 pub use record_laws::{more_bytes_change_no_record, one_longest_list_of_records};

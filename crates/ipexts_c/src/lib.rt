@@ -4,6 +4,7 @@
 #![tactic(auto)]
 
 mod bytes;
+mod captures;
 mod chains;
 mod defragmenter;
 mod faults;

@@ -1,0 +1,43 @@
+use Rattle.std.proofs.Common.{arith, length, sym, subst, ap, ◌∙◌}
+use Rattle.ip_captures.specs.PcapngCapture.{section_at}
+use Rattle.ip_captures.specs.PcapngNext.{IsNextBlock}
+use Rattle.ip_captures.specs.Block.{entered, kind_of, block_type}
+use Rattle.ip_captures.specs.declared.next.Next.{Next}
+use Rattle.ip_captures.proofs.BlockLemmas.{HasHead, read_of, wrong_of}
+use Rattle.ip_captures.proofs.block_reader.BlockReader.next.Goals as goal
+
+pub returns-in-Err-read-clause-next : goal.returns-in-Err-read-clause-next
+returns-in-Err-read-clause-next c =
+    let it = c.args.self.now in
+    let said = c.in-Ok.ensures in
+    let head : HasHead it.limit it.byte_order c.args.bytes.now c.in-Ok.head.order c.in-Ok.head.len =
+    record { right = said.right; ordered = said.order; len = said.fields.1; fits = omega arith } in
+    let wrong = wrong_of it.limit (length c.args.interfaces.now) (section_at it c.args.interfaces.now) it.offset c.args.bytes.now c.in-Ok.head.order c.in-Ok.head.len _ _ head c.split_at.ensures.front c.in-Err-read.ensures.error in
+    subst (λ (x : Next). IsNextBlock it.limit (length c.args.interfaces.now) (section_at it c.args.interfaces.now) it.offset c.args.bytes.now x) (sym c.error-in-Err-read.ensures) wrong
+
+pub returns-clause-next : goal.returns-clause-next
+returns-clause-next c =
+    let it = c.args.self.now in
+    let said = c.in-Ok.ensures in
+    let head : HasHead it.limit it.byte_order c.args.bytes.now c.in-Ok.head.order c.in-Ok.head.len =
+    record { right = said.right; ordered = said.order; len = said.fields.1; fits = omega arith } in
+    (read_of it.limit (length c.args.interfaces.now) (section_at it c.args.interfaces.now) it.offset c.args.bytes.now c.in-Ok.head.order c.in-Ok.head.len _ c.in-Ok-read.next head c.split_at.ensures.front c.in-Ok-read.ensures.right c.in-Ok-read.ensures.given).next
+
+pub returns-clause-section : goal.returns-clause-section
+returns-clause-section c =
+    let it = c.args.self.now in
+    let said = c.in-Ok.ensures in
+    let head : HasHead it.limit it.byte_order c.args.bytes.now c.in-Ok.head.order c.in-Ok.head.len =
+    record { right = said.right; ordered = said.order; len = said.fields.1; fits = omega arith } in
+    let is_read = read_of it.limit (length c.args.interfaces.now) (section_at it c.args.interfaces.now) it.offset c.args.bytes.now c.in-Ok.head.order c.in-Ok.head.len _ c.in-Ok-read.next head c.split_at.ensures.front c.in-Ok-read.ensures.right c.in-Ok-read.ensures.given in
+    c.enter.ensures.section ∙ ap (λ t. entered (section_at it c.args.interfaces.now) c.in-Ok.head.order (kind_of t) c.split_at.result.0.now) said.fields.0
+    ∙ ap (λ b. entered (section_at it c.args.interfaces.now) c.in-Ok.head.order (kind_of (block_type c.in-Ok.head.order c.args.bytes.now)) b) c.split_at.ensures.front ∙ is_read.section
+
+pub returns-clause-offset : goal.returns-clause-offset
+returns-clause-offset c =
+    let it = c.args.self.now in
+    let said = c.in-Ok.ensures in
+    let head : HasHead it.limit it.byte_order c.args.bytes.now c.in-Ok.head.order c.in-Ok.head.len =
+    record { right = said.right; ordered = said.order; len = said.fields.1; fits = omega arith } in
+    let is_read = read_of it.limit (length c.args.interfaces.now) (section_at it c.args.interfaces.now) it.offset c.args.bytes.now c.in-Ok.head.order c.in-Ok.head.len _ c.in-Ok-read.next head c.split_at.ensures.front c.in-Ok-read.ensures.right c.in-Ok-read.ensures.given in
+    c.enter.ensures.offset ∙ is_read.moved

@@ -12,8 +12,8 @@ use Rattle.ip_defrag.proofs.FragmentLemmas.{is_same_self}
 use Rattle.ip_defragmenter.specs.FragmentOf.{FragmentParts, packet_fragment}
 use Rattle.ip_defragmenter.specs.Slots.{is_expired}
 use Rattle.ip_defragmenter.specs.declared.key.FragmentKey.{FragmentKey}
-use Rattle.ip_defrag_laws.specs.Room.{PacketName, IsNamed, AreTimely, IsTime}
-use Rattle.ip_defrag_laws.specs.Run.{Call}
+use Rattle.ip_defrag_laws.specs.Room.{PacketName, IsNamed, IsTime, IsTimely}
+use Rattle.ip_defrag_laws.specs.Run.{Adds, Call, Step}
 
 -- the second piece is another one than the first
 other : (payload : List ℕ) (p q : Fragment) → IsSplit payload (p ∷ q ∷ []) → is_same q p ≡ false
@@ -45,15 +45,13 @@ named context k x r f read own is =
     let same : r ≡ f = cc in
     (0, ap (λ (y : FragmentKey). let o : Option PacketName = Some (record { context = context; key = y }) in o) (sym own ∙ ap (λ (z : FragmentParts). z.key) same))
 
--- No time passed between them.
-one_time : (time t : ℕ) (x y : Call) → x.time ≡ time → y.time ≡ time → IsTime (x ∷ y ∷ []) t → t ≡ time
-one_time time t x y first second (inl e) = sym e ∙ first
-one_time time t x y first second (inr (inl e)) = sym e ∙ second
-one_time time t x y first second (inr (inr e)) = absurd e
-
+-- No time passed since the only packet that arrived.
 never : (timeout time : ℕ) → is_expired timeout time time ≡ false
 never timeout time = grind (arith, common_steps)
 
-pub timely : (timeout time : ℕ) (x y : Call) → x.time ≡ time → y.time ≡ time → AreTimely timeout (x ∷ y ∷ [])
-timely timeout time x y first second = λ a b at bt.
-    ap (λ t. is_expired timeout t b) (one_time time a x y first second at) ∙ (ap (is_expired timeout time) (one_time time b x y first second bt) ∙ never timeout time)
+only_time : (x : Call) (xs : List Step) (since : ℕ) → ((t : ℕ) → IsTime xs t → ⊥) → IsTime (Adds x ∷ xs) since → x.time ≡ since
+only_time x xs since none (inl at) = at
+only_time x xs since none (inr at) = absurd (none since at)
+
+pub timely : (timeout : ℕ) (x : Call) (xs : List Step) → ((t : ℕ) → IsTime xs t → ⊥) → IsTimely timeout x.time (Adds x ∷ xs)
+timely timeout x xs none = λ since at. ap (λ (t : ℕ). is_expired timeout t x.time) (sym (only_time x xs since none at)) ∙ never timeout x.time

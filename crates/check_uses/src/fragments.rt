@@ -19,8 +19,8 @@ ghost use Rattle.ip_defrag_laws.specs.Written.{IsMadeWhole};
 
 use ip_defrag::Progress;
 use ip_defrag_laws::{
-    defragment_in_run, fragments_are_read, fragments_make_the_packet_that_was_sent,
-    packets_are_kept_where_there_is_room,
+    clear_in_run, defragment_in_run, fragments_are_read, fragments_make_the_packet_that_was_sent,
+    give_up_in_run, packets_are_kept_where_there_is_room, tables_stay_valid,
 };
 use ip_defragmenter::{
     Added, Defragmenter, DropReason, IpFragment, Outcome, PacketMemory, Settings, SlotTable,
@@ -121,6 +121,39 @@ pub fn two_fragments(
     fragments_make_the_packet_that_was_sent();
     packets_are_kept_where_there_is_room();
     let _ = defragment_in_run(slots, memories, settings, context, time, first);
+    defragment_in_run(slots, memories, settings, context, time, last)
+}
+
+/// Adds any packet to a new table and clears the table. Then adds the two fragments of an IPv6 packet, which arrived at one
+/// time; in between, it asks whether the time of a slot's packet is over. The packet is whole: its memory has the packet that
+/// was sent.
+pub fn two_fragments_after_others(
+    slots: &mut SlotTable<'_>,
+    memories: &mut [PacketMemory],
+    settings: &Settings,
+    context: u32,
+    time: u64,
+    other: &[u8],
+    first: &[u8],
+    last: &[u8],
+    index: usize,
+) -> Added
+    requires { length slots.old.slots.now ≡ length memories.old }
+    ensures { (s : List ℕ) (n link id : ℕ) (p q : Fragment)
+        → IsFresh settings.now (record { slots = slots.old; memories = memories.old })
+        → IsSentIpv6 s n link → n ≤ 4096 → IsSplit (drop n s) (p ∷ q ∷ [])
+        → IsIpv6Fragment s n link id p first.now → IsIpv6Fragment s n link id q last.now
+        → IsMadeWhole s (record { context = context; time = time; bytes = last.now; piece = Some q; added = result })
+        (record { slots = slots.new; memories = memories.new }) }
+{
+    tables_stay_valid();
+    fragments_are_read();
+    fragments_make_the_packet_that_was_sent();
+    packets_are_kept_where_there_is_room();
+    let _ = defragment_in_run(slots, memories, settings, context, time, other);
+    let _ = clear_in_run(slots);
+    let _ = defragment_in_run(slots, memories, settings, context, time, first);
+    let _ = give_up_in_run(slots, index, settings.timeout, time);
     defragment_in_run(slots, memories, settings, context, time, last)
 }
 

@@ -1,6 +1,7 @@
 pub mod MarkedLemmas
 pub mod ReadKeyLemmas
 pub mod SlotRunLemmas
+pub mod CallLemmas
 pub mod PartLemmas
 pub mod RunLemmas
 pub mod Ipv4Lemmas
@@ -11,4 +12,3 @@ pub mod ArrivedLemmas
 pub mod CompleteLemmas
 pub mod RoomLemmas
 pub mod PendingLemmas
-pub mod CallLemmas

@@ -16,20 +16,20 @@ use Rattle.ip_defragmenter.specs.declared.outcome.Outcome.{Outcome}
 use Rattle.ip_defragmenter.specs.declared.outcome.Outcome.TheVariants.{Whole}
 use Rattle.ip_defragmenter.specs.declared.settings.Settings.{Settings}
 use Rattle.ip_defragmenter.proofs.KeyLemmas.{same_keys}
-use Rattle.ip_defragmenter.proofs.SoundLemmas.{sound_begun}
 use Rattle.ip_defrag_laws.specs.Pending.{IsPending, IsWanting, fragments_in, is_own, with_own}
-use Rattle.ip_defrag_laws.specs.Run.{Call, IsCall, IsCallRun, IsFresh, IsKept, TableState}
+use Rattle.ip_defrag_laws.specs.Run.{Adds, Call, Clears, GivesUp, IsCall, IsCallRun, IsFresh, IsKept, Step, TableState}
+use Rattle.ip_defrag_laws.proofs.CallLemmas.{valid_run}
 use Rattle.ip_defrag_laws.proofs.ReadKeyLemmas.{read_key}
 use Rattle.ip_defrag_laws.proofs.RoomLemmas.{same_self}
-use Rattle.ip_defrag_laws.proofs.SlotRunLemmas.{IsAddedOwn, IsNotLost, Keeps, keeps_none, keeps_other, keeps_own, keeps_unchanged}
+use Rattle.ip_defrag_laws.proofs.SlotRunLemmas.{IsAddedOwn, Keeps, keeps_cleared, keeps_fresh, keeps_given_up, keeps_other, keeps_own, keeps_unchanged}
 
 -- A fragment of the packet is added.
 pub own_added : (settings : Settings) (context : ℕ) (k : FragmentKey) (given : List FragmentParts) (t u : TableState) (x : Call) (f : FragmentParts) → IsKey k → packet_fragment (dissected x.bytes) ≡ Ok (Some f) → f.key ≡ k
-    → own_refusal f ≡ None → x.context ≡ context → IsCall settings t u x → IsKept context k x → Keeps settings.seed context k given t.slots t.memories
+    → own_refusal f ≡ None → x.context ≡ context → IsCall settings t u x → IsKept context k x.added.lost → Keeps settings.seed context k given t.slots t.memories
     → IsAddedOwn settings.seed context k given f u.slots u.memories x.added
 own_added settings context k given t u x f is_k read key sound at call kept keeps =
     let A : ℕ → Type 0 = λ c. IsAdded t.slots t.memories settings c x.time f u.slots u.memories x.added in
-    let B : FragmentKey → Type 0 = λ h. IsNotLost context h x.added.lost in
+    let B : FragmentKey → Type 0 = λ h. IsKept context h x.added.lost in
     let C : FragmentKey → Type 0 = λ h. Keeps settings.seed context h given t.slots t.memories in
     let D : FragmentKey → Type 0 = λ h. IsAddedOwn settings.seed context h given f u.slots u.memories x.added in
     let added : A context = subst A at (call.added f read) in
@@ -45,7 +45,7 @@ not_whole (Ok progress.MoreWanted) i a is wanting = refl
 not_whole (Ok progress.Whole) i a is wanting = absurd (wanting is)
 not_whole (Err e) i a is wanting = refl
 
-module _ (settings : Settings) (context : ℕ) (k : FragmentKey) (is_k : IsKey k) (given : List FragmentParts) (t u : TableState) (x : Call) (call : IsCall settings t u x) (kept : IsKept context k x) (wanting : IsWanting context k x)
+module _ (settings : Settings) (context : ℕ) (k : FragmentKey) (is_k : IsKey k) (given : List FragmentParts) (t u : TableState) (x : Call) (call : IsCall settings t u x) (kept : IsKept context k x.added.lost) (wanting : IsWanting context k x)
     (keeps : Keeps settings.seed context k given t.slots t.memories) where
   abbrev After : List FragmentParts → Type 0
   After fs = Keeps settings.seed context k fs u.slots u.memories
@@ -65,7 +65,7 @@ module _ (settings : Settings) (context : ℕ) (k : FragmentKey) (is_k : IsKey k
       let by : P (Some e) = subst P refused (call.added f read) in
       keeps_unchanged settings.seed context k given t.slots u.slots t.memories u.memories by.1 by.2 keeps
   other None f refused read isnt =
-      keeps_other settings context k is_k t.slots u.slots t.memories u.memories x.context x.time f x.added call.as_many (read_key x.bytes f call.bytes read) (call.added f read) given
+      keeps_other settings t.slots u.slots t.memories u.memories x.context x.time f x.added call.as_many (read_key x.bytes f call.bytes read) (call.added f read) context k is_k given
       (λ at key. false≢true (sym isnt ∙ and_from (eqb x.context context && same_key f.key k) (not (is_some (own_refusal f)))
       (and_from (eqb x.context context) (same_key f.key k) (eq-eqb x.context context at) (ap (λ (h : FragmentKey). same_key h k) key ∙ same_self k)) (ap (λ (o : Option StoreError). not (is_some o)) refused))) kept keeps
 
@@ -77,12 +77,14 @@ module _ (settings : Settings) (context : ℕ) (k : FragmentKey) (is_k : IsKey k
     | inr isnt ↦ subst After (sym (cond-false (is_own context k x f) (f ∷ given) given isnt)) (other (own_refusal f) f refl read isnt)
   ]
 
-pub pending_run : (settings : Settings) (context : ℕ) (k : FragmentKey) (start t : TableState) (xs : List Call) → IsKey k → IsFresh settings start → IsCallRun settings start xs t → IsPending context k xs
+pub pending_run : (settings : Settings) (context : ℕ) (k : FragmentKey) (start t : TableState) (xs : List Step) → IsKey k → IsFresh settings start → IsCallRun settings start xs t → IsPending context k xs
     → Keeps settings.seed context k (fragments_in context k xs) t.slots t.memories
 pending_run settings context k start t [] is_k fresh run pending =
     let P : TableState → Type 0 = λ u. Keeps settings.seed context k [] u.slots u.memories in
-    subst P run (keeps_none settings.seed context k start.slots start.memories fresh.free fresh.slots
-    (sound_begun start.slots start.memories settings.seed fresh.free fresh.slots fresh.memories) fresh.some)
-pending_run settings context k start t (x ∷ xs) is_k fresh run pending =
+    subst P run (keeps_fresh settings context k start fresh)
+pending_run settings context k start t (Adds x ∷ xs) is_k fresh run pending =
     by_read settings context k is_k (fragments_in context k xs) run.0 t x run.2 pending.0 pending.1
     (pending_run settings context k start run.0 xs is_k fresh run.1 pending.2) (packet_fragment (dissected x.bytes)) refl
+pending_run settings context k start t (GivesUp x ∷ xs) is_k fresh run pending =
+    keeps_given_up settings.seed context k (fragments_in context k xs) run.0 t x run.2 pending.0 (pending_run settings context k start run.0 xs is_k fresh run.1 pending.1)
+pending_run settings context k start t (Clears ∷ xs) is_k fresh run pending = keeps_cleared settings.seed context k run.0 t run.2 (valid_run settings start xs run.0 fresh run.1)

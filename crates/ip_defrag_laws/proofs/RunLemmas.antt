@@ -14,11 +14,11 @@ use Rattle.ip_defragmenter.specs.declared.err.FragmentError.{FragmentError}
 use Rattle.ip_defragmenter.specs.declared.key.FragmentKey.{FragmentKey}
 use Rattle.ip_defragmenter.specs.declared.outcome.Outcome.TheVariants.{MoreWanted}
 use Rattle.ip_defragmenter.specs.declared.settings.Settings.{Settings}
-use Rattle.ip_defragmenter.proofs.SoundLemmas.{sound_begun}
-use Rattle.ip_defrag_laws.specs.Run.{TableState, Call, IsCall, IsCallRun, IsFresh, IsKept, AreKept, IsOther, IsCallBy, AreCalls, pieces_in, with_piece}
+use Rattle.ip_defrag_laws.specs.Run.{TableState, Call, Step, Adds, GivesUp, Clears, IsCall, IsCallRun, IsFresh, IsKept, AreKept, IsOther, IsCallBy, AreCalls, pieces_in, with_piece}
 use Rattle.ip_defrag_laws.specs.Written.{IsMadeWhole}
 use Rattle.ip_defrag_laws.proofs.PartLemmas.{IsPart, AreParts, part_outcome, part_packet}
-use Rattle.ip_defrag_laws.proofs.SlotRunLemmas.{IsNotLost, Keeps, IsAddedOwn, keeps_none, keeps_other, keeps_own, keeps_unchanged}
+use Rattle.ip_defrag_laws.proofs.CallLemmas.{valid_run}
+use Rattle.ip_defrag_laws.proofs.SlotRunLemmas.{Keeps, IsAddedOwn, keeps_cleared, keeps_fresh, keeps_given_up, keeps_other, keeps_own, keeps_unchanged}
 use Rattle.ip_defrag_laws.proofs.ReadKeyLemmas.{read_key}
 
 -- With one more piece, those that were there are still there.
@@ -48,7 +48,7 @@ record IsAfter (seed : List ℕ) (context : ℕ) (k : FragmentKey) (point : ℕ)
 
 -- A call with another packet.
 other_call : (o : Result (Option FragmentParts) FragmentError) (settings : Settings) (context : ℕ) (k : FragmentKey) (given : List FragmentParts) (t u : TableState) (x : Call) → IsKey k → packet_fragment (dissected x.bytes) ≡ o
-    → IsCall settings t u x → IsOther context k x → IsKept context k x → Keeps settings.seed context k given t.slots t.memories → Keeps settings.seed context k given u.slots u.memories
+    → IsCall settings t u x → IsOther context k x → IsKept context k x.added.lost → Keeps settings.seed context k given t.slots t.memories → Keeps settings.seed context k given u.slots u.memories
 other_call (Err e) settings context k given t u x is_k read call other kept keeps =
     let same = call.unusable e read in
     keeps_unchanged settings.seed context k given t.slots u.slots t.memories u.memories same.1 same.2 keeps
@@ -56,17 +56,17 @@ other_call (Ok None) settings context k given t u x is_k read call other kept ke
     let same = call.not_fragment read in
     keeps_unchanged settings.seed context k given t.slots u.slots t.memories u.memories same.1 same.2 keeps
 other_call (Ok (Some f)) settings context k given t u x is_k read call other kept keeps =
-    keeps_other settings context k is_k t.slots u.slots t.memories u.memories x.context x.time f x.added call.as_many (read_key x.bytes f call.bytes read) (call.added f read) given
+    keeps_other settings t.slots u.slots t.memories u.memories x.context x.time f x.added call.as_many (read_key x.bytes f call.bytes read) (call.added f read) context k is_k given
     (λ at is. other f read at is) kept keeps
 
 -- A call with a fragment of the packet.
 own_call : (settings : Settings) (context : ℕ) (k : FragmentKey) (point : ℕ) (payload s : List ℕ) (p : Fragment) (given : List FragmentParts) (t u : TableState) (x : Call) → IsKey k → (r : IsReadAs k point payload s p x.bytes)
-    → x.context ≡ context → IsCall settings t u x → IsKept context k x → Keeps settings.seed context k given t.slots t.memories
+    → x.context ≡ context → IsCall settings t u x → IsKept context k x.added.lost → Keeps settings.seed context k given t.slots t.memories
     → IsAddedOwn settings.seed context k given r.parts u.slots u.memories x.added
 own_call settings context k point payload s p given t u x is_k r at call kept keeps =
     let f : FragmentParts = r.parts in
     let A : ℕ → Type 0 = λ c. IsAdded t.slots t.memories settings c x.time f u.slots u.memories x.added in
-    let B : FragmentKey → Type 0 = λ h. IsNotLost context h x.added.lost in
+    let B : FragmentKey → Type 0 = λ h. IsKept context h x.added.lost in
     let C : FragmentKey → Type 0 = λ h. Keeps settings.seed context h given t.slots t.memories in
     let D : FragmentKey → Type 0 = λ h. IsAddedOwn settings.seed context h given f u.slots u.memories x.added in
     let added : A context = subst A at (call.added f r.read) in
@@ -82,7 +82,7 @@ own_result settings context k point payload s pieces p ps given t u x r own spli
     own.result_is ∙ part_outcome point payload s pieces p ps r.parts given split fits all (r.part, parts)
 
 module _ (settings : Settings) (context : ℕ) (k : FragmentKey) (is_k : IsKey k) (point : ℕ) (payload s : List ℕ) (pieces : List Fragment) (split : IsSplit payload pieces) (fits : length payload ≤ 65535) where
-  after_call : (o : Option Fragment) (ps : List Fragment) (t u : TableState) (x : Call) → IsCallBy (IsReadAs k point payload s) pieces context k o x → IsKept context k x → IsCall settings t u x
+  after_call : (o : Option Fragment) (ps : List Fragment) (t u : TableState) (x : Call) → IsCallBy (IsReadAs k point payload s) pieces context k o x → IsKept context k x.added.lost → IsCall settings t u x
       → IsAfter settings.seed context k point payload s pieces ps t → are_among pieces (with_piece o ps) ≡ false → IsAfter settings.seed context k point payload s pieces (with_piece o ps) u
   after_call None ps t u x by kept call after fails = record {
     given = after.given;
@@ -103,23 +103,24 @@ module _ (settings : Settings) (context : ℕ) (k : FragmentKey) (is_k : IsKey k
       }
 
   -- After any calls.
-  after_run : (start : TableState) (xs : List Call) (t : TableState) → IsFresh settings start → IsCallRun settings start xs t → AreCalls (IsReadAs k point payload s) pieces context k xs → AreKept context k xs
-      → are_among pieces (pieces_in xs) ≡ false → IsAfter settings.seed context k point payload s pieces (pieces_in xs) t
-  after_run start [] t cleared run calls kept fails =
-      let P : TableState → Type 0 = λ u. IsAfter settings.seed context k point payload s pieces [] u in
-      subst P run (record {
-        given = [];
-        parts = tt;
-        among = refl;
-        keeps = keeps_none settings.seed context k start.slots start.memories cleared.free cleared.slots
-            (sound_begun start.slots start.memories settings.seed cleared.free cleared.slots cleared.memories) cleared.some;
-      })
-  after_run start (x ∷ xs) t cleared run calls kept fails =
+  abbrev After : List Fragment → TableState → Type 0
+  After ps t = IsAfter settings.seed context k point payload s pieces ps t
+
+  after_run : (start : TableState) (xs : List Step) (t : TableState) → IsFresh settings start → IsCallRun settings start xs t → AreCalls (IsReadAs k point payload s) pieces context k xs → AreKept context k xs
+      → are_among pieces (pieces_in xs) ≡ false → After (pieces_in xs) t
+  after_run start [] t fresh run calls kept fails = subst (After []) run (record { given = []; parts = tt; among = refl; keeps = keeps_fresh settings context k start fresh })
+  after_run start (Adds x ∷ xs) t fresh run calls kept fails =
       let u : TableState = run.0 in
       after_call x.piece (pieces_in xs) u t x calls.0 kept.0 run.2
-      (after_run start xs u cleared run.1 calls.1 kept.1 (fewer_among pieces x.piece (pieces_in xs) fails)) fails
+      (after_run start xs u fresh run.1 calls.1 kept.1 (fewer_among pieces x.piece (pieces_in xs) fails)) fails
+  after_run start (GivesUp x ∷ xs) t fresh run calls kept fails =
+      let u : TableState = run.0 in
+      let before = after_run start xs u fresh run.1 calls kept.1 fails in
+      record { given = before.given; parts = before.parts; among = before.among; keeps = keeps_given_up settings.seed context k before.given u t x run.2 kept.0 before.keeps }
+  after_run start (Clears ∷ xs) t fresh run calls kept fails =
+      record { given = []; parts = tt; among = refl; keeps = keeps_cleared settings.seed context k run.0 t run.2 (valid_run settings start xs run.0 fresh run.1) }
 
-  whole_by : (o : Option Fragment) (ps : List Fragment) (t u : TableState) (x : Call) → IsCallBy (IsReadAs k point payload s) pieces context k o x → IsKept context k x → IsCall settings t u x
+  whole_by : (o : Option Fragment) (ps : List Fragment) (t u : TableState) (x : Call) → IsCallBy (IsReadAs k point payload s) pieces context k o x → IsKept context k x.added.lost → IsCall settings t u x
       → IsAfter settings.seed context k point payload s pieces ps t → are_among pieces ps ≡ false → are_among pieces (with_piece o ps) ≡ true → IsMadeWhole s x u
   whole_by None ps t u x by kept call after fails every = absurd (false≢true (sym fails ∙ every))
   whole_by (Some p) ps t u x by kept call after fails every =
@@ -136,13 +137,13 @@ module _ (settings : Settings) (context : ℕ) (k : FragmentKey) (is_k : IsKey k
       }
 
   -- The packet is whole once each piece arrived.
-  pub made_whole : (start : TableState) (x : Call) (xs : List Call) (t : TableState) → IsFresh settings start → IsCallRun settings start (x ∷ xs) t → AreCalls (IsReadAs k point payload s) pieces context k (x ∷ xs) → AreKept context k (x ∷ xs)
-      → are_among pieces (pieces_in xs) ≡ false → are_among pieces (pieces_in (x ∷ xs)) ≡ true → IsMadeWhole s x t
+  pub made_whole : (start : TableState) (x : Call) (xs : List Step) (t : TableState) → IsFresh settings start → IsCallRun settings start (Adds x ∷ xs) t → AreCalls (IsReadAs k point payload s) pieces context k (Adds x ∷ xs)
+      → AreKept context k (Adds x ∷ xs) → are_among pieces (pieces_in xs) ≡ false → are_among pieces (pieces_in (Adds x ∷ xs)) ≡ true → IsMadeWhole s x t
   made_whole start x xs t cleared run calls kept fails every =
       let u : TableState = run.0 in
       whole_by x.piece (pieces_in xs) u t x calls.0 kept.0 run.2 (after_run start xs u cleared run.1 calls.1 kept.1 fails) fails every
 
-  wanted_by : (p : Fragment) (ps : List Fragment) (t u : TableState) (x : Call) → IsCallBy (IsReadAs k point payload s) pieces context k (Some p) x → IsKept context k x → IsCall settings t u x
+  wanted_by : (p : Fragment) (ps : List Fragment) (t u : TableState) (x : Call) → IsCallBy (IsReadAs k point payload s) pieces context k (Some p) x → IsKept context k x.added.lost → IsCall settings t u x
       → IsAfter settings.seed context k point payload s pieces ps t → are_among pieces (p ∷ ps) ≡ false → x.added.outcome ≡ MoreWanted
   wanted_by p ps t u x by kept call after fails =
       let r = by.2 in
@@ -151,14 +152,14 @@ module _ (settings : Settings) (context : ℕ) (k : FragmentKey) (is_k : IsKey k
       let result = own_result settings context k point payload s pieces p ps after.given t u x r own split fits all after.parts in
       own.outcome ∙ (ap (outcome_in own.index) result ∙ ap (λ (b : Bool). outcome_in own.index (Ok (cond b progress.Whole progress.MoreWanted))) fails)
 
-  wanted_of : (o : Option Fragment) (p : Fragment) (ps : List Fragment) (t u : TableState) (x : Call) → o ≡ Some p → IsCallBy (IsReadAs k point payload s) pieces context k o x → IsKept context k x → IsCall settings t u x
+  wanted_of : (o : Option Fragment) (p : Fragment) (ps : List Fragment) (t u : TableState) (x : Call) → o ≡ Some p → IsCallBy (IsReadAs k point payload s) pieces context k o x → IsKept context k x.added.lost → IsCall settings t u x
       → IsAfter settings.seed context k point payload s pieces ps t → are_among pieces (with_piece o ps) ≡ false → x.added.outcome ≡ MoreWanted
   wanted_of None p ps t u x has by kept call after fails = absurd (none-some _ has)
   wanted_of (Some q) p ps t u x has by kept call after fails = wanted_by q ps t u x by kept call after fails
 
   -- Before that, a fragment's outcome is that more are wanted.
-  pub still_wanted : (start : TableState) (x : Call) (xs : List Call) (t : TableState) (p : Fragment) → IsFresh settings start → IsCallRun settings start (x ∷ xs) t → AreCalls (IsReadAs k point payload s) pieces context k (x ∷ xs) → AreKept context k (x ∷ xs)
-      → x.piece ≡ Some p → are_among pieces (pieces_in (x ∷ xs)) ≡ false → x.added.outcome ≡ MoreWanted
+  pub still_wanted : (start : TableState) (x : Call) (xs : List Step) (t : TableState) (p : Fragment) → IsFresh settings start → IsCallRun settings start (Adds x ∷ xs) t
+      → AreCalls (IsReadAs k point payload s) pieces context k (Adds x ∷ xs) → AreKept context k (Adds x ∷ xs) → x.piece ≡ Some p → are_among pieces (pieces_in (Adds x ∷ xs)) ≡ false → x.added.outcome ≡ MoreWanted
   still_wanted start x xs t p fresh run calls kept has fails =
       let u : TableState = run.0 in
       wanted_of x.piece p (pieces_in xs) u t x has calls.0 kept.0 run.2

@@ -10,17 +10,19 @@ use Rattle.ip_defragmenter.specs.declared.key.FragmentKey.{FragmentKey}
 use Rattle.ip_defragmenter.specs.declared.memory.PacketMemory.{PacketMemory}
 use Rattle.ip_defragmenter.specs.declared.outcome.Outcome.TheVariants.{Whole}
 use Rattle.ip_defragmenter.specs.declared.slot.Slot.{Slot}
-use Rattle.ip_defrag_laws.specs.Run.{Call, IsKept}
+use Rattle.ip_defrag_laws.specs.Run.{Call, IsKept, Step, Adds, GivesUp, Clears}
 
 -- The call didn't make the packet with this key in this context whole.
 abbrev pub IsWanting : ℕ → FragmentKey → Call → Type 0
 IsWanting context k x =
     (f : FragmentParts) (i : ℕ) → packet_fragment (dissected x.bytes) ≡ Ok (Some f) → x.context ≡ context → f.key ≡ k → x.added.outcome ≡ Whole i → ⊥
 
--- No call made the packet whole, or reported that it was given up.
-abbrev pub IsPending : ℕ → FragmentKey → List Call → Type 0
+-- No call since the table was last cleared made the packet whole, or reported that it was given up.
+abbrev pub IsPending : ℕ → FragmentKey → List Step → Type 0
 IsPending context k [] = Unit {0}
-IsPending context k (x ∷ xs) = IsKept context k x × IsWanting context k x × IsPending context k xs
+IsPending context k (Adds x ∷ xs) = IsKept context k x.added.lost × IsWanting context k x × IsPending context k xs
+IsPending context k (GivesUp x ∷ xs) = IsKept context k x.lost × IsPending context k xs
+IsPending context k (Clears ∷ xs) = Unit {0}
 
 -- The fragment is of the packet, and isn't refused by itself.
 abbrev pub is_own : ℕ → FragmentKey → Call → FragmentParts → Bool
@@ -32,10 +34,12 @@ with_own context k x (Err e) fs = fs
 with_own context k x (Ok None) fs = fs
 with_own context k x (Ok (Some f)) fs = if is_own context k x f then f ∷ fs else fs
 
--- the packet's fragments in these calls, the newest first
-abbrev pub fragments_in : ℕ → FragmentKey → List Call → List FragmentParts
+-- the packet's fragments that arrived since then, the newest first
+abbrev pub fragments_in : ℕ → FragmentKey → List Step → List FragmentParts
 fragments_in context k [] = []
-fragments_in context k (x ∷ xs) = with_own context k x (packet_fragment (dissected x.bytes)) (fragments_in context k xs)
+fragments_in context k (Adds x ∷ xs) = with_own context k x (packet_fragment (dissected x.bytes)) (fragments_in context k xs)
+fragments_in context k (GivesUp x ∷ xs) = fragments_in context k xs
+fragments_in context k (Clears ∷ xs) = []
 
 -- A slot has the packet, and its memory these fragments and no others.
 pub record IsInSlot (context : ℕ) (k : FragmentKey) (given : List FragmentParts) (slots : List Slot) (memories : List PacketMemory) : Type 0 where

@@ -4,7 +4,7 @@ use Rattle.ip_dissect.specs.Dissection.{dissected}
 use Rattle.ip_defragmenter.specs.FragmentOf.{FragmentParts, packet_fragment}
 use Rattle.ip_defragmenter.specs.Slots.{is_expired}
 use Rattle.ip_defragmenter.specs.declared.key.FragmentKey.{FragmentKey}
-use Rattle.ip_defrag_laws.specs.Run.{Call}
+use Rattle.ip_defrag_laws.specs.Run.{Step, Adds, GivesUp, Clears}
 
 -- a packet that is sent in fragments, by its context and key
 pub record PacketName : Type 0 where
@@ -15,21 +15,34 @@ pub record PacketName : Type 0 where
 abbrev pub IsNamed : List PacketName → ℕ → FragmentKey → Type 0
 IsNamed names context k = (i : ℕ) × (slice_get names i ≡ Some (record { context = context; key = k }))
 
--- Each fragment in these calls is of one of the packets.
-abbrev pub AreNamed : List PacketName → List Call → Type 0
+-- Each fragment that arrived since the table was last cleared is of one of the packets.
+abbrev pub AreNamed : List PacketName → List Step → Type 0
 AreNamed names [] = Unit {0}
-AreNamed names (x ∷ xs) = ((f : FragmentParts) → packet_fragment (dissected x.bytes) ≡ Ok (Some f) → IsNamed names x.context f.key) × AreNamed names xs
+AreNamed names (Adds x ∷ xs) = ((f : FragmentParts) → packet_fragment (dissected x.bytes) ≡ Ok (Some f) → IsNamed names x.context f.key) × AreNamed names xs
+AreNamed names (GivesUp x ∷ xs) = AreNamed names xs
+AreNamed names (Clears ∷ xs) = Unit {0}
 
--- A packet arrived at this time.
-abbrev pub IsTime : List Call → ℕ → Type 0
+-- A packet arrived at this time since then.
+abbrev pub IsTime : List Step → ℕ → Type 0
 IsTime [] time = ⊥
-IsTime (x ∷ xs) time = (x.time ≡ time) ⊎ IsTime xs time
+IsTime (Adds x ∷ xs) time = (x.time ≡ time) ⊎ IsTime xs time
+IsTime (GivesUp x ∷ xs) time = IsTime xs time
+IsTime (Clears ∷ xs) time = ⊥
 
--- No two packets arrived further apart than the timeout.
-abbrev pub AreTimely : ℕ → List Call → Type 0
-AreTimely timeout xs = (a b : ℕ) → IsTime xs a → IsTime xs b → is_expired timeout a b ≡ false
+-- No packet that arrived in these calls is given up with this timeout at this time.
+abbrev pub IsTimely : ℕ → ℕ → List Step → Type 0
+IsTimely timeout time xs = (since : ℕ) → IsTime xs since → is_expired timeout since time ≡ false
 
--- No call reported that a packet was given up.
-abbrev pub NothingLost : List Call → Type 0
+-- Each call since then came within the timeout after all packets that had arrived; the timeout of `give_up` is its own.
+abbrev pub AreTimely : ℕ → List Step → Type 0
+AreTimely timeout [] = Unit {0}
+AreTimely timeout (Adds x ∷ xs) = IsTimely timeout x.time xs × AreTimely timeout xs
+AreTimely timeout (GivesUp x ∷ xs) = IsTimely x.timeout x.time xs × AreTimely timeout xs
+AreTimely timeout (Clears ∷ xs) = Unit {0}
+
+-- No call since then reported that a packet was given up.
+abbrev pub NothingLost : List Step → Type 0
 NothingLost [] = Unit {0}
-NothingLost (x ∷ xs) = (x.added.lost ≡ None) × NothingLost xs
+NothingLost (Adds x ∷ xs) = (x.added.lost ≡ None) × NothingLost xs
+NothingLost (GivesUp x ∷ xs) = (x.lost ≡ None) × NothingLost xs
+NothingLost (Clears ∷ xs) = Unit {0}

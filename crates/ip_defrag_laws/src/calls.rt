@@ -1,15 +1,17 @@
 //! The calls of which the laws speak.
-ghost use Rattle.std.specs.Prelude.{◌≡◌, ◌≤◌, ◌+◌, ◌++◌, ℕ, List, Option, length, drop, Ok, None, Some, OnOk, OnErr};
+ghost use Rattle.std.specs.Prelude.{◌≡◌, ◌≤◌, ◌+◌, ◌++◌, ◌↔◌, ℕ, List, Option, length, drop, true, false, Ok, None, Some, IsTrue, OnOk, OnErr};
 ghost use Rattle.std.specs.Result.{result_err};
 ghost use Rattle.ip_defrag.specs.Fragment.{Fragment};
 ghost use Rattle.ip_defrag.specs.Received.{payload_in};
 ghost use Rattle.ip_defragmenter.specs.Ecn.{is_congested, marked};
 ghost use Rattle.ip_defragmenter.specs.Memory.{HoldsStored};
+ghost use Rattle.ip_defragmenter.specs.Slots.{HasRoomForSlots, IsUnchanged};
 ghost use Rattle.ip_defragmenter.specs.Whole.{whole_fault, whole_packet};
-ghost use Rattle.ip_defrag_laws.specs.Run.{IsCall};
+ghost use Rattle.ip_defragmenter.specs.declared.memory.PacketMemory.{PacketMemory as Memory};
+ghost use Rattle.ip_defrag_laws.specs.Run.{IsCall, IsCleared, IsGivenUp};
 ghost use Rattle.ip_defrag_laws.specs.Written.{HasPacket};
 
-use ip_defragmenter::{Added, PacketMemory, Settings, SlotTable, WholeError, defragment};
+use ip_defragmenter::{Added, Loss, PacketMemory, Settings, SlotTable, WholeError, defragment};
 
 /// Adds a packet as `defragment` does: one call of a run, whichever piece of a payload the packet has.
 pub fn defragment_in_run(
@@ -28,6 +30,34 @@ pub fn defragment_in_run(
     ensures as_many { length slots.new.slots.now ≡ length memories.new }
 {
     defragment(slots, memories, settings, context, time, bytes)
+}
+
+/// Gives up the packet of the slot with this index if it isn't whole more than `timeout` nanoseconds after its first fragment,
+/// as `SlotTable::give_up` does: one call of a run.
+pub fn give_up_in_run(
+    slots: &mut SlotTable<'_>,
+    index: usize,
+    timeout: u64,
+    time: u64,
+) -> Option<Loss>
+    ensures call { (memories : List Memory) → IsGivenUp
+        (record { slots = slots.old; memories = memories }) (record { slots = slots.new; memories = memories })
+        (record { index = index; timeout = timeout; time = time; lost = result }) }
+    ensures as_many { length slots.new.slots.now ≡ length slots.old.slots.now }
+{
+    slots.give_up(index, timeout, time)
+}
+
+/// Frees all slots, as `SlotTable::clear` does: one call of a run, if it returns true. After other calls of a run it does
+/// (`tables_stay_valid`).
+pub fn clear_in_run(slots: &mut SlotTable<'_>) -> bool
+    ensures room { IsTrue result ↔ HasRoomForSlots slots.old }
+    ensures call { result ≡ true → (memories : List Memory) → IsCleared
+        (record { slots = slots.old; memories = memories }) (record { slots = slots.new; memories = memories }) }
+    ensures as_many { length slots.new.slots.now ≡ length slots.old.slots.now }
+    ensures refused { result ≡ false → IsUnchanged slots.old slots.new }
+{
+    slots.clear()
 }
 
 /// Writes the whole packet of a memory to the start of `out`, as `PacketMemory::write` does. If the memory has the packet that

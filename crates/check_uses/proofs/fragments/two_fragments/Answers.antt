@@ -4,7 +4,7 @@ use Rattle.ip_defrag.specs.Fragment.{Fragment}
 use Rattle.ip_defragmenter.specs.declared.key.FragmentKey.{FragmentKey}
 use Rattle.ip_defrag_laws.specs.Ipv6.{ipv6_key}
 use Rattle.ip_defrag_laws.specs.Room.{PacketName}
-use Rattle.ip_defrag_laws.specs.Run.{Call, TableState, IsCallRun}
+use Rattle.ip_defrag_laws.specs.Run.{Adds, Call, IsCallRun, Step, TableState}
 use Rattle.check_uses.proofs.TwoFragmentLemmas.{one_missing, both_there, first_among, second_among, named, timely}
 use Rattle.check_uses.proofs.fragments.two_fragments.Goals as goal
 
@@ -19,13 +19,14 @@ returns c = λ s n link id p q fresh sent few split one two.
     let end : TableState = record { slots = c.defragment_in_run-2.new.slots; memories = c.defragment_in_run-2.new.memories } in
     let first : Call = record { context = context; time = c.args.time; bytes = c.args.first.now; piece = Some p; added = c.defragment_in_run.result } in
     let last : Call = record { context = context; time = c.args.time; bytes = c.args.last.now; piece = Some q; added = c.defragment_in_run-2.result } in
-    let run : IsCallRun c.args.settings.now start (last ∷ first ∷ []) end = (middle, (start, refl, c.defragment_in_run.ensures.call (Some p)), c.defragment_in_run-2.ensures.call (Some q)) in
+    let calls : List Step = Adds first ∷ [] in
+    let run : IsCallRun c.args.settings.now start (Adds last ∷ calls) end = (middle, (start, refl, c.defragment_in_run.ensures.call (Some p)), c.defragment_in_run-2.ensures.call (Some q)) in
     let read_first = c.fragments_are_read.ensures.ipv6 s n link id pieces p c.args.first.now sent few split (first_among p q) one in
     let read_last = c.fragments_are_read.ensures.ipv6 s n link id pieces q c.args.last.now sent few split (second_among p q) two in
     let room : length names ≤ length start.slots.slots.now = omega (arith, fresh.some) in
     let law = c.packets_are_kept_where_there_is_room.ensures in
-    let nothing = law.nothing names c.args.settings.now start end (last ∷ first ∷ []) fresh room run
+    let nothing = law.nothing names c.args.settings.now start end (Adds last ∷ calls) fresh room run
     (λ f is. named context key c.args.last.now read_last.0 f read_last.1 read_last.2 is, (λ f is. named context key c.args.first.now read_first.0 f read_first.1 read_first.2 is, tt))
-    (timely c.args.settings.now.timeout c.args.time last first refl refl) in
-    c.fragments_make_the_packet_that_was_sent.ensures.ipv6 s n link id pieces c.args.settings.now context start end last (first ∷ []) sent few split fresh run
-    ((refl, second_among p q, two), ((refl, first_among p q, one), tt)) (law.kept context key (last ∷ first ∷ []) nothing) (one_missing (drop n s) p q split) (both_there p q)
+    (timely c.args.settings.now.timeout first [] (λ t e. e), ((λ since e. absurd e), tt)) in
+    c.fragments_make_the_packet_that_was_sent.ensures.ipv6 s n link id pieces c.args.settings.now context start end last calls sent few split fresh run
+    ((refl, second_among p q, two), ((refl, first_among p q, one), tt)) (law.kept context key (Adds last ∷ calls) nothing) (one_missing (drop n s) p q split) (both_there p q)

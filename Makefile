@@ -231,8 +231,7 @@ deb: programs
 test-c: programs
 	$(PYTHON_IS_THERE)
 	$(CARGO_IS_THERE)
-	scripts/test-c
-	scripts/test-statistics
+	tests/run c/test_library.py c/test_statistics.py
 	tests/ipcap/run build build
 	scripts/test-python
 	cd bindings/rust && WOLFAREN_LIB_DIR=$(CURDIR)/build cargo test --quiet $$CARGO_FLAGS

@@ -1,22 +1,11 @@
-#!/usr/bin/env python3
-"""Compares the C library's statistics with a plain counter in Python that shares no code with them.
-
-Makes packets of chains with wrong lengths, truncated bytes and flipped bits, always the same ones, and counts each twice:
-with tests/c/statistics.c, which spreads them over three statistics and merges these, and with the counter of this file,
-which follows RFC 791, RFC 4302 and RFC 8200. With arguments, counts the packets of these captures instead: classic pcap
-files of Ethernet or raw IP. The library in build/ comes from `make lib`.
+"""A plain counter of packets, which shares no code with the library: it follows RFC 791, RFC 4302 and RFC 8200. Also made packets of
+chains with wrong lengths, truncated bytes and flipped bits, always the same ones, and those of captures.
 """
 
 import collections
-import os
 import random
 import struct
-import subprocess
-import sys
-import tempfile
 
-ROOT = os.path.dirname(os.path.dirname(os.path.abspath(__file__)))
-LIBRARY = f"{ROOT}/build/libwolfaren.a"
 # the fields of struct wolfaren_statistics after its version and size, with their numbers of elements
 FIELDS = {
     "other_frames": 1, "truncated_frames": 1, "packets": 1, "without_header": 1, "ipv4": 1, "ipv6": 1, "at_payload": 1,
@@ -204,7 +193,7 @@ def captured_lines(path):
         capture = it.read()
     order = {b"\xd4\xc3\xb2\xa1": "<", b"\xa1\xb2\xc3\xd4": ">", b"\x4d\x3c\xb2\xa1": "<", b"\xa1\xb2\x3c\x4d": ">"}.get(capture[:4])
     if not order or (link := struct.unpack_from(order + "I", capture, 20)[0]) not in (1, 101):
-        sys.exit(f"test-statistics: {path} isn't a classic pcap file of Ethernet or raw IP")
+        raise ValueError(f"{path} isn't a classic pcap file of Ethernet or raw IP")
     lines, at = [], 24
     while at + 16 <= len(capture):
         present, size = struct.unpack_from(order + "II", capture, at + 8)
@@ -225,33 +214,3 @@ def plain_counts(lines):
         else:
             counts["other_frames" if kind == "o" else "truncated_frames", 0] += 1
     return [counts[name, i] for name, count in FIELDS.items() for i in range(count)]
-
-
-def library_counts(room, lines):
-    program = f"{room}/statistics"
-    words = ["gcc", "-std=c11", "-O1", "-Wall", "-Wextra", "-Werror", f"-I{ROOT}/include", f"{ROOT}/tests/c/statistics.c", LIBRARY]
-    subprocess.run([*words, "-o", program], check=True)
-    text = "".join(f"{kind}{packet.hex()}\n" for kind, packet in lines)
-    ran = subprocess.run([program, "count"], input=text, capture_output=True, text=True, check=True)
-    return [int(it) for it in ran.stdout.split()]
-
-
-def main():
-    if not os.path.isfile(LIBRARY):
-        sys.exit("test-statistics: build/libwolfaren.a is missing: run `make lib`.")
-    sources = {path: captured_lines(path) for path in sys.argv[1:]} or {"made": made_lines()}
-    names = [f"{name}[{i}]" for name, count in FIELDS.items() for i in range(count)]
-    packets = 0
-    with tempfile.TemporaryDirectory(prefix="test-statistics-") as room:
-        for source, lines in sources.items():
-            wanted, found = plain_counts(lines), library_counts(room, lines)
-            wrong = [f"{name}: {one}, expected {other}" for name, one, other in zip(names, found, wanted) if one != other]
-            if wrong or len(found) != len(wanted):
-                sys.exit(f"test-statistics: {source}: {len(found)} counts, wrong are {wrong[:9]}")
-            packets += len(lines)
-    used = sum(1 for it in wanted if it)
-    print(f"test-statistics: passed: {packets} frames counted alike, with {used} counts above 0 in the last")
-
-
-if __name__ == "__main__":
-    main()

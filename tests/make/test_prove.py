@@ -1,4 +1,3 @@
-#!/usr/bin/env python3
 """Tests that scripts/prove skips a crate only if nothing has changed since its last proof, and skips it after a build for ARM64.
 
 It runs in a made repository of three crates, with a made `rt` that notes each crate that it is asked to prove. There it also
@@ -8,10 +7,11 @@ tests that `make fuzz` runs both of its parts if the tools of one are missing.
 import os
 import shutil
 import subprocess
-import sys
-import tempfile
 
-ROOT = os.path.dirname(os.path.dirname(os.path.abspath(__file__)))
+import pytest
+
+from tools import ROOT, read, write
+
 TOP = "ipexts_c"  # of which the Makefile builds the library
 ALL = ["low", "middle", TOP]
 RT = """#!/bin/sh
@@ -33,16 +33,10 @@ shared:
 """
 
 
-def write(path, content, mode=0o644):
-    """Writes a file, and the folders that it is in."""
-    os.makedirs(os.path.dirname(path), exist_ok=True)
-    with open(path, "w", encoding="utf-8") as it:
-        it.write(content)
-    os.chmod(path, mode)
-
-
-def make(room):
-    """Makes a repository of crates, each of which uses those below it."""
+@pytest.fixture
+def room(tmp_path):
+    """Makes a repository of crates, each of which uses those below it, and proves them."""
+    room = str(tmp_path)
     write(f"{room}/bin/rt", RT, 0o755)
     write(f"{room}/version", "rt 1\n")
     write(f"{room}/crates.txt", f"low: std\nmiddle: low\n{TOP} staticlib: middle low\n")
@@ -55,6 +49,8 @@ def make(room):
     shutil.copy(f"{ROOT}/Makefile", f"{room}/Makefile")
     write(f"{room}/programs/Makefile", PROGRAMS)
     write(f"{room}/include/wolfaren.h", "")
+    assert prove(room) == ALL
+    return room
 
 
 def run(room, words, status, **further):
@@ -64,24 +60,19 @@ def run(room, words, status, **further):
     environment = {name: it for name, it in os.environ.items() if name not in ("MAKEFLAGS", "MAKELEVEL", "MFLAGS")}
     environment |= {"PATH": f"{room}/bin:{os.environ['PATH']}", "PYTHONDONTWRITEBYTECODE": "1", **further}
     ran = subprocess.run(words, cwd=room, env=environment, capture_output=True, text=True, check=False)
-    expect(f"the status of {words[0]}", ran.returncode, status, ran.stderr)
+    assert ran.returncode == status, ran.stderr
     return "".join(it for it in ran.stderr.splitlines(True) if not it.startswith("make: "))
 
 
 def asked(room):
     """Returns the crates that rt was asked to prove."""
-    return content(f"{room}/asked").split()
+    return read(f"{room}/asked").split()
 
 
 def prove(room, status=0):
     """Runs scripts/prove, which must end with this status. Returns the crates that rt was asked to prove."""
     run(room, ["scripts/prove", TOP], status)
     return asked(room)
-
-
-def expect(what, found, wanted, said=""):
-    if found != wanted:
-        sys.exit(f"test-prove: {what}: {found}, where {wanted} was expected {said}")
 
 
 def changes(room):
@@ -105,38 +96,42 @@ def changes(room):
     ]
 
 
-def failures(room):
+def test_what_changed_is_proved_again(room):
+    assert prove(room) == []
+    for name, change, wanted in changes(room):
+        change()
+        assert prove(room) == wanted, name
+        assert prove(room) == [], name
+
+
+def test_failed_proofs_are_repeated(room):
     """A crate is proved again after a proof that failed, and after one during which it changed."""
     write(f"{room}/crates/{TOP}/src/lib.rt", "// wrong\n")
     write(f"{room}/fails", "")
     for _ in range(2):
-        expect("after a failure", prove(room, status=1), [TOP])
+        assert prove(room, status=1) == [TOP]
     os.unlink(f"{room}/fails")
-    expect("after a failure", prove(room), [TOP])
+    assert prove(room) == [TOP]
     write(f"{room}/crates/{TOP}/src/lib.rt", "// right\n")
     write(f"{room}/meanwhile", "// edited\n")
-    expect("an edit meanwhile", prove(room), [TOP])
+    assert prove(room) == [TOP]
     os.unlink(f"{room}/meanwhile")
-    expect("after an edit meanwhile", prove(room), [TOP])
-    expect("no change", prove(room), [])
+    assert prove(room) == [TOP]
+    assert prove(room) == []
 
 
-def killed(room):
+def test_a_killed_run_loses_nothing(room):
     """What a crate's proofs left is given back after a run that was killed."""
     out, aside = f"{room}/crates/{TOP}/out", f"{room}/build/rooms/{TOP}/crates/{TOP}/out"
     os.makedirs(os.path.dirname(aside))
     os.rename(out, aside)
-    expect("after a killed run", prove(room), [])
-    expect("its archive", os.path.isfile(f"{out}/lib{TOP}.a"), True)
-    expect("its room", os.path.exists(f"{room}/build/rooms/{TOP}"), False)
+    assert prove(room) == []
+    assert os.path.isfile(f"{out}/lib{TOP}.a") and not os.path.exists(f"{room}/build/rooms/{TOP}")
 
 
 def content(path):
     """Returns the content of a file, or nothing if there is no such file."""
-    if not os.path.exists(path):
-        return None
-    with open(path, encoding="utf-8") as it:
-        return it.read()
+    return read(path) if os.path.exists(path) else None
 
 
 def build_for_arm64(room, status, is_anew=True):
@@ -145,59 +140,37 @@ def build_for_arm64(room, status, is_anew=True):
     out = f"{room}/crates/{TOP}/out"
     before, files = content(f"{out}/lib{TOP}.a"), {*os.listdir(out), f"lib{TOP}.a.aarch64"}
     run(room, ["make", "lib", "TARGET=aarch64", "ARM64_CC=true"], status)
-    expect("for ARM64", asked(room), [TOP] * is_anew)
-    expect("the archive after ARM64's", content(f"{out}/lib{TOP}.a"), before)
-    expect("the files after ARM64's", {*os.listdir(out), f"lib{TOP}.a.aarch64"}, files)
-    expect("nothing after ARM64's", prove(room), [])
+    assert asked(room) == [TOP] * is_anew
+    assert content(f"{out}/lib{TOP}.a") == before
+    assert {*os.listdir(out), f"lib{TOP}.a.aarch64"} == files
+    assert prove(room) == []
 
 
-def arm64(room):
+def test_builds_for_arm64(room):
     """After a build for ARM64 nothing has to be proved, even if that build fails. It is built anew only if the library or what
     was built for ARM64 has changed."""
     build_for_arm64(room, 0)
     build_for_arm64(room, 0, is_anew=False)
     write(f"{room}/crates/{TOP}/out/lib{TOP}.a.aarch64", "other")
     build_for_arm64(room, 0)
-    expect("ARM64's archive", content(f"{room}/build/aarch64/libwolfaren.a"), "of aarch64-unknown-linux-gnu\n")
+    assert read(f"{room}/build/aarch64/libwolfaren.a") == "of aarch64-unknown-linux-gnu\n"
     write(f"{room}/crates/{TOP}/src/lib.rt", "// for ARM64\n")
-    expect("before ARM64's", prove(room), [TOP])
+    assert prove(room) == [TOP]
     write(f"{room}/fails-for-arm64", "")
     build_for_arm64(room, 2)
     os.unlink(f"{room}/fails-for-arm64")
     write(f"{room}/no-archive", "")
     os.unlink(f"{room}/crates/{TOP}/out/lib{TOP}.a")
-    expect("without an archive", prove(room), [TOP])
+    assert prove(room) == [TOP]
     build_for_arm64(room, 0)
 
 
-def fuzz(room):
+@pytest.mark.parametrize(("lacks", "status"), [("fuzz/run", 2), ("ipcap/fuzz", 2), ("", 0)])
+def test_both_parts_of_fuzz_run(room, lacks, status):
     """Each part of `make fuzz` is run, whatever is missing for the other. If AFL++ is missing, that is the last message."""
     for name in ["ipcap/fuzz", "fuzz/run"]:
         missing = f'[ "$LACKS" != {name} ] || {{ echo "{name}: missing" >&2; exit 2; }}'
         write(f"{room}/tests/{name}", f"#!/bin/sh\necho {name} >> {room}/parts\n{missing}\n", 0o755)
-    for lacks, status in [("fuzz/run", 2), ("ipcap/fuzz", 2), ("", 0)]:
-        write(f"{room}/parts", "")
-        said = run(room, ["make", "fuzz", "CC=true"], status, LACKS=lacks)
-        expect("the parts of make fuzz", content(f"{room}/parts").split(), ["ipcap/fuzz", "fuzz/run"])
-        expect("what make fuzz ends with", lacks != "fuzz/run" or said.endswith("\nfuzz/run: missing\n"), True, said)
-
-
-def main():
-    with tempfile.TemporaryDirectory() as room:
-        make(room)
-        expect("at first", prove(room), ALL)
-        expect("no change", prove(room), [])
-        done = changes(room)
-        for name, change, wanted in done:
-            change()
-            expect(name, prove(room), wanted)
-            expect(f"nothing after {name}", prove(room), [])
-        failures(room)
-        killed(room)
-        fuzz(room)
-        arm64(room)
-    print(f"test-prove: passed: {len(done)} changes, a failure, an edit during a proof, a killed run, builds for ARM64 and make fuzz")
-
-
-if __name__ == "__main__":
-    main()
+    said = run(room, ["make", "fuzz", "CC=true"], status, LACKS=lacks)
+    assert read(f"{room}/parts").split() == ["ipcap/fuzz", "fuzz/run"]
+    assert lacks != "fuzz/run" or said.endswith("\nfuzz/run: missing\n")

@@ -1,14 +1,12 @@
-#!/usr/bin/env python3
-"""Makes `rewrite6` lines and their expected answers, from the definitions alone.
-
-    known-lines lines        prints the lines, for standard input
-    known-lines answers      prints the expected answers
+"""Compares answers to `rewrite6` lines in crates/ipexts with the definitions alone.
 
 This is docs/definitions.md in Python, as literally as possible: it tries every list of headers and chooses the longest
 with a property. Nothing is taken from the parsers.
 """
+
 import random
-import sys
+
+from tools import lines_and_answers
 
 RAW = (0, 43, 60)
 EXTENSION = (0, 43, 44, 51, 60)
@@ -79,7 +77,7 @@ def cleared(n, b):
 
 
 def answer(n, s):
-    """Returns the answer to `rewrite6 n s`."""
+    """Returns the lines of the answer to `rewrite6 n s`."""
     chain = max((c for c in chains(n, s) if fits([m for m, _ in c])), key=len)
     numbers = [m for m, _ in chain]
     k = sum(len(b) for _, b in chain)
@@ -87,7 +85,7 @@ def answer(n, s):
     taken = m in EXTENSION and m != 0 and not fits(numbers + [m])
     written = "".join(f"{x:02x}" for h in chain for x in cleared(*h))
     end = None if taken else fault(m, k, not chain, r)
-    return f"next {m} rest {len(r)}\nwritten {written or '-'}\n{end or 'ok'}\n"
+    return [f"next {m} rest {len(r)}", f"written {written or '-'}", end or "ok"]
 
 
 def some_chain(source):
@@ -120,10 +118,8 @@ def asked():
     yield from (some_chain(source) for _ in range(200))
 
 
-for start, data in asked():
-    if sys.argv[1:] == ["lines"]:
-        print(f"rewrite6 {start} {bytes(data).hex() or '-'}")
-    elif sys.argv[1:] == ["answers"]:
-        print(answer(start, data), end="")
-    else:
-        sys.exit(__doc__)
+def test_answers_are_those_of_the_definitions():
+    known = {line.decode("latin-1"): [it.decode() for it in answer] for line, answer in lines_and_answers()}
+    for start, data in asked():
+        line = f"rewrite6 {start} {bytes(data).hex() or '-'}"
+        assert known[line] == answer(start, data), line

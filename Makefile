@@ -233,7 +233,7 @@ test-c: programs
 	$(CARGO_IS_THERE)
 	tests/run c/test_library.py c/test_statistics.py
 	tests/ipcap/run build build
-	scripts/test-python
+	tests/run ../bindings/python/tests --ignore-glob='*/test_[amt]*'
 	cd bindings/rust && WOLFAREN_LIB_DIR=$(CURDIR)/build cargo test --quiet $$CARGO_FLAGS
 
 # Python with the package markdown, which may be Debian's and not the first on the PATH
@@ -257,8 +257,11 @@ mutants:
 	scripts/mutants $(if $(CRATE),--crate $(CRATE)) $(if $(ONLY),--only $(ONLY)) $(if $(JOBS),--jobs $(JOBS))
 
 memory:
+	$(RT_IS_THERE)
 	$(PYTHON_IS_THERE)
-	scripts/refuse-memory
+	$(call CC_IS_THERE,$(CC),gcc)
+	scripts/prove ipexts
+	tests/run lines -k memory
 
 LINES = 1000000
 HEADERS = 5000

@@ -249,7 +249,7 @@ page:
 
 test-page: page
 	$(PYTHON_IS_THERE)
-	scripts/test-page
+	MODULES=selenium tests/run page
 
 mutants:
 	$(RT_IS_THERE)

@@ -54,9 +54,7 @@ def test_versions_and_checksums_agree():
     run("scripts/abi", "--check")
     version = re.search(r"^VERSION = (\S+)$", read(f"{ROOT}/Makefile"), re.M)[1]
     assert ".".join(re.findall(r"^#define WOLFAREN_VERSION_(?:MAJOR|MINOR|PATCH) (\d+)$", read(HEADER), re.M)) == version
-    packages = [it for it in ["bindings/rust", "rust"] if os.path.exists(f"{ROOT}/{it}/Cargo.toml")]
-    found = {re.search(r'^version = "(\S+)"$', read(f"{ROOT}/{it}/Cargo.toml"), re.M)[1] for it in packages}
-    assert found == {version}
+    assert re.search(r'^version = "(\S+)"$', read(f"{ROOT}/rust/Cargo.toml"), re.M)[1] == version
 
 
 def test_layouts_are_those_of_the_compiler(library, compiler, tmp_path):

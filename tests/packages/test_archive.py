@@ -12,7 +12,7 @@ from tools import ROOT, read, run
 from uses import (CHAIN, HERE, INSTALLED, LIBRARY, PCAP_SHARED, PYTHON, build_and_run, pkg_config, read_captures,
                   see_that_libraries_have_the_same_calls, see_that_programs_are_hardened, use_library, use_programs)
 
-SHARE = [f"share/wolfaren/{it}" for it in ["page/wolfaren.wasm", "plain-rust/src/lib.rs", "plain-rust/c/src/calls.rs", "python/pyproject.toml",
+SHARE = [f"share/wolfaren/{it}" for it in ["page/wolfaren.wasm", "rust/Cargo.toml", "rust/src/lib.rs", "rust/c/src/calls.rs", "python/pyproject.toml",
                                           "python/src/wolfaren/wolfaren.h"]]
 
 

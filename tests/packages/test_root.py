@@ -1,5 +1,5 @@
 """Tests the archive of `make dist` and the packages of `make deb` in a root that has nothing but a C compiler, libpcap, Python with
-cffi, and what the plain Rust package depends on. The root is made from Debian's archive. The wheel for ARM64 is used under QEMU, by
+cffi, and what the Rust package depends on. The root is made from Debian's archive. The wheel for ARM64 is used under QEMU, by
 the Python of another root. Only root can run this.
 """
 

@@ -21,10 +21,10 @@
 # make uninstall      remove what `make install` installs
 # make dist           pack libraries, programs, page, Rust and Python packages for machines without Rattle, as
 #                     build/wolfaren-VERSION-x86_64-linux.tar.gz, and without the programs for ARM64
-# make deb            make Debian packages of libraries, headers, programs, plain Rust and Python package, in build/
+# make deb            make Debian packages of libraries, headers, programs, Rust and Python package, in build/
 #                     (MAINTAINER='NAME <ADDRESS>')
-# make test-c         test the library, ipcap, and the packages in bindings/rust and bindings/python
-# make rust           make the plain Rust package in build/rust, without Rattle and without proofs
+# make test-c         test the library, ipcap, and the package in bindings/python
+# make rust           make the Rust package in build/rust, without Rattle and without proofs
 # make rust-c         build its C library in build/rust-c (RUST_TARGET=.., CC=.., AR=..: for another machine; CARGO_FLAGS)
 # make docs           write pages in build/docs/: the documents, each crate's calls with their contracts, the definitions, and,
 #                     where doxygen, Cargo and sphinx are there, the C interface and the packages. Needs Python's markdown
@@ -44,7 +44,7 @@
 #                     0.19.0 on inputs made by AFL++ (MINUTES=.. for each; SEED=.. of the changes)
 # make fuzz-test      test that comparison
 #
-# The last eight and make test-c take CARGO_FLAGS="..", additional flags for Cargo, such as one that locates the crate
+# The last eight take CARGO_FLAGS="..", additional flags for Cargo, such as one that locates the crate
 # on a machine without network access. So does make test, or ETHERPARSE=.., a program that makes a package of the crate in the
 # folder that it is given, and prints those flags.
 .PHONY: run try test quick rust rust-c lib lib-x86_64 lib-aarch64 programs portable wheel wheel-x86_64 wheel-aarch64 install install-lib install-pcap-lib uninstall dist deb test-c docs page test-page mutants memory bench bench-border cost diff diff-test diff-fields fuzz fuzz-test
@@ -58,9 +58,6 @@ RT_IS_THERE = command -v rt >/dev/null || { \
 
 PYTHON_IS_THERE = command -v python3 >/dev/null || { \
 	echo "Python is missing: its command 'python3' has to be on the PATH." >&2; exit 1; }
-
-CARGO_IS_THERE = command -v cargo >/dev/null || { \
-	echo "Cargo is missing: its command 'cargo' has to be on the PATH (Debian: cargo)." >&2; exit 1; }
 
 PCAP_IS_THERE = echo '\#include <pcap/pcap.h>' | $(CC) -E -x c - >/dev/null 2>&1 || { \
 	echo "libpcap's headers are missing (Debian: libpcap-dev)." >&2; exit 1; }
@@ -230,12 +227,9 @@ deb: programs
 
 test-c: programs
 	$(PYTHON_IS_THERE)
-	$(CARGO_IS_THERE)
-	scripts/test-c
-	scripts/test-statistics
+	tests/run c/test_library.py c/test_statistics.py
 	tests/ipcap/run build build
-	scripts/test-python
-	cd bindings/rust && WOLFAREN_LIB_DIR=$(CURDIR)/build cargo test --quiet $$CARGO_FLAGS
+	tests/run ../bindings/python/tests --ignore-glob='*/test_[amt]*'
 
 # Python with the package markdown, which may be Debian's and not the first on the PATH
 docs:
@@ -250,7 +244,7 @@ page:
 
 test-page: page
 	$(PYTHON_IS_THERE)
-	scripts/test-page
+	MODULES=selenium tests/run page
 
 mutants:
 	$(RT_IS_THERE)
@@ -258,8 +252,11 @@ mutants:
 	scripts/mutants $(if $(CRATE),--crate $(CRATE)) $(if $(ONLY),--only $(ONLY)) $(if $(JOBS),--jobs $(JOBS))
 
 memory:
+	$(RT_IS_THERE)
 	$(PYTHON_IS_THERE)
-	scripts/refuse-memory
+	$(call CC_IS_THERE,$(CC),gcc)
+	scripts/prove ipexts
+	tests/run lines -k memory
 
 LINES = 1000000
 HEADERS = 5000

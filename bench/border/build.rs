@@ -1,4 +1,5 @@
-//! Compiles the walk in C, and a block of `SHIFT` bytes that precedes the library and moves its code.
+//! Compiles the walk in C, and a block of `SHIFT` bytes that precedes the library and moves its code, and links the library of
+//! `WOLFAREN_LIB_DIR`.
 use std::env;
 use std::path::{Path, PathBuf};
 use std::process::Command;
@@ -6,6 +7,7 @@ use std::process::Command;
 fn main() {
     println!("cargo:rerun-if-env-changed=SHIFT");
     println!("cargo:rerun-if-env-changed=CC");
+    println!("cargo:rerun-if-env-changed=WOLFAREN_LIB_DIR");
     println!("cargo:rerun-if-changed=src/walk.c");
     let out = PathBuf::from(env::var("OUT_DIR").expect("Cargo sets OUT_DIR"));
     let shift: usize =
@@ -20,8 +22,12 @@ fn main() {
     compile(&out, &file, "shift");
     compile(&out, Path::new("src/walk.c"), "walk");
     println!("cargo:rustc-link-search=native={}", out.display());
-    println!("cargo:rustc-link-lib=static=shift");
-    println!("cargo:rustc-link-lib=static=walk");
+    let library = env::var("WOLFAREN_LIB_DIR").expect("WOLFAREN_LIB_DIR names a directory with libwolfaren.a");
+    println!("cargo:rerun-if-changed={library}/libwolfaren.a");
+    println!("cargo:rustc-link-search=native={library}");
+    for name in ["shift", "wolfaren", "walk"] {
+        println!("cargo:rustc-link-lib=static={name}");
+    }
     if env::var_os("CARGO_FEATURE_LIBPCAP").is_some() {
         println!("cargo:rustc-link-lib=pcap");
     }

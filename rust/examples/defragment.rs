@@ -1,12 +1,12 @@
 //! Prints each packet of standard input, and instead of fragments the whole packet after the last of them.
 mod packets;
 
-use wolfaren::defragment::{DefragmenterMemory, Outcome, Settings};
+use wolfaren::defragment::{OwnedDefragmenter, Outcome, Settings};
 
 fn main() {
     // A program that listens to a network takes two random numbers.
     let settings = Settings::new([1, 2]);
-    let mut memory = DefragmenterMemory::try_new(16, settings).expect("memory");
+    let mut memory = OwnedDefragmenter::try_new(16, settings).expect("memory");
     let mut defragmenter = memory.defragmenter();
     let mut out = vec![0; 70_000];
     for (time, packet) in (0..).zip(packets::of_input()) {

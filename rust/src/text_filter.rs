@@ -2,8 +2,10 @@
 
 use crate::ip_filter::{Filter, ParseError};
 use alloc::string::String;
+use core::fmt;
+use core::str::FromStr;
 
-/// A filter with the text that it was parsed from.
+/// A filter with the text that it was parsed from, which `Display` writes.
 #[derive(Clone, Debug, PartialEq, Eq)]
 pub struct TextFilter {
     text: String,
@@ -25,5 +27,19 @@ impl TextFilter {
     /// Returns the filter.
     pub fn filter(&self) -> &Filter {
         &self.filter
+    }
+}
+
+impl FromStr for TextFilter {
+    type Err = ParseError;
+
+    fn from_str(text: &str) -> Result<TextFilter, ParseError> {
+        TextFilter::parse(text.into())
+    }
+}
+
+impl fmt::Display for TextFilter {
+    fn fmt(&self, f: &mut fmt::Formatter<'_>) -> fmt::Result {
+        f.pad(&self.text)
     }
 }

@@ -1,7 +1,7 @@
 //! Tests what calls do whose condition doesn't hold.
 
 use wolfaren::defragment::{
-    Defragmenter, DefragmenterMemory, DropReason, Links, Outcome, Settings, Table,
+    Defragmenter, OwnedDefragmenter, DropReason, Links, Outcome, Settings, Table,
 };
 use wolfaren::err::{Layer, LenError};
 use wolfaren::io::LimitedReader;
@@ -48,7 +48,7 @@ fn limits_are_lowered() {
 
 #[test]
 fn fragments_are_dropped_without_a_memory_for_each_slot() {
-    let mut memory = DefragmenterMemory::try_new(2, Settings::new([1, 2])).expect("memory");
+    let mut memory = OwnedDefragmenter::try_new(2, Settings::new([1, 2])).expect("memory");
     let mut defragmenter = memory.defragmenter();
     assert_eq!(defragmenter.add(0, 1, &FIRST).outcome, Outcome::MoreWanted);
     let Defragmenter {
@@ -67,7 +67,7 @@ fn fragments_are_dropped_without_a_memory_for_each_slot() {
     assert_eq!(defragmenter.add(0, 2, &FIRST).outcome, dropped);
     assert_eq!(defragmenter.add(1, 2, &FIRST).outcome, dropped);
     assert_eq!(defragmenter.add(0, 2, &[0x60; 3]).slot, None);
-    let mut none = DefragmenterMemory::try_new(0, Settings::new([1, 2])).expect("memory");
+    let mut none = OwnedDefragmenter::try_new(0, Settings::new([1, 2])).expect("memory");
     assert_eq!(none.defragmenter().add(0, 1, &FIRST).outcome, dropped);
 }
 

@@ -1,6 +1,6 @@
 /*
  * Measures how much stack each call of wolfaren.h uses. Passes to the calls random packets of IPv4 and IPv6, which may be truncated or
- * faulty, filters as texts and as programs, fragments of a few packets, and each code. scripts/test-c compares the numbers with
+ * faulty, filters as texts and as programs, fragments of a few packets, and each code. test_library.py compares the numbers with
  * wolfaren.h, and the names with the symbols of the library.
  *
  * usage: PROGRAM

@@ -1,6 +1,6 @@
-// Sends the requests in `Wolfaren.asked` to the page, and leaves the replies in the document.
+// Makes the function `ask`, which sends requests to the page and returns its replies.
 "use strict";
-(async function () {
+window.ask = (function () {
     const at = (id) => document.getElementById(id);
     const violations = [];
     addEventListener("securitypolicyviolation", (event) => violations.push(event.effectiveDirective));
@@ -31,11 +31,13 @@
     function styles() {
         return Array.from(at("picture").querySelectorAll("[data-part]"), (it) => it.getAttribute("class").slice("part ".length));
     }
-    // Waits until a condition holds. Counts turns, since with --virtual-time-budget the clock runs ahead of file reads.
+    // Waits until a condition holds.
     async function until(isThere) {
         for (let turn = 0; turn < 20000 && !isThere(); turn++) await new Promise((done) => setTimeout(done, 5));
     }
-    async function ask(it) {
+    async function reply(it) {
+        if (it.violate !== undefined) return violate();
+        if (it.size !== undefined) return [await reply(it.size), size()][1];
         if (it.drop !== undefined) return drop(it);
         if (it.choose !== undefined) return choose(it);
         if (it.read !== undefined) return Wolfaren.input.read(it.read).format;
@@ -169,23 +171,10 @@
         await until(() => violations.length >= 2);
         return violations;
     }
-    async function askEach() {
-        const answers = [];
-        for (const it of Wolfaren.asked) answers.push(it.size === undefined ? await ask(it) : [await ask(it.size), size()][1]);
-        return answers;
-    }
-    let answers = [];
-    try {
+    return async function (questions) {
         await Wolfaren.page.ready;
-        if (Wolfaren.asked === undefined) return;
-        answers = await askEach();
-        answers.push(await violate());
-    } catch (error) {
-        answers.push(String(error.stack));
-    }
-    const said = btoa(unescape(encodeURIComponent(JSON.stringify(answers))));
-    // In a frame, the document around it keeps the replies.
-    if (parent !== window) return parent.postMessage(said, "*");
-    at("summary").textContent = said;
-    at("summary").id = "answers";
+        const replies = [];
+        for (const it of questions) replies.push(await reply(it));
+        return replies;
+    };
 })();

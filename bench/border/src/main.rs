@@ -1,5 +1,4 @@
-//! Compares the time to parse packets through C, directly and with the package `wolfaren`, with that of etherparse
-//! 0.19.0.
+//! Compares the time to parse packets through C, and with the package `wolfaren`, with that of etherparse 0.19.0.
 //!
 //!     border measure RUNS WORD   times of the rows whose names have the word, a line each
 //!     border report FILE..       the table of such lines; a file for each alignment of the library

@@ -8,7 +8,7 @@ use etherparse::{IpPayloadSlice, IpSlice, Ipv6ExtensionSlice};
 mod digest;
 // Only compiled: the package's tests compile it too.
 #[allow(dead_code)]
-#[path = "../../../bindings/rust/tests/etherparse/names.rs"]
+#[path = "../../../rust/tests/etherparse/names.rs"]
 mod names;
 
 pub use digest::{Filter, Full};

@@ -195,9 +195,8 @@ fn filters(seed: u64) -> Vec<Row> {
 fn against_libpcap(packets: &inputs::Packets) -> Vec<Row> {
     use filter::{hop_limit, net, other_net};
     let has = |packet: &[u8], is_asked: fn(u8) -> bool| {
-        let packet = wolfaren::Dissection::from_slice(packet);
-        let found = packet.headers().any(|header| is_asked(header.number().0));
-        found
+        let mut headers = wolfaren::dissect::dissect(packet).headers();
+        headers.any(|(_, header)| is_asked(header.number().0))
     };
     let unauthenticated = packets.kept(|packet| !has(packet, |number| number == 51));
     let with_headers = Sides::new(packets.kept(|packet| has(packet, |_| true)));

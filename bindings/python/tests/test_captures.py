@@ -266,7 +266,7 @@ class Program(Scratch):
     def test_refused_memory(self):
         """Each failed allocation is an error, unless the call gets by without that memory."""
         program, refusing = self.build(BUILD), f"{self.folder}/refuse.so"
-        subprocess.run(["cc", "-O1", "-shared", "-fPIC", "-o", refusing, f"{ROOT}/scripts/refuse-memory.c", "-ldl"], check=True)
+        subprocess.run(["cc", "-O1", "-shared", "-fPIC", "-o", refusing, f"{ROOT}/tests/lines/refuse-memory.c", "-ldl"], check=True)
         frames = [ethernet(it) for it in PACKETS[:4]]
         content = blocks.section() + blocks.interface() + b"".join(map(blocks.packet, frames))
         for content in [capture(frames), content, gzip.compress(content)]:

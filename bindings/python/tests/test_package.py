@@ -111,11 +111,11 @@ class Documentation(unittest.TestCase):
         """The documentation of each call that dissects names the field that says whether the packet states its length."""
         with open(f"{ROOT}/include/wolfaren.h", encoding="utf-8") as it:
             comments = re.findall(r"/\*\n((?: \*.*\n)+?) \*/\n(?:WOLFAREN_USE_RESULT\n)?\w+ (\w+)\(", it.read())
-        with open(f"{ROOT}/bindings/rust/src/dissection.rs", encoding="utf-8") as it:
-            rust = re.search(r"((?:^///.*\n)+)(?:^#.*\n)*^pub struct Dissection\b", it.read(), re.M)[1]
+        with open(f"{ROOT}/rust/src/lib.rs", encoding="utf-8") as it:
+            rust = re.search(r"((?:^///.*\n)+)^pub mod dissect\b", it.read(), re.M)[1]
         said = {name: comment for comment, name in comments}
         fields = [(said["wolfaren_dissect"], "`stated_len`"), (said["wolfaren_parse_packet"], "`packet->len_source`"),
-                  (said["wolfaren_find_payload"], "`payload->len_source`"), (rust, "[`stated_len`](Self::stated_len)")]
+                  (said["wolfaren_find_payload"], "`payload->len_source`"), (rust, "`stated_len`")]
         fields += [(inspect.getdoc(it), "`stated_len`") for it in [wolfaren.dissect, wolfaren.dissect_many, wolfaren.table]]
         for text, field in fields:
             text = re.sub(r"\s+(?:\*|///)?\s*", " ", text)

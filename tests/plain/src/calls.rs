@@ -1,4 +1,4 @@
-//! Answers lines by calls of the plain Rust package. The argument says what the lines are:
+//! Answers lines by calls of the Rust package. The argument says what the lines are:
 //!
 //!     `count`       a packet after `p`, or a frame without one (`o`) or a truncated one (`t`), as tests/c/statistics.c reads
 //!                   them; after the last line, all counts
@@ -7,7 +7,7 @@
 //!                   packet and whether checksums hold, or the error
 //!
 //! Bytes are in hexadecimal, after an `x`.
-use etherparse::defragment::{Defragmenter, DefragmenterMemory, Outcome, Settings};
+use etherparse::defragment::{Defragmenter, OwnedDefragmenter, Outcome, Settings};
 use etherparse::rewrite::{
     cleared, in_order, with_header, with_payload, without, Authentication, RewriteError, Rewritten,
     Which,
@@ -125,7 +125,7 @@ fn main() {
     let what = std::env::args().nth(1).expect("what the lines are");
     let mut output = std::io::stdout().lock();
     let mut parts = [new_statistics(), new_statistics(), new_statistics()];
-    let mut memory = DefragmenterMemory::try_new(4096, Settings::new([3, 4])).expect("memory");
+    let mut memory = OwnedDefragmenter::try_new(4096, Settings::new([3, 4])).expect("memory");
     let mut defragmenter = memory.defragmenter();
     let mut out = vec![0; ROOM];
     for (index, line) in std::io::stdin().lock().lines().enumerate() {

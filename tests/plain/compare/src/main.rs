@@ -1,5 +1,5 @@
 //! Compares COUNT answers of the program PROGRAM, which is tests/plain, with those of etherparse 0.19.0, and COUNT filters
-//! of the plain Rust package with a plain program: compare PROGRAM SEED COUNT
+//! of the Rust package with a plain program: compare PROGRAM SEED COUNT
 use diff::compare::{lines_of_tool, Outcome};
 use diff::filters::{all_filters, Answer};
 use wolfaren::filter::Filter;

@@ -264,7 +264,7 @@ MINUTES = 5
 export LINES HEADERS MINUTES ONLY CARGO_FLAGS
 
 bench: lib-x86_64
-	status=0; bench/compare || status=1; [ -n "$(ONLY)" ] || for part in border defragment rewriter; do \
+	status=0; bench/compare || status=1; [ -n "$(ONLY)" ] || for part in package border defragment rewriter; do \
 		bench/$$part/run || status=1; done; exit $$status
 
 bench-border:

@@ -1,5 +1,5 @@
-//! Links the static library `ipexts_calls`, the allocator that it needs, the walk in C, and a block of `SHIFT` bytes
-//! before the library, which moves its code.
+//! Links the walk in C and, without the feature `package`, the static library `ipexts_calls`, the allocator that it needs, and a
+//! block of `SHIFT` bytes before the library, which moves its code.
 use std::env;
 use std::path::{Path, PathBuf};
 use std::process::Command;
@@ -8,16 +8,26 @@ fn main() {
     println!("cargo:rerun-if-env-changed=SHIFT");
     println!("cargo:rerun-if-env-changed=CC");
     println!("cargo:rerun-if-changed=src/walk.c");
-    link_library("ipexts_calls");
     let out = PathBuf::from(env::var("OUT_DIR").expect("Cargo sets OUT_DIR"));
-    compile_shift(&out);
-    compile(&out, Path::new("src/walk.c"), "walk");
     println!("cargo:rustc-link-search=native={}", out.display());
+    let is_package = env::var_os("CARGO_FEATURE_PACKAGE").is_some();
+    if !is_package {
+        link_ours(&out);
+    }
+    let folder = Path::new(if is_package { "../src" } else { "src" });
+    compile(&out, &folder.join("walk.c"), "walk");
+    println!("cargo:rustc-link-lib=static=walk");
+}
+
+/// Links the measured calls of the proved crates, and the block before them.
+fn link_ours(out: &Path) {
+    link_library("ipexts_calls");
+    compile_shift(out);
     println!(
         "cargo:rustc-link-search=native={}",
         kit().join("c").display()
     );
-    for name in ["shift", "ipexts_calls", "libc_c", "walk"] {
+    for name in ["shift", "ipexts_calls", "libc_c"] {
         println!("cargo:rustc-link-lib=static={name}");
     }
 }

@@ -1,4 +1,5 @@
-//! Compares the time of this project's calls with those of etherparse 0.19.0.
+//! Compares the time of this project's calls with those of etherparse 0.19.0: calls of the proved crates or, with the feature
+//! `package`, of the Rust package.
 //!
 //!     bench measure RUNS WORD               times of the rows whose names have the word, a line each
 //!     bench tool OURS ORIGINAL FOLDER BYTES times of two programs over lines, which are made in FOLDER
@@ -18,6 +19,7 @@ mod original;
 mod original_ipv4;
 mod original_reads;
 mod original_slices;
+#[cfg_attr(feature = "package", path = "package.rs")]
 mod ours;
 #[path = "../../tests/diff/src/random.rs"]
 mod random;
@@ -27,6 +29,7 @@ mod rows;
 mod slice_rows;
 mod tool;
 
+use etherparse as parser;
 use report::Line;
 use std::path::Path;
 use std::process::ExitCode;
@@ -36,6 +39,7 @@ const SEED: u64 = 1;
 
 fn main() -> ExitCode {
     // Refers to the bytes that move the library, so that they are linked.
+    #[cfg(not(feature = "package"))]
     std::hint::black_box(ours::ipexts_shift as unsafe extern "C" fn());
     let arguments: Vec<String> = std::env::args().skip(1).collect();
     let words: Vec<&str> = arguments.iter().map(String::as_str).collect();
@@ -78,7 +82,11 @@ fn measure(runs: usize, word: &str) {
         let times = measure::measure(&row, runs);
         let line = Line {
             group: row.group.to_owned(),
-            name: row.name,
+            name: if cfg!(feature = "package") {
+                format!("package, {}", row.name)
+            } else {
+                row.name
+            },
             unit: row.unit.to_owned(),
             ours: times.ours,
             original: times.original,

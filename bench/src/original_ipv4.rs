@@ -1,7 +1,7 @@
 //! IPv4 extension headers with etherparse 0.19.0, with the same digests.
-use crate::original::{from_c, of_auth, of_auth_fault, of_bytes, of_owned_auth, of_written, with};
-use etherparse::err::ip_auth::HeaderSliceError;
-use etherparse::{ip_number, IpNumber, Ipv4Extensions, Ipv4ExtensionsSlice};
+use super::original::{from_c, of_auth, of_auth_fault, of_bytes, of_owned_auth, of_written, with};
+use super::parser::err::ip_auth::HeaderSliceError;
+use super::parser::{ip_number, IpNumber, Ipv4Extensions, Ipv4ExtensionsSlice};
 
 #[inline(never)]
 fn of_slices(

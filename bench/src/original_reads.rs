@@ -1,13 +1,13 @@
 //! Reads with etherparse 0.19.0, with the same digests. Types whose reads need `Seek` in the original are read
 //! from a cursor over the bytes, the others from the bytes themselves.
-use crate::original::{
+use super::original::{
     from_c, of_answer, of_bytes, of_content, of_len_error, of_owned_auth, of_owned_fragment,
     of_owned_raw, with, Parse,
 };
-use etherparse::err::ipv6_exts::{HeaderLimitedReadError, HeaderReadError};
-use etherparse::err::Layer;
-use etherparse::io::LimitedReader;
-use etherparse::{
+use super::parser::err::ipv6_exts::{HeaderLimitedReadError, HeaderReadError};
+use super::parser::err::Layer;
+use super::parser::io::LimitedReader;
+use super::parser::{
     IpAuthHeader, IpNumber, Ipv4Extensions, Ipv6Extensions, Ipv6FragmentHeader, Ipv6RawExtHeader,
     LenSource,
 };

@@ -1,8 +1,8 @@
 //! Whole packets with etherparse 0.19.0, with the same digests.
-use crate::original::{from_c, len_source_code, of_auth, of_bytes, of_content, of_len_error, with};
-use etherparse::err::ip::{HeaderError, HeadersError, SliceError};
-use etherparse::err::{ip_auth, ipv4, ipv6};
-use etherparse::{IpPayloadSlice, IpSlice, Ipv4Slice, Ipv6Slice};
+use super::original::{from_c, len_source_code, of_auth, of_bytes, of_content, of_len_error, with};
+use super::parser::err::ip::{HeaderError, HeadersError, SliceError};
+use super::parser::err::{ip_auth, ipv4, ipv6};
+use super::parser::{IpPayloadSlice, IpSlice, Ipv4Slice, Ipv6Slice};
 use std::net::{Ipv4Addr, Ipv6Addr};
 
 /// A way to parse a packet.
@@ -20,7 +20,7 @@ pub struct Ipv6Filter;
 pub struct Ipv6Lax;
 pub struct Ipv6LaxFilter;
 
-const NO_PACKET: u64 = 2;
+pub const NO_PACKET: u64 = 2;
 
 impl Packet for Ip {
     fn digest(bytes: &[u8]) -> u64 {

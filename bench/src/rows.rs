@@ -228,7 +228,11 @@ pub fn rows(seed: u64) -> Vec<Row> {
     {
         rows.extend(refusals(&form));
     }
-    for form in cursor_forms() {
+    // the original's side, which is that of the package too, has no cursor
+    for form in cursor_forms()
+        .into_iter()
+        .filter(|_| !cfg!(feature = "package"))
+    {
         rows.push(packet_loop(&form, packets));
         rows.push(packet_calls(&form, packets));
         rows.extend([4, 64].map(|count| regular_chain(&form, count)));

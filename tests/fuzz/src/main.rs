@@ -38,6 +38,7 @@ mod plant;
 mod seeds;
 mod sources;
 
+use etherparse as parser;
 use plant::Plant;
 
 /// Aborts at a difference, which AFL++ keeps as a crash.

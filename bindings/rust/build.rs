@@ -14,7 +14,7 @@ const ARCHIVE: &str = "libwolfaren.a";
 const HEADER: &str = "wolfaren.h";
 
 /// The checksum of layouts and calls that the library's header must have, as `scripts/abi` of its repository writes it.
-const ABI: &str = "0x064a3cb7u";
+const ABI: &str = "0x2a8abc39u";
 
 fn main() {
     if env::var_os("DOCS_RS").is_some() {

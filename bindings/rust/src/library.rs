@@ -292,7 +292,7 @@ const _: () = {
 
 /// `WOLFAREN_ABI`: the checksum of the header that this file was written for (`scripts/abi` of the repository).
 #[cfg(all(test, not(miri)))]
-pub(crate) const ABI: u32 = 0x064a_3cb7;
+pub(crate) const ABI: u32 = 0x2a8a_bc39;
 
 unsafe extern "C" {
     fn wolfaren_parse_chain(

@@ -56,6 +56,8 @@ pub enum Expected {
     Source,
     /// The word `dst`, after `src` and an operator.
     Destination,
+    /// A mask that begins with its ones, after the address of a network.
+    Mask,
 }
 
 impl Expected {
@@ -82,6 +84,7 @@ impl Expected {
             19 => Expected::Icmp6Type,
             20 => Expected::Source,
             21 => Expected::Destination,
+            22 => Expected::Mask,
             _ => Expected::Operand,
         }
     }

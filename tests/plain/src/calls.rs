@@ -7,7 +7,7 @@
 //!                   packet and whether checksums hold, or the error
 //!
 //! Bytes are in hexadecimal, after an `x`.
-use etherparse::defragment::{Defragmenter, OwnedDefragmenter, Outcome, Settings};
+use etherparse::defragment::{Defragmenter, Outcome, OwnedDefragmenter, Settings};
 use etherparse::rewrite::{
     cleared, in_order, with_header, with_payload, without, Authentication, RewriteError, Rewritten,
     Which,

@@ -29,6 +29,7 @@ mod writes;
 
 mod etherparse_ip;
 mod ip_base;
+mod ip_bpf;
 mod ip_captures;
 mod ip_batches;
 mod ip_codes;
@@ -55,6 +56,11 @@ pub use plain::io as no_std_io;
 /// Frames of link layers, and the IP packets in them.
 pub mod frames {
     pub use crate::ip_frames::*;
+}
+
+/// Programs of classic BPF, checked as the kernel does and run.
+pub mod bpf {
+    pub use crate::ip_bpf::*;
 }
 
 /// Packets dissected: any bytes, also truncated packets and fragments, with the reason why their headers end.

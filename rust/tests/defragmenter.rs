@@ -42,7 +42,7 @@ fn packet_in(defragmenter: &OwnedDefragmenter, slot: Option<usize>) -> Vec<u8> {
 
 #[test]
 fn any_order() {
-    let mut defragmenter = of_slots(4096);
+    let mut defragmenter = of_slots(64);
     let orders = [
         [0, 1, 2],
         [0, 2, 1],

@@ -60,6 +60,10 @@ static struct wolfaren_option option;
 static struct wolfaren_routing routing;
 static struct wolfaren_fragment fragment;
 static struct wolfaren_authentication authentication;
+static struct wolfaren_interface interfaces[2];
+static struct wolfaren_capture capture;
+static struct wolfaren_capture_error capture_error;
+static struct wolfaren_record record;
 static struct wolfaren_frame frame_found;
 static struct wolfaren_packet parsed;
 static struct wolfaren_payload payload;
@@ -88,6 +92,9 @@ CALL(parse_chain, (number, packet + offset, len - offset, headers, headers_room,
 CALL(parse_ipv4_chain, (number, packet + offset, len - offset, headers, headers_room, &chain))
 RESULT(next_header, (&cursor, packet + offset, len - offset, &header))
 CALL(fault_at, (&cursor, packet + offset, len - offset, &fault))
+RESULT(begin_capture, (&capture, packet, len, &capture_error))
+CALL(next_record, (&capture, packet, len, &record))
+RESULT(capture_error_text, (&capture_error, words, sizeof words))
 RESULT(find_ip, (link_type, packet, len, &frame_found))
 CALL(find_ip_after, (ethertype, packet, len, &frame_found))
 CALL(dissect, (packet, len, headers, headers_room, &dissection))
@@ -310,6 +317,28 @@ static void measure_packet_calls(void)
     for (size_t i = 0; i < sizeof calls / sizeof *calls; i++) measure(calls[i]);
     fault = dissection.fault;
     measure(&fault_text);
+}
+
+/* Begins to read a classic file or any bytes, and reads a block or a record of a reader with any values. */
+static void measure_capture_calls(void)
+{
+    static const uint8_t file_header[] = {0xd4, 0xc3, 0xb2, 0xa1, 2, 0, 4, 0};
+    size_t block_len = 32 + 4 * draw(16);
+    len = draw(MOST_PACKET);
+    draw_bytes(packet, len, 256);
+    if (draw(2)) memcpy(packet, file_header, sizeof file_header);
+    capture = (struct wolfaren_capture){.interfaces = interfaces, .room = draw(3), .interface_count = draw(3), .limit = MOST_PACKET};
+    measure(&begin_capture);
+    measure(&capture_error_text);
+    capture.form = (uint8_t)draw(4);
+    if (draw(2)) capture.limit = (uint32_t)draw(64);
+    memset(packet, 0, block_len);
+    packet[0] = (uint8_t)draw(7);
+    packet[4] = packet[block_len - 4] = (uint8_t)block_len;
+    len = draw(4) ? block_len : draw(block_len);
+    measure(&next_record);
+    capture_error = record.error;
+    measure(&capture_error_text);
 }
 
 /* Finds IP after headers that lead on: labels of MPLS without the last one, and any bytes. */
@@ -562,6 +591,7 @@ static void measure_all(void)
     measure(&init_statistics);
     for (int i = 0; i < ROUNDS; i++) {
         measure_packet_calls();
+        measure_capture_calls();
         measure_frame_calls();
         measure_chain_calls();
         measure_header_calls();

@@ -25,14 +25,16 @@ variant_in n = if n == 1 then Some Microseconds else if n == 2 then Some Nanosec
 abbrev pub order_in : ℕ → ByteOrder
 order_in n = if n == 0 then LittleEndian else BigEndian
 
+-- the code of a byte order
 abbrev pub order_code : ByteOrder → ℕ
 order_code LittleEndian = 0
 order_code BigEndian = 1
 
--- the file header of a classic file, and its reader
+-- the file header of a classic file
 abbrev pub header_in : Variant → CaptureFields → ClassicHeader
 header_in v f = record { byte_order = order_in f.byte_order; variant = v; snap_len = f.snap_len; link_type = f.link_type }
 
+-- the reader of a classic file
 abbrev pub classic_in : Variant → CaptureFields → ClassicCapture
 classic_in v f = record { header = header_in v f; limit = f.limit; offset = f.offset }
 
@@ -49,6 +51,7 @@ captured_in kind.SimplePacket = 12
 captured_in kind.EnhancedPacket = 28
 captured_in kind.Other = 28
 
+-- where they begin in the block that begins the bytes
 abbrev pub captured_at : ByteOrder → List ℕ → ℕ
 captured_at order s = captured_in (kind_of (block_type (own_order order s) s))
 

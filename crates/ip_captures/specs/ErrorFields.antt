@@ -6,9 +6,11 @@ use Rattle.ip_captures.specs.declared.err.CaptureError.{CaptureError}
 use Rattle.ip_captures.specs.declared.err.CaptureError.TheVariants as capture
 use Rattle.ip_captures.specs.declared.error_fields.CaptureErrorFields.{CaptureErrorFields}
 
+-- fields with these values
 abbrev pub fields_with : ℕ → ℕ → ℕ → ℕ → CaptureErrorFields
 fields_with offset kind value other = record { offset = offset; value = value; other = other; kind = kind }
 
+-- the fields of no error
 abbrev pub no_error : CaptureErrorFields
 no_error = fields_with 0 0 0 0
 
@@ -30,7 +32,7 @@ error_fields (capture.UnknownVersion major) = fields_with 0 2 major 0
 error_fields (capture.LongRecord offset captured_len limit) = fields_with offset 3 captured_len limit
 error_fields (capture.Block offset error) = block_fields offset error
 
--- The numbers of an error are those of its types.
+-- The numbers of an error in a block are those that its fields hold.
 abbrev pub AreBlockNumbers : BlockError → Type 0
 AreBlockNumbers block.UnknownByteOrder = ⊤
 AreBlockNumbers (block.Length len) = len < 2 ^ 32
@@ -41,6 +43,7 @@ AreBlockNumbers (block.TooManyInterfaces room) = room < 2 ^ 64
 AreBlockNumbers (block.UnknownInterface interface) = interface < 2 ^ 32
 AreBlockNumbers (block.LongPacket captured_len) = captured_len < 2 ^ 32
 
+-- The numbers of an error are those that its fields hold.
 abbrev pub AreNumbers : CaptureError → Type 0
 AreNumbers capture.UnknownMagic = ⊤
 AreNumbers (capture.UnknownVersion major) = major < 2 ^ 16

@@ -7,6 +7,7 @@ use Rattle.ip_captures.specs.declared.frame.Frame.{Frame}
 use Rattle.ip_captures.specs.declared.next.Next.{Next}
 use Rattle.ip_captures.specs.declared.next.Next.TheVariants as next
 
+-- the fields of no record
 abbrev pub no_record : ℕ → ℕ → CaptureErrorFields → RecordFields
 no_record kind needed error = record {
   offset = 0;
@@ -23,6 +24,7 @@ no_record kind needed error = record {
   kind = kind;
 }
 
+-- the fields of a frame whose captured bytes begin at an offset
 abbrev pub frame_fields : ℕ → Frame → RecordFields
 frame_fields offset f = record {
   offset = offset;

@@ -10,6 +10,8 @@
 //! | read a classic file frame by frame | `ClassicCapture::begin`, then `next`, which moves past a frame |
 //! | get all frames of the bytes that are there | `ClassicCapture::frames`, an iterator; after the last frame `end` returns the bytes that are left, and why no record begins them |
 //!
+//! `CaptureFields` is a `Capture` in plain numbers, for C, and `RecordFields` is what comes next.
+//!
 //! | `next` returns | Then |
 //! |---|---|
 //! | `Frame`, `Block` | go on `record_len` bytes later |

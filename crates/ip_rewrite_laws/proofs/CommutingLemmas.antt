@@ -1,17 +1,22 @@
 -- A fragment without headers before its fragment header is the fragment of the packet without them.
 use Rattle.ip_spec.proofs.Common.{◌≡◌, ◌≢◌, ℕ, ◌+◌, ◌-◌, ◌/◌, ◌%◌, ◌≤◌, ◌<◌, List, [], ◌∷◌, ◌++◌, length, take, drop, refl, sym, ◌∙◌, ap, subst, arith, inl, inr, Bool, true, false, ◌==◌, if◌then◌else◌, slice_set, slice_index, length-take, length-drop, length-set, length-append, append_assoc, append-nil, append_cancel_left, take-append-drop, drop-append_seam, take-take, get_or-take, get_or-set_other, get_or-set_same, cases_eq, ne_eqb, lt-ltb, None, IsHeader, fragment, IsChain, AreLinked, next_header, ExtHeader, bytes_of, leads_to, offset_bits, flag_bit, AllByRecursion, AreBytes, All-take, All-drop, list_any, cleared_chain}
-use Rattle.std.specs.Prelude.{nat_lt, not}
+use Rattle.std.specs.Prelude.{nat_lt, not, ◌&&◌, Some}
 use Rattle.std.proofs.lemmas.Bool.{or_left, or_right, not_from_false}
 use Rattle.std.proofs.lemmas.Grind.{flat_map-append}
 use Rattle.std.proofs.lemmas.List.{set-set, length-take-le}
 use Rattle.ip_base.specs.Checksum.{with_word}
 use Rattle.ip_base.specs.Ipv6Header.{IsIpv6Header, payload_length}
+use Rattle.ip_base.specs.declared.ipv6_header_slice.Ipv6HeaderSlice.{Ipv6HeaderSlice}
 use Rattle.ip_base.proofs.ChecksumLemmas.{word_len, word_other}
+use Rattle.ip_spec.proofs.PrefixLemmas.{prefix_of-append}
 use Rattle.ip_spec.proofs.StepLemmas.{all_more}
 use Rattle.ip_dissect.specs.Dissection.{DissectedParts, dissected}
 use Rattle.ip_dissect.specs.End.{has_error}
 use Rattle.ip_dissect.specs.Fragment.{fragments, is_fragment_header}
 use Rattle.ip_dissect.specs.Later.{chain_to_later}
+use Rattle.ip_dissect.specs.Outline.{IsBaseOf}
+use Rattle.ip_dissect.specs.declared.dissection.BaseHeader.TheVariants.{Ipv6}
+use Rattle.ip_dissect.proofs.DissectedLemmas.{base_some6}
 use Rattle.ip_dissect.proofs.LaterLemmas.{may_follow, met}
 use Rattle.ip_defragmenter.specs.Sent.{IsSentIpv6}
 use Rattle.ip_defragmenter.specs.Split.{link_after}
@@ -20,28 +25,31 @@ use Rattle.ip_defrag_laws.specs.Ipv6.{IsIpv6Fragment, IsIpv6Part, fragment_heade
 use Rattle.ip_defrag_laws.proofs.Ipv6Lemmas.{begins_chain, none_later, short6}
 use Rattle.ip_defrag_laws.proofs.Ipv6FragmentLemmas.{flag_is, ipv6_made, offset_is}
 use Rattle.ip_spec.proofs.ClearedLemmas.{cleared_is_chain}
+use Rattle.ip_rewrite.specs.Base.{length_field}
 use Rattle.ip_rewrite.specs.Clearing.{reserved_fragmented, clearing_fault}
-use Rattle.ip_rewrite.specs.Headers.{number_of_first, linked_headers}
-use Rattle.ip_rewrite.specs.Insertion.{inserted, insertion_fault}
-use Rattle.ip_rewrite.specs.Rewritten.{rewritten}
+use Rattle.ip_rewrite.specs.Headers.{is_options, number_of_first, linked_headers}
+use Rattle.ip_rewrite.specs.Insertion.{inserted, header_fault, insertion_fault}
+use Rattle.ip_rewrite.specs.Jumbogram.{following_len, is_unstated}
+use Rattle.ip_rewrite.specs.Rewritten.{rewritten, rewritten_field, room_fault}
 use Rattle.ip_rewrite.specs.Selection.{kept, any_selected, selects_fragmented}
-use Rattle.ip_rewrite.specs.Without.{without, without_fault}
+use Rattle.ip_rewrite.specs.Without.{packet_fault, without, without_fault}
 use Rattle.ip_rewrite.specs.Writing.{front_with}
 use Rattle.ip_rewrite.specs.declared.which.Authentication.{Authentication}
 use Rattle.ip_rewrite.specs.declared.which.Which.{Which}
 use Rattle.ip_rewrite.proofs.ChainLemmas.{NoZero, all_kept, zero_kept, joined_chain, joined_leads, joined_later}
-use Rattle.ip_rewrite.proofs.ClearingLemmas.{cleared_len, cleared_link}
+use Rattle.ip_rewrite.proofs.ClearingLemmas.{cleared_len, cleared_link, clearing_dissects}
+use Rattle.ip_rewrite.proofs.DissectLemmas.{dissects, field_fits, none_first, whole_packet}
 use Rattle.ip_rewrite.proofs.FieldLemmas.{word_is, range_same}
-use Rattle.ip_rewrite.proofs.InsertionLemmas.{IsInserted, all_inserted, header_is}
+use Rattle.ip_rewrite.proofs.InsertionLemmas.{IsInserted, all_inserted, header_is, inserted_len, insertion_dissects, insertion_first}
 use Rattle.ip_rewrite.proofs.FrontLemmas.{front_same, joined_len}
 use Rattle.ip_rewrite.proofs.RestoringLemmas.{word_set, word_word}
 use Rattle.ip_rewrite.proofs.SurveyLemmas.{kept_less}
 use Rattle.ip_rewrite_laws.proofs.SelectionLemmas.{IsFree, free, kept_before, first_kept, linked_kept, first_append, linked_append}
 use Rattle.ip_rewrite_laws.proofs.ClearedLemmas.{first_led, linked_cleared, cleared_append, later_stays, clearing}
-use Rattle.ip_rewrite_laws.proofs.InsertedLemmas.{insertion, before_fragment, inserted_append, linked_count, first_inserted, linked_inserted}
+use Rattle.ip_rewrite_laws.proofs.InsertedLemmas.{insertion, before_fragment, inserted_append, linked_count, first_inserted, linked_inserted, not_options, room_left}
 use Rattle.ip_rewrite_laws.proofs.MadeLemmas.{dropped, link_is, made}
-use Rattle.ip_rewrite_laws.proofs.CompleteLemmas.{IsComplete, complete, rewritten_front, without_error}
-use Rattle.ip_rewrite_laws.proofs.SentLemmas.{HasBytes, have_bytes, leads_small, front_bytes, none_among, is_sent, is_part}
+use Rattle.ip_rewrite_laws.proofs.CompleteLemmas.{IsComplete, complete, rewritten_front}
+use Rattle.ip_rewrite_laws.proofs.SentLemmas.{HasBytes, cleared_bytes, front_bytes, have_bytes, header_small, is_part, is_sent, leads_small, none_among, none_cleared, none_inserted, zero_inserted}
 
 -- headers after others
 links_after : (n : ℕ) (c d : List ExtHeader) → AreLinked n (c ++ d) → AreLinked (leads_to n c) d
@@ -67,6 +75,13 @@ twice b t u a k =
     ap (λ x. slice_set (with_word x 4 u) 6 k) (word_set b 4 t 6 a (λ e. omega (arith, e)) (λ e. omega (arith, e)))
     ∙ (ap (λ x. slice_set x 6 k) (word_word (slice_set b 6 a) 4 t u ∙ sym (word_set b 4 u 6 a (λ e. omega (arith, e)) (λ e. omega (arith, e))))
     ∙ set-set (with_word b 4 u) 6 a k)
+
+-- A packet p can be fragmented after its first m bytes, the last next header field of which is at the offset l, and what
+-- follows them is r. The bytes f are its fragment from one offset to another.
+pub record IsRewritten (r : List ℕ) (id start end m l : ℕ) (p f : List ℕ) : Type 0 where
+  pub sent : IsSentIpv6 p m l
+  pub payload : drop m p ≡ r
+  pub fragment : IsIpv6Fragment p m l id (piece_from r start end) f
 
 -- A packet with the base header b, the headers c up to the fragmented part, and this part, the bytes r.
 module _ (s : List ℕ) (id start end : ℕ) (c : List ExtHeader) (sent : IsSentIpv6 s (40 + length (bytes_of c)) (link_after 40 c)) (part : IsIpv6Part s (40 + length (bytes_of c)) (link_after 40 c) id start end c) where
@@ -252,8 +267,40 @@ module _ (s : List ℕ) (id start end : ℕ) (c : List ExtHeader) (sent : IsSent
             (not_from_false (offset_bits (start / 256) low == 0) (ne_eqb (offset_bits (start / 256) low) 0 (λ e. other (omega (arith, e, offset_is start more part.units)))))
       ]
 
-  right : (w : Which) (m : Authentication) (room : ℕ) → without_fault w m q room ≡ None → has_error (dissected (without w q)).end ≡ false
-  right w m room e = without_error f a (bytes_of led ++ rest) f_split a_header f_parts (omega (arith, after_len, part.fits)) w m room e
+  base_bytes : AreBytes b
+  base_bytes = All-take (λ y. y < 256) 40 s sent.bytes
+
+  six : slice_index b 6 < 256
+  six = base_bytes 6 0 (omega (arith, b_len))
+
+  have : AllByRecursion HasBytes c
+  have = have_bytes (slice_index b 6) c six chain.headers chain.links (subst AreBytes (sym part.headers) (All-drop (λ y. y < 256) 40 (take n s) (All-take (λ y. y < 256) n s sent.bytes)))
+
+  -- The fragment, without an error, can be written with other headers, and has none then.
+  abbrev f_slice : Ipv6HeaderSlice
+  f_slice = record { slice = record { ref_ptr = (0, 0); now = a }; header = a_header }
+
+  f_base : IsBaseOf f (Some (Ipv6 f_slice))
+  f_base = base_some6 f f_slice a_header (prefix_of-append a (bytes_of led ++ rest) f f_split)
+
+  abbrev Ends : List ExtHeader → Type 0
+  Ends e = has_error (dissected (rewritten q e q.number q.payload)).end ≡ false
+
+  ends_without : (w : Which) (m : Authentication) (room : ℕ) → without_fault w m q room ≡ None → Ends (kept w q.headers)
+  ends_without w m room e = ap (λ (y : DissectedParts). has_error y.end) (dissects w m room f (Some (Ipv6 f_slice)) f_base e) ∙ (whole_packet q (none_first (packet_fault q) _ e).0).no_error
+
+  ends_inserted : (i : ℕ) (h : ExtHeader) (m : Authentication) (room : ℕ) → insertion_fault m i h q room ≡ None → Ends (inserted i h q.headers)
+  ends_inserted i h m room e = ap (λ (y : DissectedParts). has_error y.end) (insertion_dissects m i h room f (Some (Ipv6 f_slice)) f_base e) ∙ (whole_packet q (none_first (packet_fault q) _ e).0).no_error
+
+  ends_cleared : (m : Authentication) (room : ℕ) → clearing_fault m q room ≡ None → Ends (cleared_chain q.headers)
+  ends_cleared m room e = ap (λ (y : DissectedParts). has_error y.end) (clearing_dissects m room f (Some (Ipv6 f_slice)) f_base e) ∙ (whole_packet q (none_first (packet_fault q) _ e).0).no_error
+
+  fragment_fits : (e : List ExtHeader) (room : ℕ) → room_fault q e q.payload room ≡ None → length (bytes_of e) + length q.payload < 65536
+  fragment_fits e room accepted =
+      let stated : is_unstated q ≡ false = ap (λ y. not y && not (following_len q == 0)) f_parts.stated in
+      let field : rewritten_field q e q.payload ≡ length (bytes_of e) + length q.payload =
+      ap (λ y. length_field q.version y q.base (length (bytes_of e) + length q.payload)) stated ∙ ap (λ v. length_field v false q.base (length (bytes_of e) + length q.payload)) f_parts.version in
+      omega (arith, field_fits q e q.payload room accepted, field)
 
   -- New headers k before the fragmented part, and j, which are k but for the numbers that lead from one to the next.
   module _ (k j : List ExtHeader) (first : number_of_first j 44 ≡ number_of_first k 44) (same : linked_headers 44 j ≡ linked_headers 44 k) (are : AllByRecursion (λ h. IsHeader h.number h.bytes) k) where
@@ -287,32 +334,127 @@ module _ (s : List ℕ) (id start end : ℕ) (c : List ExtHeader) (sent : IsSent
         ∙ (ap (λ y. front_with 6 y k 44 ++ rest) (sym (word_word b 4 packet_len fragment_len))
         ∙ sym (made (rewritten p (k ++ d) p.number p.payload) (with_word b 4 packet_len) k g r packet_with (word_len b 4 packet_len ∙ b_len) are id start end))
 
+    -- The packet can be fragmented after its new headers, and this is its fragment.
+    abbrev whole : List ℕ
+    whole = rewritten p (k ++ d) p.number p.payload
+
+    payload_with : drop (40 + length (bytes_of k)) whole ≡ r
+    payload_with = dropped whole (with_word b 4 packet_len) k g r packet_with (word_len b 4 packet_len ∙ b_len) are
+
+    module _ (own : AllByRecursion HasBytes k) (small : packet_len < 65536) where
+      header_with : IsIpv6Header (with_word b 4 packet_len)
+      header_with = record {
+        version = ap (λ y. y / 16) (word_other b 4 packet_len 0 (λ e. cc) (λ e. cc)) ∙ header.version;
+        len = word_len b 4 packet_len ∙ b_len;
+      }
+
+      states_with : payload_length (with_word b 4 packet_len) ≡ packet_len
+      states_with = word_is b 4 packet_len (omega (arith, b_len)) small
+
+      sent_with : IsSentIpv6 whole (40 + length (bytes_of k)) (link_after 40 k)
+      sent_with = is_sent whole (with_word b 4 packet_len) k g r packet_with header_with are states_with (subst AreBytes (sym packet_with)
+          (front_bytes b packet_len g k r base_bytes small (leads_small (slice_index b 6) c six chain.headers have) own (All-drop (λ y. y < 256) n s sent.bytes)))
+
+      module _ (zero : NoZero (drop 1 k)) (none : list_any is_fragment_header k ≡ false) (fits : length (bytes_of k) + 8 + (end - start) ≤ 65535) (ends : Ends (j ++ later)) where
+        part_with : IsIpv6Part whole (40 + length (bytes_of k)) (link_after 40 k) id start end (linked_headers g k)
+        part_with = is_part whole (with_word b 4 packet_len) k g r packet_with header_with are states_with id start end n (link_after 40 c) s c part refl fits zero none
+
+        rewritten_with : IsRewritten r id start end (40 + length (bytes_of k)) (link_after 40 k) whole (rewritten q (j ++ later) q.number q.payload)
+        rewritten_with =
+            let all : List ℕ = ipv6_fragment_bytes whole (40 + length (bytes_of k)) (link_after 40 k) id start end in
+            let same : all ++ [] ≡ rewritten q (j ++ later) q.number q.payload = append-nil all ∙ sym alike in
+            record {
+              sent = sent_with;
+              payload = payload_with;
+              fragment = subst (λ (y : List ℕ). IsIpv6Fragment whole (40 + length (bytes_of k)) (link_after 40 k) id (piece_from y start end) (rewritten q (j ++ later) q.number q.payload)) payload_with
+                  (subst (λ (y : List ℕ). IsIpv6Fragment whole (40 + length (bytes_of k)) (link_after 40 k) id (piece_from (drop (40 + length (bytes_of k)) whole) start end) y) same
+                  (ipv6_made whole (40 + length (bytes_of k)) (link_after 40 k) id start end (linked_headers g k) sent_with part_with [] (λ zero. ap (λ y. has_error (dissected y).end) same ∙ ends)));
+            }
+
+  -- What is known of the headers that are written is known of those that they are.
+  abbrev Becomes : ℕ → ℕ → List ExtHeader → List ExtHeader → Type 0
+  Becomes m l e i = IsRewritten r id start end m l (rewritten p e p.number p.payload) (rewritten q i q.number q.payload)
+
+  becomes : (m l : ℕ) (e x i y : List ExtHeader) → e ≡ x → i ≡ y → Becomes m l x y → Becomes m l e i
+  becomes m l e x i y first second it = subst (λ (z : List ExtHeader). Becomes m l z i) (sym first) (subst (Becomes m l x) (sym second) it)
+
   -- with one more header
+  inserted_fragment : (i : ℕ) (h : ExtHeader) → IsInserted i h q → i ≤ length led
+  inserted_fragment i h it = before_fragment i led x found.0 fragmenting (ap (λ e. list_any fragments (take i e)) (sym f_headers) ∙ it.before)
+
+  q_inserted : (i : ℕ) (h : ExtHeader) → IsInserted i h q → inserted i h q.headers ≡ inserted i h led ++ later
+  q_inserted i h it = ap (inserted i h) f_headers ∙ inserted_append i h led later (inserted_fragment i h it)
+
+  p_inserted : (i : ℕ) (h : ExtHeader) → IsInserted i h q → inserted i h p.headers ≡ inserted i h c ++ d
+  p_inserted i h it = ap (inserted i h) headers ∙ inserted_append i h c d (omega (arith, inserted_fragment i h it, linked_count 44 c))
+
+  inserted_are : (i : ℕ) (h : ExtHeader) → IsInserted i h q → AllByRecursion (λ g. IsHeader g.number g.bytes) (inserted i h c)
+  inserted_are i h it = all_inserted (λ (g : ExtHeader). IsHeader g.number g.bytes) i c h chain.headers (header_is h.number h.bytes it.whole)
+
   pub inserts : (i : ℕ) (h : ExtHeader) → IsInserted i h q → rewritten q (inserted i h q.headers) q.number q.payload
       ≡ ipv6_fragment_bytes (rewritten p (inserted i h p.headers) p.number p.payload) (40 + length (bytes_of (inserted i h c))) (link_after 40 (inserted i h c)) id start end
   inserts i h it =
-      let within : i ≤ length led = before_fragment i led x found.0 fragmenting (ap (λ e. list_any fragments (take i e)) (sym f_headers) ∙ it.before) in
-      ap (λ e. rewritten q e q.number q.payload) (ap (inserted i h) f_headers ∙ inserted_append i h led later within)
-      ∙ (alike (inserted i h c) (inserted i h led) (first_inserted i 44 44 h c) (linked_inserted i 44 44 h c) (all_inserted (λ (g : ExtHeader). IsHeader g.number g.bytes) i c h chain.headers (header_is h.number h.bytes it.whole))
-      ∙ ap (λ e. ipv6_fragment_bytes (rewritten p e p.number p.payload) (40 + length (bytes_of (inserted i h c))) (link_after 40 (inserted i h c)) id start end)
-      (sym (ap (inserted i h) headers ∙ inserted_append i h c d (omega (arith, within, linked_count 44 c)))))
+      ap (λ e. rewritten q e q.number q.payload) (q_inserted i h it)
+      ∙ (alike (inserted i h c) (inserted i h led) (first_inserted i 44 44 h c) (linked_inserted i 44 44 h c) (inserted_are i h it)
+      ∙ ap (λ e. ipv6_fragment_bytes (rewritten p e p.number p.payload) (40 + length (bytes_of (inserted i h c))) (link_after 40 (inserted i h c)) id start end) (sym (p_inserted i h it)))
+
+  pub inserts_sent : (i : ℕ) (h : ExtHeader) (m : Authentication) (room : ℕ) → insertion_fault m i h q room ≡ None → AreBytes h.bytes → is_fragment_header h ≡ false → length s + length h.bytes ≤ 65575
+      → Becomes (40 + length (bytes_of (inserted i h c))) (link_after 40 (inserted i h c)) (inserted i h p.headers) (inserted i h q.headers)
+  inserts_sent i h m room accepted bytes other fits =
+      let it : IsInserted i h q = insertion m i h q room accepted in
+      let free : header_fault m i h q ≡ None = (none_first (header_fault m i h q) _ (none_first (packet_fault q) _ accepted).1).0 in
+      let k : List ExtHeader = inserted i h c in
+      let grown : length (bytes_of k) ≡ length (bytes_of c) + length h.bytes = inserted_len i c h in
+      let small : length (bytes_of k) + length r < 65536 = omega (arith, grown, fits, length-drop n s, sent.within) in
+      let zero : NoZero (drop 1 k) =
+      zero_inserted i h c later 44 chain.zero_only_first (λ first. ap (λ e. list_any is_options (take 1 e)) (sym f_headers) ∙ insertion_first m i h q free first) (not_options m i h q free) in
+      let field : length (bytes_of (inserted i h q.headers)) + length q.payload < 65536 = fragment_fits (inserted i h q.headers) room (room_left m i h q room accepted) in
+      let size : length (bytes_of k) + 8 + (end - start) ≤ 65535 =
+      omega (arith, field, grown, inserted_len i q.headers h, after_len, ap length f_parts.bytes, length-append (bytes_of q.headers) q.payload) in
+      becomes (40 + length (bytes_of k)) (link_after 40 k) (inserted i h p.headers) (k ++ d) (inserted i h q.headers) (inserted i h led ++ later) (p_inserted i h it) (q_inserted i h it)
+      (rewritten_with k (inserted i h led) (first_inserted i 44 44 h c) (linked_inserted i 44 44 h c) (inserted_are i h it)
+      (all_inserted HasBytes i c h have (header_small h.number h.bytes (header_is h.number h.bytes it.whole), bytes)) small zero (none_inserted is_fragment_header i c h other part.none) size
+      (subst Ends (q_inserted i h it) (ends_inserted i h m room accepted)))
 
   -- with cleared reserved bits
+  q_cleared : reserved_fragmented false q.headers ≡ false → cleared_chain q.headers ≡ cleared_chain led ++ later
+  q_cleared free =
+      ap cleared_chain f_headers ∙ (cleared_append led later ∙ ap (λ e. cleared_chain led ++ e) (later_stays led g start id more found.0 part.units fragmenting (ap (reserved_fragmented false) (sym f_headers) ∙ free)))
+
+  cleared_size : 40 + length (bytes_of (cleared_chain c)) ≡ n
+  cleared_size = ap (λ m. 40 + m) (cleared_len c)
+
+  cleared_place : link_after 40 (cleared_chain c) ≡ link_after 40 c
+  cleared_place = link_is b (cleared_chain c) b_len ∙ (cleared_link 6 b c ∙ sym (link_is b c b_len))
+
+  cleared_are : IsChain (slice_index b 6) (cleared_chain c)
+  cleared_are = cleared_is_chain (slice_index b 6) c chain
+
   pub clears : reserved_fragmented false q.headers ≡ false → cleared_chain p.headers ≡ cleared_chain c ++ d → rewritten q (cleared_chain q.headers) q.number q.payload
       ≡ ipv6_fragment_bytes (rewritten p (cleared_chain p.headers) p.number p.payload) n (link_after 40 c) id start end
   clears free which =
       let k : List ExtHeader = cleared_chain c in
-      let len : 40 + length (bytes_of k) ≡ n = ap (λ m. 40 + m) (cleared_len c) in
-      let place : link_after 40 k ≡ link_after 40 c = link_is b k b_len ∙ (cleared_link 6 b c ∙ sym (link_is b c b_len)) in
-      ap (λ e. rewritten q e q.number q.payload)
-      (ap cleared_chain f_headers ∙ (cleared_append led later ∙ ap (λ e. cleared_chain led ++ e) (later_stays led g start id more found.0 part.units fragmenting (ap (reserved_fragmented false) (sym f_headers) ∙ free))))
-      ∙ (alike k (cleared_chain led) (first_led 44 44 c) (linked_cleared 44 44 c) (cleared_is_chain (slice_index b 6) c chain).headers
+      ap (λ e. rewritten q e q.number q.payload) (q_cleared free)
+      ∙ (alike k (cleared_chain led) (first_led 44 44 c) (linked_cleared 44 44 c) cleared_are.headers
       ∙ (ap (λ e. ipv6_fragment_bytes (rewritten p e p.number p.payload) (40 + length (bytes_of k)) (link_after 40 k) id start end) (sym which)
-      ∙ (ap (λ m. ipv6_fragment_bytes (rewritten p (cleared_chain p.headers) p.number p.payload) m (link_after 40 k) id start end) len
-      ∙ ap (λ l. ipv6_fragment_bytes (rewritten p (cleared_chain p.headers) p.number p.payload) n l id start end) place)))
+      ∙ (ap (λ m. ipv6_fragment_bytes (rewritten p (cleared_chain p.headers) p.number p.payload) m (link_after 40 k) id start end) cleared_size
+      ∙ ap (λ l. ipv6_fragment_bytes (rewritten p (cleared_chain p.headers) p.number p.payload) n l id start end) cleared_place)))
+
+  pub clears_sent : (m : Authentication) (room : ℕ) → clearing_fault m q room ≡ None → cleared_chain p.headers ≡ cleared_chain c ++ d → Becomes n (link_after 40 c) (cleared_chain p.headers) (cleared_chain q.headers)
+  clears_sent m room accepted which =
+      let free : reserved_fragmented false q.headers ≡ false = clearing m q room accepted in
+      let k : List ExtHeader = cleared_chain c in
+      let small : length (bytes_of k) + length r < 65536 = omega (arith, cleared_len c, short6 s n (link_after 40 c) sent, length-drop n s, sent.within) in
+      let fits : length (bytes_of k) + 8 + (end - start) ≤ 65535 = omega (arith, cleared_len c, part.fits) in
+      let it : Becomes (40 + length (bytes_of k)) (link_after 40 k) (k ++ d) (cleared_chain led ++ later) =
+      rewritten_with k (cleared_chain led) (first_led 44 44 c) (linked_cleared 44 44 c) cleared_are.headers (cleared_bytes c have) small cleared_are.zero_only_first (none_cleared c ∙ part.none) fits
+      (subst Ends (q_cleared free) (ends_cleared m room accepted)) in
+      subst (λ (y : ℕ). Becomes y (link_after 40 c) (cleared_chain p.headers) (cleared_chain q.headers)) cleared_size
+      (subst (λ (l : ℕ). Becomes (40 + length (bytes_of k)) l (cleared_chain p.headers) (cleared_chain q.headers)) cleared_place
+      (becomes (40 + length (bytes_of k)) (link_after 40 k) (cleared_chain p.headers) (k ++ d) (cleared_chain q.headers) (cleared_chain led ++ later) which (q_cleared free) it))
 
   -- without headers
-  module _ (w : Which) (which : kept w p.headers ≡ kept w c ++ d) (none : any_selected fragments w 0 q.headers ≡ false) (free : selects_fragmented w 0 false q.headers ≡ false) where
+  module _ (w : Which) (which : kept w p.headers ≡ kept w c ++ d) (m : Authentication) (room : ℕ) (accepted : without_fault w m q room ≡ None) where
     abbrev k : List ExtHeader
     k = kept w c
 
@@ -322,108 +464,80 @@ module _ (s : List ℕ) (id start end : ℕ) (c : List ExtHeader) (sent : IsSent
     kept_headers : AllByRecursion (λ h. IsHeader h.number h.bytes) k
     kept_headers = all_kept (λ (h : ExtHeader). IsHeader h.number h.bytes) w 0 c chain.headers
 
-    f_kept : kept w q.headers ≡ j ++ later
-    f_kept = ap (kept w) f_headers ∙ kept_before w 0 false led x found.0 fragmenting
-        (ap (any_selected fragments w 0) (sym f_headers) ∙ none) (ap (selects_fragmented w 0 false) (sym f_headers) ∙ free)
-
-    abbrev v : ℕ
-    v = length (bytes_of k) + length r
-
-    packet_without : without w p ≡ front_with 6 (with_word b 4 v) k g ++ r
-    packet_without = ap (λ e. rewritten p e p.number p.payload) which ∙ packet_with k j (first_kept w 0 44 44 c) (linked_kept w 0 44 44 c) kept_headers
+    q_kept : kept w q.headers ≡ j ++ later
+    q_kept =
+        let allowed : IsFree w q = free w m q room accepted in
+        ap (kept w) f_headers ∙ kept_before w 0 false led x found.0 fragmenting
+        (ap (any_selected fragments w 0) (sym f_headers) ∙ allowed.alone) (ap (selects_fragmented w 0 false) (sym f_headers) ∙ allowed.unfragmented)
 
     pub commutes : without w q ≡ ipv6_fragment_bytes (without w p) (40 + length (bytes_of k)) (link_after 40 k) id start end
     commutes =
-        ap (λ e. rewritten q e q.number q.payload) f_kept
+        ap (λ e. rewritten q e q.number q.payload) q_kept
         ∙ (alike k j (first_kept w 0 44 44 c) (linked_kept w 0 44 44 c) kept_headers
         ∙ ap (λ e. ipv6_fragment_bytes (rewritten p e p.number p.payload) (40 + length (bytes_of k)) (link_after 40 k) id start end) (sym which))
 
-    -- The packet can be fragmented after its new headers.
-    v_small : v < 65536
-    v_small = omega (arith, kept_less w 0 c, short6 s n (link_after 40 c) sent, length-drop n s, sent.within)
+    pub commutes_sent : Becomes (40 + length (bytes_of k)) (link_after 40 k) (kept w p.headers) (kept w q.headers)
+    commutes_sent =
+        let small : length (bytes_of k) + length r < 65536 = omega (arith, kept_less w 0 c, short6 s n (link_after 40 c) sent, length-drop n s, sent.within) in
+        becomes (40 + length (bytes_of k)) (link_after 40 k) (kept w p.headers) (k ++ d) (kept w q.headers) (j ++ later) which q_kept
+        (rewritten_with k j (first_kept w 0 44 44 c) (linked_kept w 0 44 44 c) kept_headers (all_kept HasBytes w 0 c have) small
+        (zero_kept w 0 c chain.zero_only_first) (none_among is_fragment_header w 0 c part.none) (omega (arith, kept_less w 0 c, part.fits)) (subst Ends q_kept (ends_without w m room accepted)))
 
-    v_header : IsIpv6Header (with_word b 4 v)
-    v_header = record {
-      version = ap (λ y. y / 16) (word_other b 4 v 0 (λ e. cc) (λ e. cc)) ∙ header.version;
-      len = word_len b 4 v ∙ b_len;
-    }
-
-    v_states : payload_length (with_word b 4 v) ≡ length (bytes_of k) + length r
-    v_states = word_is b 4 v (omega (arith, b_len)) v_small
-
-    base_bytes : AreBytes b
-    base_bytes = All-take (λ y. y < 256) 40 s sent.bytes
-
-    six : slice_index b 6 < 256
-    six = base_bytes 6 0 (omega (arith, b_len))
-
-    have : AllByRecursion HasBytes c
-    have = have_bytes (slice_index b 6) c six chain.headers chain.links (subst AreBytes (sym part.headers) (All-drop (λ y. y < 256) 40 (take n s) (All-take (λ y. y < 256) n s sent.bytes)))
-
-    pub packet_sent : IsSentIpv6 (without w p) (40 + length (bytes_of k)) (link_after 40 k)
-    packet_sent = is_sent (without w p) (with_word b 4 v) k g r packet_without v_header kept_headers v_states (subst AreBytes (sym packet_without)
-        (front_bytes b v g k r base_bytes v_small (leads_small (slice_index b 6) c six chain.headers have) (all_kept HasBytes w 0 c have) (All-drop (λ y. y < 256) n s sent.bytes)))
-
-    pub payload_stays : drop (40 + length (bytes_of k)) (without w p) ≡ r
-    payload_stays = dropped (without w p) (with_word b 4 v) k g r packet_without (word_len b 4 v ∙ b_len) kept_headers
-
-    pub packet_part : IsIpv6Part (without w p) (40 + length (bytes_of k)) (link_after 40 k) id start end (linked_headers g k)
-    packet_part = is_part (without w p) (with_word b 4 v) k g r packet_without v_header kept_headers v_states id start end n (link_after 40 c) s c part refl (kept_less w 0 c) refl
-        (zero_kept w 0 c chain.zero_only_first) (none_among is_fragment_header w 0 c part.none)
-
-    pub fragment_of_it : has_error (dissected (without w q)).end ≡ false
-        → IsIpv6Fragment (without w p) (40 + length (bytes_of k)) (link_after 40 k) id (piece_from r start end) (without w q)
-    fragment_of_it right =
-        let all : List ℕ = ipv6_fragment_bytes (without w p) (40 + length (bytes_of k)) (link_after 40 k) id start end in
-        let same : all ++ [] ≡ without w q = append-nil all ∙ sym commutes in
-        subst (λ (y : List ℕ). IsIpv6Fragment (without w p) (40 + length (bytes_of k)) (link_after 40 k) id (piece_from y start end) (without w q)) payload_stays
-        (subst (λ (y : List ℕ). IsIpv6Fragment (without w p) (40 + length (bytes_of k)) (link_after 40 k) id (piece_from (drop (40 + length (bytes_of k)) (without w p)) start end) y) same
-        (ipv6_made (without w p) (40 + length (bytes_of k)) (link_after 40 k) id start end (linked_headers g k) packet_sent packet_part []
-        (λ zero. ap (λ y. has_error (dissected y).end) same ∙ right)))
-
--- What becomes of the packet and its fragment without the selected headers.
-pub record IsRewritten (s : List ℕ) (n id start end : ℕ) (c : List ExtHeader) (w : Which) (f : List ℕ) : Type 0 where
-  pub bytes : without w (dissected f) ≡ ipv6_fragment_bytes (without w (dissected s)) (40 + length (bytes_of (kept w c))) (link_after 40 (kept w c)) id start end
-  pub sent : IsSentIpv6 (without w (dissected s)) (40 + length (bytes_of (kept w c))) (link_after 40 (kept w c))
-  pub payload : drop (40 + length (bytes_of (kept w c))) (without w (dissected s)) ≡ drop n s
-  pub fragment : IsIpv6Fragment (without w (dissected s)) (40 + length (bytes_of (kept w c))) (link_after 40 (kept w c)) id (piece_from (drop n s) start end) (without w (dissected f))
-
-pub rewritten_alike : (s : List ℕ) (n link id start end : ℕ) (c : List ExtHeader) (w : Which) (a : Authentication) (room : ℕ) → IsSentIpv6 s n link → IsIpv6Part s n link id start end c
-    → kept w (dissected s).headers ≡ kept w c ++ drop (length c) (dissected s).headers → without_fault w a (dissected (ipv6_fragment_bytes s n link id start end)) room ≡ None
-    → IsRewritten s n id start end c w (ipv6_fragment_bytes s n link id start end)
-rewritten_alike s n link id start end c w a room sent part which accepted =
+-- The first n bytes of a packet that is fragmented after the headers c, and the offset of the last next header field in them.
+of_headers : (s : List ℕ) (n link id start end : ℕ) (c : List ExtHeader) (P : ℕ → ℕ → Type 0) → IsSentIpv6 s n link → IsIpv6Part s n link id start end c
+    → (IsSentIpv6 s (40 + length (bytes_of c)) (link_after 40 c) → IsIpv6Part s (40 + length (bytes_of c)) (link_after 40 c) id start end c → P (40 + length (bytes_of c)) (link_after 40 c)) → P n link
+of_headers s n link id start end c P sent part law =
     let size : n ≡ 40 + length (bytes_of c) = omega (arith, ap length part.headers, length-drop 40 (take n s), length-take n s, sent.within, sent.base) in
-    subst (λ (y : ℕ). IsSentIpv6 s y link → IsIpv6Part s y link id start end c → without_fault w a (dissected (ipv6_fragment_bytes s y link id start end)) room ≡ None → IsRewritten s y id start end c w (ipv6_fragment_bytes s y link id start end)) (sym size)
-    (subst (λ (l : ℕ). IsSentIpv6 s (40 + length (bytes_of c)) l → IsIpv6Part s (40 + length (bytes_of c)) l id start end c → without_fault w a (dissected (ipv6_fragment_bytes s (40 + length (bytes_of c)) l id start end)) room ≡ None
-    → IsRewritten s (40 + length (bytes_of c)) id start end c w (ipv6_fragment_bytes s (40 + length (bytes_of c)) l id start end)) part.place
-    (λ t i e.
-    let y : List ℕ = ipv6_fragment_bytes s (40 + length (bytes_of c)) (link_after 40 c) id start end in
-    let allowed : IsFree w (dissected y) = free w a (dissected y) room e in
-    record {
-      bytes = commutes s id start end c t i w which allowed.alone allowed.unfragmented;
-      sent = packet_sent s id start end c t i w which allowed.alone allowed.unfragmented;
-      payload = payload_stays s id start end c t i w which allowed.alone allowed.unfragmented;
-      fragment = fragment_of_it s id start end c t i w which allowed.alone allowed.unfragmented (right s id start end c t i w a room e);
-    }))
-    sent part accepted
+    let Law : ℕ → ℕ → Type 0 = λ y l. IsSentIpv6 s y l → IsIpv6Part s y l id start end c → P y l in
+    subst (λ (y : ℕ). Law y link) (sym size) (subst (λ (l : ℕ). Law (40 + length (bytes_of c)) l) part.place law) sent part
 
-pub inserted_alike : (s : List ℕ) (n link id start end : ℕ) (c : List ExtHeader) (i : ℕ) (h : ExtHeader) (a : Authentication) (room : ℕ) → IsSentIpv6 s n link → IsIpv6Part s n link id start end c
-    → let p = dissected s in let q = dissected (ipv6_fragment_bytes s n link id start end) in insertion_fault a i h q room ≡ None
-    → rewritten q (inserted i h q.headers) q.number q.payload
-    ≡ ipv6_fragment_bytes (rewritten p (inserted i h p.headers) p.number p.payload) (40 + length (bytes_of (inserted i h c))) (link_after 40 (inserted i h c)) id start end
-inserted_alike s n link id start end c i h a room sent part accepted =
-    let size : n ≡ 40 + length (bytes_of c) = omega (arith, ap length part.headers, length-drop 40 (take n s), length-take n s, sent.within, sent.base) in
-    let Law : ℕ → ℕ → Type 0 = λ y l. IsSentIpv6 s y l → IsIpv6Part s y l id start end c → (let q = dissected (ipv6_fragment_bytes s y l id start end) in insertion_fault a i h q room ≡ None → rewritten q (inserted i h q.headers) q.number q.payload
-    ≡ ipv6_fragment_bytes (rewritten (dissected s) (inserted i h (dissected s).headers) (dissected s).number (dissected s).payload) (40 + length (bytes_of (inserted i h c))) (link_after 40 (inserted i h c)) id start end) in
-    subst (λ (y : ℕ). Law y link) (sym size) (subst (λ (l : ℕ). Law (40 + length (bytes_of c)) l) part.place
-    (λ t m e. inserts s id start end c t m i h (insertion a i h (dissected (ipv6_fragment_bytes s (40 + length (bytes_of c)) (link_after 40 c) id start end)) room e))) sent part accepted
+-- the packet and its fragment
+module _ (s : List ℕ) (n link id start end : ℕ) (c : List ExtHeader) where
+  abbrev packet : DissectedParts
+  packet = dissected s
 
-pub cleared_alike : (s : List ℕ) (n link id start end : ℕ) (c : List ExtHeader) (a : Authentication) (room : ℕ) → IsSentIpv6 s n link → IsIpv6Part s n link id start end c
-    → let p = dissected s in let q = dissected (ipv6_fragment_bytes s n link id start end) in cleared_chain p.headers ≡ cleared_chain c ++ drop (length c) p.headers → clearing_fault a q room ≡ None
-    → rewritten q (cleared_chain q.headers) q.number q.payload ≡ ipv6_fragment_bytes (rewritten p (cleared_chain p.headers) p.number p.payload) n link id start end
-cleared_alike s n link id start end c a room sent part which accepted =
-    let size : n ≡ 40 + length (bytes_of c) = omega (arith, ap length part.headers, length-drop 40 (take n s), length-take n s, sent.within, sent.base) in
-    let Law : ℕ → ℕ → Type 0 = λ y l. IsSentIpv6 s y l → IsIpv6Part s y l id start end c → (let q = dissected (ipv6_fragment_bytes s y l id start end) in clearing_fault a q room ≡ None → rewritten q (cleared_chain q.headers) q.number q.payload
-    ≡ ipv6_fragment_bytes (rewritten (dissected s) (cleared_chain (dissected s).headers) (dissected s).number (dissected s).payload) y l id start end) in
-    subst (λ (y : ℕ). Law y link) (sym size) (subst (λ (l : ℕ). Law (40 + length (bytes_of c)) l) part.place
-    (λ t m e. clears s id start end c t m (clearing a (dissected (ipv6_fragment_bytes s (40 + length (bytes_of c)) (link_after 40 c) id start end)) room e) which)) sent part accepted
+  abbrev fragment_of : ℕ → ℕ → DissectedParts
+  fragment_of y l = dissected (ipv6_fragment_bytes s y l id start end)
+
+  abbrev written : DissectedParts → List ExtHeader → List ℕ
+  written q e = rewritten q e q.number q.payload
+
+  module _ (w : Which) (a : Authentication) (room : ℕ) (sent : IsSentIpv6 s n link) (part : IsIpv6Part s n link id start end c) (which : kept w packet.headers ≡ kept w c ++ drop (length c) packet.headers) where
+    pub without_alike : without_fault w a (fragment_of n link) room ≡ None → without w (fragment_of n link) ≡ ipv6_fragment_bytes (without w packet) (40 + length (bytes_of (kept w c))) (link_after 40 (kept w c)) id start end
+    without_alike = of_headers s n link id start end c
+        (λ y l. without_fault w a (fragment_of y l) room ≡ None → without w (fragment_of y l) ≡ ipv6_fragment_bytes (without w packet) (40 + length (bytes_of (kept w c))) (link_after 40 (kept w c)) id start end)
+        sent part (λ t i e. commutes s id start end c t i w which a room e)
+
+    pub without_sent : without_fault w a (fragment_of n link) room ≡ None
+        → IsRewritten (drop n s) id start end (40 + length (bytes_of (kept w c))) (link_after 40 (kept w c)) (without w packet) (without w (fragment_of n link))
+    without_sent = of_headers s n link id start end c
+        (λ y l. without_fault w a (fragment_of y l) room ≡ None → IsRewritten (drop y s) id start end (40 + length (bytes_of (kept w c))) (link_after 40 (kept w c)) (without w packet) (without w (fragment_of y l)))
+        sent part (λ t i e. commutes_sent s id start end c t i w which a room e)
+
+  module _ (i : ℕ) (h : ExtHeader) (a : Authentication) (room : ℕ) (sent : IsSentIpv6 s n link) (part : IsIpv6Part s n link id start end c) where
+    pub inserted_alike : insertion_fault a i h (fragment_of n link) room ≡ None → written (fragment_of n link) (inserted i h (fragment_of n link).headers)
+        ≡ ipv6_fragment_bytes (written packet (inserted i h packet.headers)) (40 + length (bytes_of (inserted i h c))) (link_after 40 (inserted i h c)) id start end
+    inserted_alike = of_headers s n link id start end c
+        (λ y l. insertion_fault a i h (fragment_of y l) room ≡ None → written (fragment_of y l) (inserted i h (fragment_of y l).headers)
+        ≡ ipv6_fragment_bytes (written packet (inserted i h packet.headers)) (40 + length (bytes_of (inserted i h c))) (link_after 40 (inserted i h c)) id start end)
+        sent part (λ t m e. inserts s id start end c t m i h (insertion a i h (fragment_of (40 + length (bytes_of c)) (link_after 40 c)) room e))
+
+    pub inserted_sent : AreBytes h.bytes → h.number ≢ 44 → length s + length h.bytes ≤ 65575 → insertion_fault a i h (fragment_of n link) room ≡ None
+        → IsRewritten (drop n s) id start end (40 + length (bytes_of (inserted i h c))) (link_after 40 (inserted i h c)) (written packet (inserted i h packet.headers)) (written (fragment_of n link) (inserted i h (fragment_of n link).headers))
+    inserted_sent bytes other fits = of_headers s n link id start end c
+        (λ y l. insertion_fault a i h (fragment_of y l) room ≡ None
+        → IsRewritten (drop y s) id start end (40 + length (bytes_of (inserted i h c))) (link_after 40 (inserted i h c)) (written packet (inserted i h packet.headers)) (written (fragment_of y l) (inserted i h (fragment_of y l).headers)))
+        sent part (λ t m e. inserts_sent s id start end c t m i h a room e bytes (ne_eqb h.number 44 other) fits)
+
+  module _ (a : Authentication) (room : ℕ) (sent : IsSentIpv6 s n link) (part : IsIpv6Part s n link id start end c) (which : cleared_chain packet.headers ≡ cleared_chain c ++ drop (length c) packet.headers) where
+    pub cleared_alike : clearing_fault a (fragment_of n link) room ≡ None
+        → written (fragment_of n link) (cleared_chain (fragment_of n link).headers) ≡ ipv6_fragment_bytes (written packet (cleared_chain packet.headers)) n link id start end
+    cleared_alike = of_headers s n link id start end c
+        (λ y l. clearing_fault a (fragment_of y l) room ≡ None → written (fragment_of y l) (cleared_chain (fragment_of y l).headers) ≡ ipv6_fragment_bytes (written packet (cleared_chain packet.headers)) y l id start end)
+        sent part (λ t m e. clears s id start end c t m (clearing a (fragment_of (40 + length (bytes_of c)) (link_after 40 c)) room e) which)
+
+    pub cleared_sent : clearing_fault a (fragment_of n link) room ≡ None
+        → IsRewritten (drop n s) id start end n link (written packet (cleared_chain packet.headers)) (written (fragment_of n link) (cleared_chain (fragment_of n link).headers))
+    cleared_sent = of_headers s n link id start end c
+        (λ y l. clearing_fault a (fragment_of y l) room ≡ None → IsRewritten (drop y s) id start end y l (written packet (cleared_chain packet.headers)) (written (fragment_of y l) (cleared_chain (fragment_of y l).headers)))
+        sent part (λ t m e. clears_sent s id start end c t m a room e which)

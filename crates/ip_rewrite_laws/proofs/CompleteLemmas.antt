@@ -1,32 +1,23 @@
 -- IPv6 packets of which all stated bytes are there, without padding, with other headers.
-use Rattle.ip_spec.proofs.Common.{◌≡◌, ℕ, ◌+◌, ◌≤◌, ◌<◌, Bool, false, List, ◌++◌, length, drop, refl, IsPrefix, IsHeader, sym, ◌∙◌, ap, arith, inr, true, cond-false, ne_eqb, is_some, ◌==◌, slice_set, slice_index, length-append, append_assoc, subst, drop-append_seam, Option, None, Some, AreLinked, ExtHeader, bytes_of, leads_to}
+use Rattle.ip_spec.proofs.Common.{◌≡◌, ℕ, ◌+◌, ◌≤◌, List, ◌++◌, length, drop, refl, sym, ◌∙◌, ap, arith, inr, true, cond-false, ne_eqb, is_some, ◌==◌, slice_set, slice_index, length-append, append_assoc, subst, drop-append_seam, Option, None, Some, AreLinked, ExtHeader, bytes_of, leads_to}
 use Rattle.std.proofs.lemmas.Grind.{flat_map-append}
 use Rattle.ip_base.specs.Checksum.{with_word}
 use Rattle.ip_base.specs.Ipv6Header.{IsIpv6Header, payload_length, ipv6_next_header}
 use Rattle.ip_spec.proofs.PrefixLemmas.{prefix-append, prefix_of-append}
 use Rattle.ip_dissect.specs.Dissection.{DissectedParts, dissected, ipv6_dissected}
-use Rattle.ip_dissect.specs.End.{has_error}
 use Rattle.ip_dissect.specs.Extent.{after_base, ipv6_stated, packet_bytes}
 use Rattle.ip_dissect.specs.Later.{chain_to_later}
-use Rattle.ip_dissect.specs.Outline.{is_later_end}
-use Rattle.ip_dissect.proofs.DissectedLemmas.{BeginIpv6, begun6}
+use Rattle.ip_dissect.proofs.DissectedLemmas.{begun6}
 use Rattle.ip_dissect.proofs.LaterLemmas.{chain_to_later-longest}
 use Rattle.ip_rewrite.specs.Headers.{number_of_first, linked_headers}
 use Rattle.ip_rewrite.specs.Jumbogram.{stating_at}
 use Rattle.ip_rewrite.specs.Rewritten.{rewritten, joined}
-use Rattle.ip_rewrite.specs.Selection.{kept}
-use Rattle.ip_rewrite.specs.Without.{packet_fault, without, without_fault}
 use Rattle.ip_rewrite.specs.Writing.{front_with}
-use Rattle.ip_rewrite.specs.declared.which.Authentication.{Authentication}
-use Rattle.ip_rewrite.specs.declared.which.Which.{Which}
-use Rattle.ip_rewrite.proofs.ChainLemmas.{all_kept, zero_kept, later_kept, demand_kept}
-use Rattle.ip_rewrite.proofs.DissectLemmas.{none_first, IsWholeChain, whole_chain6}
 use Rattle.ip_rewrite.proofs.FrontLemmas.{first_is, linked_same}
-use Rattle.ip_rewrite.proofs.Ipv6Lemmas.{all_stated, end_after, sent6, sent6_dissected}
+use Rattle.ip_rewrite.proofs.Ipv6Lemmas.{all_stated}
 use Rattle.ip_rewrite.proofs.JumbogramLemmas.{stated_no_jumbogram}
 use Rattle.ip_rewrite.proofs.RestoringLemmas.{word_set}
-use Rattle.ip_rewrite.proofs.SurveyLemmas.{kept_less}
-use Rattle.ip_rewrite_laws.proofs.SelectionLemmas.{IsFree, free, first_append, linked_append}
+use Rattle.ip_rewrite_laws.proofs.SelectionLemmas.{first_append, linked_append}
 
 -- The packet p has this base header, and its headers, which are a chain, and payload are the bytes y.
 pub record IsComplete (b y : List ℕ) (p : DissectedParts) : Type 0 where
@@ -109,27 +100,3 @@ rewritten_front p c d g x six stated links number bytes =
     ∙ (ap (λ y. front ++ y ++ q) (flat_map-append (λ (h : ExtHeader). h.bytes) (linked_headers g c) d)
     ∙ (ap (λ y. y ++ q) (sym (append_assoc front (bytes_of (linked_headers g c)) (bytes_of d)))
     ∙ (append_assoc (front ++ bytes_of (linked_headers g c)) (bytes_of d) q ∙ ap (λ y. front ++ bytes_of (linked_headers g c) ++ y) bytes)))))
-
-no_error_after : (l : Bool) → has_error (end_after l) ≡ false
-no_error_after true = refl
-no_error_after false = refl
-
--- The headers of a complete packet still end without an error if some are left out.
-pub without_error : (s b y : List ℕ) → s ≡ b ++ y → IsIpv6Header b → IsComplete b y (dissected s) → length y < 65536 → (w : Which) (a : Authentication) (room : ℕ) → without_fault w a (dissected s) room ≡ None
-    → has_error (dissected (without w (dissected s))).end ≡ false
-without_error s b y is header parts fits w a room e =
-    let p : DissectedParts = dissected s in
-    let prefix : IsPrefix b s = prefix_of-append b y s is in
-    let begin : BeginIpv6 s b = record { header = header; prefix = prefix; is = begun6 s b header prefix } in
-    let chain : IsWholeChain p = whole_chain6 s b begin (none_first (packet_fault p) _ e).0 in
-    let allowed : IsFree w p = free w a p room e in
-    let c : List ExtHeader = kept w p.headers in
-    let t : ℕ = length (bytes_of c) + length p.payload in
-    let small : t < 65536 = omega (arith, kept_less w 0 p.headers, ap length parts.bytes, length-append (bytes_of p.headers) p.payload, fits) in
-    let written : without w p ≡ sent6 b header c p.number t p.payload =
-    rewritten6 p c p.number p.payload parts.version parts.stated
-    ∙ ap (λ x. with_word (slice_set x 6 (number_of_first c p.number)) 4 t ++ bytes_of (linked_headers p.number c) ++ p.payload) parts.base in
-    ap (λ x. has_error (dissected x).end) written
-    ∙ (ap (λ (x : DissectedParts). has_error x.end) (sent6_dissected b header c p.number t p.payload (is_later_end p.end) (all_kept (λ (h : ExtHeader). IsHeader h.number h.bytes) w 0 p.headers chain.chain.headers)
-    (zero_kept w 0 p.headers chain.chain.zero_only_first) (later_kept w 0 p.headers allowed.alone ∙ chain.later) (demand_kept w 0 p.headers chain.demand) (chain.ipv6 parts.version) small (inr refl))
-    ∙ no_error_after (is_later_end p.end))

@@ -1,11 +1,12 @@
 -- A header that is inserted before a fragment header.
-use Rattle.ip_spec.proofs.Common.{◌≡◌, ℕ, zero, suc, ◌≤◌, List, [], ◌∷◌, ◌++◌, length, take, drop, refl, sym, ◌∙◌, ap, arith, true, false, false≢true, list_any, take-append-le, drop-append-le, append_assoc, None, ExtHeader}
+use Rattle.ip_spec.proofs.Common.{◌≡◌, ℕ, zero, suc, ◌≤◌, List, [], ◌∷◌, ◌++◌, length, take, drop, refl, sym, ◌∙◌, ap, arith, common_steps, Bool, true, false, false≢true, ◌&&◌, ◌||◌, ◌==◌, not, nat_lt, if◌then◌else◌, is_empty, list_any, take-append-le, drop-append-le, append_assoc, None, ExtHeader}
 use Rattle.std.proofs.lemmas.Bool.{or_parts}
 use Rattle.std.proofs.lemmas.List.{set-set}
 use Rattle.ip_dissect.specs.Dissection.{DissectedParts}
-use Rattle.ip_dissect.specs.Fragment.{fragments}
-use Rattle.ip_rewrite.specs.Headers.{number_of_first, leading_to, linked_headers}
-use Rattle.ip_rewrite.specs.Insertion.{inserted, header_fault, insertion_fault}
+use Rattle.ip_dissect.specs.Fragment.{fragments, is_fragment_header}
+use Rattle.ip_rewrite.specs.Headers.{is_options, number_of_first, leading_to, linked_headers}
+use Rattle.ip_rewrite.specs.Insertion.{inserted, header_fault, insertion_fault, is_misplaced}
+use Rattle.ip_rewrite.specs.Rewritten.{jumbo_fault, room_fault}
 use Rattle.ip_rewrite.specs.Without.{packet_fault}
 use Rattle.ip_rewrite.specs.declared.which.Authentication.{Authentication}
 use Rattle.ip_rewrite.proofs.DissectLemmas.{none_first}
@@ -58,3 +59,19 @@ pub before_fragment : (i : ℕ) (c : List ExtHeader) (x : ExtHeader) (d : List E
 before_fragment zero c x d own none = omega arith
 before_fragment (suc i) [] x d own none = absurd (false≢true (sym (or_parts (fragments x) (list_any fragments (take i d)) none).0 ∙ own))
 before_fragment (suc i) (g ∷ c) x d own none = omega (arith, before_fragment i c x d own (or_parts (fragments g) (list_any fragments (take i (c ++ x ∷ d))) none).1)
+
+pub room_left : (a : Authentication) (i : ℕ) (h : ExtHeader) (p : DissectedParts) (room : ℕ) → insertion_fault a i h p room ≡ None → room_fault p (inserted i h p.headers) p.payload room ≡ None
+room_left a i h p room e =
+    let second = none_first (header_fault a i h p) _ (none_first (packet_fault p) _ e).1 in
+    (none_first (jumbo_fault (is_fragment_header h) p) _ second.1).1
+
+-- No hop-by-hop options follow another header.
+misplaced : (a : Authentication) (i : ℕ) (h : ExtHeader) (p : DissectedParts) → header_fault a i h p ≡ None → is_misplaced i h p ≡ false
+misplaced a i h p e = grind (arith, common_steps)
+
+later_options : (a b : Bool) (i : ℕ) (x y : Bool) → (a || b || (if i == 0 then x else y)) ≡ false → (i ≡ 0 → ⊥) → y ≡ false
+later_options a b i x y e later = grind (arith, common_steps)
+
+pub not_options : (a : Authentication) (i : ℕ) (h : ExtHeader) (p : DissectedParts) → header_fault a i h p ≡ None → (i ≡ 0 → ⊥) → is_options h ≡ false
+not_options a i h p e later =
+    later_options (nat_lt (length p.headers) i) ((p.version == 4) && not (is_empty p.headers)) i (list_any is_options (take 1 p.headers)) (is_options h) (misplaced a i h p e) later

@@ -1,6 +1,7 @@
 -- An IPv6 packet with other headers before the fragmented part can be fragmented there, as it was before.
-use Rattle.ip_spec.proofs.Common.{◌≡◌, ℕ, ◌+◌, ◌/◌, ◌%◌, ◌≤◌, ◌<◌, List, [], ◌∷◌, ◌++◌, length, take, drop, refl, sym, ◌∙◌, ap, subst, arith, Bool, true, false, if◌then◌else◌, list_any, slice_set, slice_index, length-set, length-append, take-append_seam, drop-append_seam, get_or_append_left, get_or-set_other, get_or-set_same, All-append, All-set, All-take, All-drop, AllByRecursion, AreBytes, IsHeader, IsChain, AreLinked, next_header, ExtHeader, bytes_of, leads_to}
-use Rattle.std.proofs.lemmas.Bool.{or_parts}
+use Rattle.ip_spec.proofs.Common.{◌≡◌, ◌≢◌, ℕ, zero, suc, ◌+◌, ◌-◌, ◌/◌, ◌%◌, ◌≤◌, ◌<◌, List, [], ◌∷◌, ◌++◌, length, take, drop, refl, sym, ◌∙◌, ap, subst, arith, inl, inr, Bool, true, false, false≢true, cases_Bool, eq-eqb, ◌==◌, ◌||◌, if◌then◌else◌, list_any, take-append-drop, raw, fragment, auth, unreserved_bits, cleared_header, cleared_chain, slice_set, slice_index, length-set, length-append, take-append_seam, drop-append_seam, get_or_append_left, get_or-set_other, get_or-set_same, All-append, All-set, All-take, All-drop, AllByRecursion, AreBytes, IsHeader, IsChain, AreLinked, next_header, ExtHeader, bytes_of, leads_to}
+use Rattle.std.proofs.lemmas.Bool.{or_from, or_left, or_parts}
+use Rattle.std.proofs.lemmas.Nat.{and_le_r}
 use Rattle.ip_base.specs.Checksum.{with_word}
 use Rattle.ip_base.specs.Ipv6Header.{IsIpv6Header, payload_length}
 use Rattle.ip_spec.proofs.HeaderLemmas.{header-least}
@@ -8,13 +9,15 @@ use Rattle.ip_dissect.specs.Fragment.{is_fragment_header}
 use Rattle.ip_defragmenter.specs.Sent.{IsSentIpv6}
 use Rattle.ip_defragmenter.specs.Split.{link_after}
 use Rattle.ip_defrag_laws.specs.Ipv6.{IsIpv6Part}
-use Rattle.ip_rewrite.specs.Headers.{number_of_first, linked_headers}
+use Rattle.ip_rewrite.specs.Headers.{is_options, number_of_first, linked_headers}
+use Rattle.ip_rewrite.specs.Insertion.{inserted}
 use Rattle.ip_rewrite.specs.Selection.{selects, kept_from}
 use Rattle.ip_rewrite.specs.Writing.{front_with, link_of}
 use Rattle.ip_rewrite.specs.declared.which.Which.{Which}
 use Rattle.ip_rewrite.proofs.ChainLemmas.{AreHeaders, NoZero, joined_chain}
 use Rattle.ip_rewrite.proofs.FieldLemmas.{range_same}
 use Rattle.ip_rewrite.proofs.FrontLemmas.{front_len, link_less}
+use Rattle.ip_rewrite.proofs.InsertionLemmas.{all_inserted}
 use Rattle.ip_rewrite.proofs.StatingLemmas.{any_joined}
 use Rattle.ip_rewrite_laws.proofs.MadeLemmas.{link_is, taken, dropped}
 
@@ -69,6 +72,51 @@ none_among t w i (h ∷ c) e =
     pick true own rest = rest
     pick false own rest = rw (own, rest) refl
 
+-- or among headers with one more
+pub none_inserted : (t : ExtHeader → Bool) (i : ℕ) (c : List ExtHeader) (h : ExtHeader) → t h ≡ false → list_any t c ≡ false → list_any t (inserted i h c) ≡ false
+none_inserted t i c h own none = joined (take i c) (drop i c) (ap (list_any t) (take-append-drop i c) ∙ none)
+  where
+    joined : (d e : List ExtHeader) → list_any t (d ++ e) ≡ false → list_any t (d ++ h ∷ e) ≡ false
+    joined [] e rest = or_from (t h) (list_any t e) own rest
+    joined (g ∷ d) e rest = (let parts = or_parts (t g) (list_any t (d ++ e)) rest in or_from (t g) (list_any t (d ++ h ∷ e)) parts.0 (joined d e parts.1))
+
+-- or among cleared ones
+pub none_cleared : (c : List ExtHeader) → list_any is_fragment_header (cleared_chain c) ≡ list_any is_fragment_header c
+none_cleared [] = refl
+none_cleared (h ∷ c) = ap (λ b. is_fragment_header h || b) (none_cleared c)
+
+-- Hop-by-hop options come first among headers with one more.
+pub zero_inserted : (i : ℕ) (h : ExtHeader) (c d : List ExtHeader) (m : ℕ) → NoZero (drop 1 c) → (i ≡ 0 → list_any is_options (take 1 (linked_headers m c ++ d)) ≡ false) → ((i ≡ 0 → ⊥) → is_options h ≡ false)
+    → NoZero (drop 1 (inserted i h c))
+zero_inserted zero h [] d m are first later = tt
+zero_inserted zero h (g ∷ c) d m are first later = (λ e. false≢true (sym (first refl) ∙ or_left (is_options g) false (eq-eqb g.number 0 e)), are)
+zero_inserted (suc i) h [] d m are first later = tt
+zero_inserted (suc i) h (g ∷ c) d m are first later = all_inserted (λ (k : ExtHeader). k.number ≢ 0) i c h are (λ e. false≢true (sym (later (λ z. omega (arith, z))) ∙ eq-eqb h.number 0 e))
+
+-- cleared headers consist of bytes
+cleared_byte : (n : ℕ) (b : List ℕ) → AreBytes b → AreBytes (cleared_header n b)
+cleared_byte n b bytes =
+    let P : ℕ → Type 0 = λ x. x < 256 in
+    let low : ℕ = unreserved_bits (slice_index b 3) in
+    elim (cases_Bool (n == 44)) [
+      | inl s ↦ rw s (All-set P (slice_set b 1 0) 3 low (omega (arith, and_le_r (slice_index b 3) 0xf9)) (All-set P b 1 0 (omega arith) bytes))
+      | inr s ↦ elim (cases_Bool (n == 51)) [
+        | inl t ↦ rw (s, t) (All-set P (slice_set b 2 0) 3 0 (omega arith) (All-set P b 2 0 (omega arith) bytes))
+        | inr t ↦ rw (s, t) bytes
+      ]
+    ]
+
+pub cleared_bytes : (c : List ExtHeader) → AllByRecursion HasBytes c → AllByRecursion HasBytes (cleared_chain c)
+cleared_bytes [] have = tt
+cleared_bytes (h ∷ c) have = ((have.0.0, cleared_byte h.number h.bytes have.0.1), cleared_bytes c have.1)
+
+pub header_small : (n : ℕ) (b : List ℕ) → IsHeader n b → n < 256
+header_small n b (raw (inl e) is) = omega (arith, e)
+header_small n b (raw (inr (inl e)) is) = omega (arith, e)
+header_small n b (raw (inr (inr e)) is) = omega (arith, e)
+header_small n b (fragment e is) = omega (arith, e)
+header_small n b (auth e is) = omega (arith, e)
+
 -- The packet s has the base header b, the headers k and the bytes r.
 module _ (s b : List ℕ) (k : List ExtHeader) (g : ℕ) (r : List ℕ) (is : s ≡ front_with 6 b k g ++ r) (header : IsIpv6Header b) (headers : AreHeaders k) (states : payload_length b ≡ length (bytes_of k) + length r) where
   abbrev n : ℕ
@@ -121,9 +169,9 @@ module _ (s b : List ℕ) (k : List ExtHeader) (g : ℕ) (r : List ℕ) (is : s 
       same (h ∷ c) l x y e = omega (arith, e, same c 0 (slice_set h.bytes 0 (number_of_first c g)) h.bytes (length-set h.bytes 0 (number_of_first c g)))
 
   -- It is fragmented as another packet.
-  pub is_part : (id start end m l : ℕ) (t : List ℕ) (c : List ExtHeader) → IsIpv6Part t m l id start end c → drop m t ≡ r → length (bytes_of k) ≤ length (bytes_of c) → m ≡ 40 + length (bytes_of c)
+  pub is_part : (id start end m l : ℕ) (t : List ℕ) (c : List ExtHeader) → IsIpv6Part t m l id start end c → drop m t ≡ r → length (bytes_of k) + 8 + (end - start) ≤ 65535
       → NoZero (drop 1 k) → list_any is_fragment_header k ≡ false → IsIpv6Part s n link id start end (linked_headers g k)
-  is_part id start end m l t c part same fewer at zero none =
+  is_part id start end m l t c part same fits later none =
       let rest : drop n s ≡ r = dropped s b k g r is header.len headers in
       let long : length (drop n s) ≡ length (drop m t) = ap length (rest ∙ sym same) in
       record {
@@ -131,9 +179,9 @@ module _ (s b : List ℕ) (k : List ExtHeader) (g : ℕ) (r : List ℕ) (is : s 
         order = part.order;
         within = omega (arith, part.within, long);
         several = λ first. (let less : end < length (drop m t) = part.several first in omega (arith, less, long));
-        fits = omega (arith, part.fits, fewer, at);
+        fits = omega (arith, fits);
         identification = part.identification;
-        chain = subst (λ (x : ℕ). IsChain x (linked_headers g k)) (sym (byte 6 (omega arith) ∙ get_or-set_same b 6 (number_of_first k g) 0 (omega (arith, header.len)))) (joined_chain g k headers zero);
+        chain = subst (λ (x : ℕ). IsChain x (linked_headers g k)) (sym (byte 6 (omega arith) ∙ get_or-set_same b 6 (number_of_first k g) 0 (omega (arith, header.len)))) (joined_chain g k headers later);
         headers =
             let whole : drop 40 (take n s) ≡ bytes_of (linked_headers g k) =
             ap (drop 40) (taken s b k g r is header.len headers) ∙ (ap (λ x. drop x (front_with 6 b k g)) (sym base_len) ∙ drop-append_seam base (bytes_of (linked_headers g k))) in

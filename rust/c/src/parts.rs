@@ -1,6 +1,7 @@
 //! What C passes, as Rust has it.
 
 use core::slice::{from_raw_parts, from_raw_parts_mut};
+use wolfaren::captures::{CaptureFields, Interface};
 use wolfaren::defragment::{
     Defragmenter, DefragmenterCounts, Links, PacketMemory, Settings, Slot, SlotTable, Table,
 };
@@ -49,6 +50,55 @@ pub(crate) unsafe fn put_name(name: *mut Name, find: impl FnOnce(&mut &'static [
     let (text, size) = (found.as_ptr(), found.len());
     // SAFETY: the caller says so.
     unsafe { name.write(Name { text, size }) }
+}
+
+/// `struct wolfaren_capture`.
+#[repr(C)]
+pub struct CCapture {
+    interfaces: *mut Interface,
+    room: usize,
+    interface_count: usize,
+    offset: u64,
+    limit: u32,
+    snap_len: u32,
+    link_type: u16,
+    form: u8,
+    byte_order: u8,
+}
+
+/// Makes a call with a reader of a capture, and stores the reader as the call leaves it.
+///
+/// # Safety
+///
+/// The reader and its interfaces are there, and nothing else reads or writes them.
+pub(crate) unsafe fn with_capture<T>(
+    place: *mut CCapture,
+    call: impl FnOnce(&mut CaptureFields<'_>) -> T,
+) -> T {
+    // SAFETY: the caller says so.
+    let (reader, interfaces) = unsafe {
+        let reader = &mut *place;
+        let interfaces = slice_mut(reader.interfaces, reader.room);
+        (reader, interfaces)
+    };
+    let mut capture = CaptureFields {
+        interfaces,
+        interface_count: reader.interface_count,
+        offset: reader.offset,
+        limit: reader.limit,
+        snap_len: reader.snap_len,
+        link_type: reader.link_type,
+        form: reader.form,
+        byte_order: reader.byte_order,
+    };
+    let result = call(&mut capture);
+    reader.interface_count = capture.interface_count;
+    reader.offset = capture.offset;
+    reader.snap_len = capture.snap_len;
+    reader.link_type = capture.link_type;
+    reader.form = capture.form;
+    reader.byte_order = capture.byte_order;
+    result
 }
 
 /// `struct wolfaren_links`.

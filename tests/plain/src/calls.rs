@@ -3,10 +3,12 @@
 //!     `count`       a packet after `p`, or a frame without one (`o`) or a truncated one (`t`), as tests/c/statistics.c reads
 //!                   them; after the last line, all counts
 //!     `defragment`  a context, a time in nanoseconds and a packet: the whole packet, if there is one now, or `-`
+//!     `bpf`         a program, 8 bytes an instruction, and packets: `accepted` and what it returns on each, or the error
 //!     `rewrite`     a call, whether checks may become invalid (0 or 1), a number, an index, other bytes and a packet: the new
 //!                   packet and whether checksums hold, or the error
 //!
 //! Bytes are in hexadecimal, after an `x`.
+use etherparse::bpf::{Instruction, Program};
 use etherparse::defragment::{Defragmenter, OwnedDefragmenter, Outcome, Settings};
 use etherparse::rewrite::{
     cleared, in_order, with_header, with_payload, without, Authentication, RewriteError, Rewritten,
@@ -121,6 +123,25 @@ fn rewritten(line: &str, out: &mut [u8]) -> Result<Rewritten, RewriteError> {
     }
 }
 
+fn returned(line: &str) -> String {
+    let mut words = line.split(' ');
+    let instructions: Vec<Instruction> = bytes_of(words.next().expect("a program"))
+        .chunks(8)
+        .map(|it| Instruction {
+            code: u16::from_be_bytes([it[0], it[1]]),
+            jt: it[2],
+            jf: it[3],
+            k: u32::from_be_bytes([it[4], it[5], it[6], it[7]]),
+        })
+        .collect();
+    match Program::new(&instructions) {
+        Ok(program) => words.fold("accepted".to_string(), |said, packet| {
+            format!("{said} {}", program.run(&bytes_of(packet)))
+        }),
+        Err(error) => format!("{error:?}"),
+    }
+}
+
 fn main() {
     let what = std::env::args().nth(1).expect("what the lines are");
     let mut output = std::io::stdout().lock();
@@ -136,6 +157,7 @@ fn main() {
                 continue;
             }
             "defragment" => defragmented(&line, &mut defragmenter, &mut out),
+            "bpf" => returned(&line),
             _ => match rewritten(&line, &mut out) {
                 Ok(it) => format!("{} {}", digits_of(&out[..it.len]), it.keeps_checksums),
                 Err(error) => format!("{error:?}"),

@@ -1,0 +1,6 @@
+pub mod RunLemmas
+pub mod BitLemmas
+pub mod MemoryLemmas
+pub mod CheckLemmas
+pub mod StepLemmas
+pub mod ReturnLemmas

@@ -1,0 +1,4 @@
+pub mod Codes
+pub mod Machine
+pub mod Joined
+pub mod Programs

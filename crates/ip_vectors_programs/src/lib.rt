@@ -1,0 +1,5 @@
+//! Test vectors for programs of BPF.
+#![tactic(auto)]
+
+#[cfg(test)]
+mod programs;

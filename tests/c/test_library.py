@@ -24,7 +24,8 @@ STANDARDS = {"c": ["c99", "gnu99", "c11", "c17"], "c++": ["c++11", "c++14", "c++
 SANITIZERS = ["-fsanitize=address,undefined", "-fno-sanitize-recover=all"]
 FORMS = {"exts6": ["exts6", "steps6"], "exts4": ["exts4"], "packet": ["packet", "payload"]}
 LINE = re.compile(r"(exts6|exts4) (0|[1-9]\d{0,2}) (-|([0-9A-Fa-f]{2})+)$|(packet) (-|([0-9A-Fa-f]{2})+)$")
-PROGRAMS = ["batches", "contents", "defragmenter", "dissections", "edges", "filters", "frames", "records", "rewrites", "rewritten_fragments", "statistics"]
+# all but those that read lines or measure stacks
+PROGRAMS = sorted({it.removesuffix(".c") for it in os.listdir(f"{ROOT}/tests/c") if it.endswith(".c")} - {"lines", "stacks"})
 # machines and systems for which there is no library, as flags of a compiler, with words of the message
 REFUSED = [("any", "-U__LP64__ -D__ILP32__", "64-bit machine"), ("any", "-U__x86_64__ -U__aarch64__", "64-bit machine"),
            ("any", "-U__BYTE_ORDER__ -D__BYTE_ORDER__=__ORDER_BIG_ENDIAN__", "little-endian machine"),

@@ -253,13 +253,13 @@ class Calls(Scratch):
 
 
 class Program(Scratch):
-    """A C program that makes the library's calls, tests/c/captures.c."""
+    """A C program that makes the library's calls, captures.c."""
 
     def build(self, library, *flags):
         """Builds the program with libwolfaren-pcap in a directory, and returns its path."""
         program = f"{self.folder}/captures"
         subprocess.run(["cc", "-std=c99", "-D_POSIX_C_SOURCE=200809L", "-Wall", "-Wextra", "-Werror", *flags,
-                        f"-I{ROOT}/programs/ipcap", f"{ROOT}/tests/c/captures.c", f"{library}/{file_of('libwolfaren-pcap', 'wolfaren-pcap.h')}",
+                        f"-I{ROOT}/programs/ipcap", f"{ROOT}/bindings/python/tests/captures.c", f"{library}/{file_of('libwolfaren-pcap', 'wolfaren-pcap.h')}",
                         f"-Wl,-rpath,{os.path.abspath(library)}", "-o", program], check=True)
         return program
 

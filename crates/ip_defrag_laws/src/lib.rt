@@ -12,8 +12,8 @@
 //! | that none is lost | `packets_are_kept_where_there_is_room`, `memories_have_all_fragments_of_their_packets` |
 //! | that the table stays valid | `tables_stay_valid` |
 //!
-//! After `clear` nothing is known of what arrived before it: the laws speak of the calls since the table was last
-//! cleared. A packet is given up where a call reported it, `defragment` or `give_up`.
+//! `clear` forgets all packets, so the laws speak of the calls since the table was last cleared. A packet that is
+//! given up is reported, by `defragment` or by `give_up`.
 //!
 //! In a run, call `defragment_in_run`, `give_up_in_run` and `clear_in_run` instead of `defragment`, `give_up` and
 //! `clear`, and `write_whole` instead of `write`: they do the same, and their contracts speak of the packet that was

@@ -66,8 +66,9 @@ pub fn fragments_in_one_memory_are_the_packet()
         → are_among pieces (arrived_pieces arrived) ≡ true → WasStored m 65535 (arrived_parts arrived) → HasPacket m s }
 {}
 
-/// Proves that no packet is given up since the table was last cleared, if no more packets are sent in fragments than there are
-/// slots, and each call comes within the timeout after all packets that arrived: that of the settings, or `give_up`'s own.
+/// Proves that no packet has been given up since the table was last cleared, if no more packets are sent in fragments than there
+/// are slots, and each call comes within the timeout of every packet that arrived before it: that of the settings, or, for
+/// `give_up`, its own.
 pub fn packets_are_kept_where_there_is_room()
     ensures nothing { (names : List PacketName) (settings : Settings) (start end : TableState) (calls : List Step)
         → IsFresh settings start → length names ≤ length start.slots.slots.now → IsCallRun settings start calls end
@@ -75,8 +76,8 @@ pub fn packets_are_kept_where_there_is_room()
     ensures kept { (context : ℕ) (k : FragmentKey) (calls : List Step) → NothingLost calls → AreKept context k calls }
 {}
 
-/// Proves that no fragment is lost: since the table was last cleared, as long as no call makes a packet whole or reports that it
-/// was given up, a slot has the packet, and its memory all of the packet's fragments that arrived and no others.
+/// Proves that no fragment is lost: as long as no call since the table was last cleared makes a packet whole or reports that it
+/// was given up, a slot has the packet, and its memory has all of the packet's fragments that arrived, and no others.
 pub fn memories_have_all_fragments_of_their_packets()
     ensures { (settings : Settings) (context : ℕ) (k : FragmentKey) (start end : TableState) (calls : List Step) → IsKey k
         → IsFresh settings start → IsCallRun settings start calls end → IsPending context k calls

@@ -2,7 +2,7 @@
 //! header can be left out or inserted, or their reserved bits cleared, in the packet or in each fragment. Both give the
 //! same fragments of the rewritten packet, which by `ip_defrag_laws` make it whole.
 //!
-//! | In the clauses of `fragments_are_rewritten_as_their_packet` | stands |
+//! | Clauses of `fragments_are_rewritten_as_their_packet` | What they say |
 //! |---|---|
 //! | `bytes`, `inserted`, `cleared` | the rewritten fragment has the bytes of the rewritten packet's fragment |
 //! | `sent`, `inserted_sent`, `cleared_sent` | the rewritten packet can be fragmented, and what is fragmented is as before |

@@ -65,10 +65,10 @@
 #define WOLFAREN_VERSION (10000 * WOLFAREN_VERSION_MAJOR + 100 * WOLFAREN_VERSION_MINOR + WOLFAREN_VERSION_PATCH)
 
 /* A checksum of the structs, numbers and calls in this header, made by scripts/abi of the repository. */
-#define WOLFAREN_ABI 0xf67c891au
+#define WOLFAREN_ABI 0x1b1dfb15u
 
 /* The symbol that is named after the checksum. */
-#define WOLFAREN_ABI_SYMBOL wolfaren_abi_f67c891a
+#define WOLFAREN_ABI_SYMBOL wolfaren_abi_1b1dfb15
 
 /* The machines for which the library is built. That of `make rust-c` is for any machine, and its users define WOLFAREN_PLAIN. */
 #ifdef WOLFAREN_PLAIN
@@ -1253,7 +1253,8 @@ enum wolfaren_expected {
     WOLFAREN_EXPECTED_ICMP_TYPE = 18,         /* the number or name of a type of ICMP */
     WOLFAREN_EXPECTED_ICMP6_TYPE = 19,        /* the number or name of a type of ICMPv6 */
     WOLFAREN_EXPECTED_SOURCE = 20,            /* `src` */
-    WOLFAREN_EXPECTED_DESTINATION = 21        /* `dst` */
+    WOLFAREN_EXPECTED_DESTINATION = 21,       /* `dst` */
+    WOLFAREN_EXPECTED_MASK = 22               /* a mask without holes, as an address */
 };
 
 /* Where the text of a filter is wrong. */
@@ -1299,6 +1300,7 @@ struct wolfaren_filter_error {
  *   src NET, dst NET, net NET            NET is an IPv4 or IPv6 address, alone or with a slash and a number of bits
  *   host A                               A is an IPv4 or IPv6 address
  *   net 10, net 192.168, net 192.168.1   as `net 10.0.0.0/8`, `net 192.168.0.0/16`, `net 192.168.1.0/24`
+ *   net 10.0.0.0 mask 255.0.0.0          as `net 10.0.0.0/8`; the ones of the mask are at its start
  *   ip multicast, ip6 multicast          the destination is in 224.0.0.0/3, in ff00::/8
  *   src port P, dst port P, port P, portrange P       P is a port or a range such as 1024-65535
  *   proto N                              as `leads-to N`; of an extension header, `( header N or leads-to N )`

@@ -474,6 +474,12 @@ fn refused_texts() {
         ("dst or ::1", 7, Expected::Source, "`src`"),
         ("src and ::1", 8, Expected::Destination, "`dst`"),
         (
+            "net 10.0.0.0 mask 255.0.255.0",
+            18,
+            Expected::Mask,
+            "a mask that begins with its ones, as 255.255.255.0",
+        ),
+        (
             "dst port 65536",
             9,
             Expected::Ports,

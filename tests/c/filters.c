@@ -93,6 +93,7 @@ static void refused(void)
                   "a number from 0 to 255 or the name of a type, as icmp6-echo");
     check_refused("dst or ::1", 7, WOLFAREN_EXPECTED_SOURCE, "`src`");
     check_refused("src and ::1", 8, WOLFAREN_EXPECTED_DESTINATION, "`dst`");
+    check_refused("net 10 mask", 11, WOLFAREN_EXPECTED_MASK, "a mask that begins with its ones, as 255.255.255.0");
     check_refused("src x", 4, WOLFAREN_EXPECTED_NETWORK_OR_PORT, "an address, a prefix or `port`");
     check_refused("net x", 4, WOLFAREN_EXPECTED_NETWORK, "an address or a prefix");
     check_refused("host ::1/64", 5, WOLFAREN_EXPECTED_ADDRESS, "an address");
@@ -102,7 +103,7 @@ static void refused(void)
     struct wolfaren_filter filter;
     struct wolfaren_filter_error error;
     check(!wolfaren_parse_filter(NULL, 0, &filter, &error) && error.offset == 0, "no text");
-    check(wolfaren_expected_text(0, NULL, 0) == 0 && wolfaren_expected_text(22, NULL, 0) == 0, "an unknown code");
+    check(wolfaren_expected_text(0, NULL, 0) == 0 && wolfaren_expected_text(23, NULL, 0) == 0, "an unknown code");
 }
 
 static uint8_t next_byte(void)

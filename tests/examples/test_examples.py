@@ -45,7 +45,8 @@ def run_c(code, room):
 def run_rust(code, room):
     write(f"{room}/Cargo.toml", MANIFEST % f"{BUILD}/rust")
     write(f"{room}/src/main.rs", code + RUST_MAIN % ", ".join(f'b"{hex_text(it)}"' for it in PACKETS))
-    return run("cargo", "run", "--quiet", *run("scripts/test-rust", "--flags").split(), cwd=room)
+    flags = run("scripts/test-rust", "--flags").split()
+    return run("cargo", "run", "--quiet", *flags, cwd=room, env={**os.environ, "CARGO_TARGET_DIR": f"{BUILD}/rust-target"})
 
 
 def run_python(code, room):

@@ -40,7 +40,7 @@ primitive_not : (x : Option Qualifiers) (w : Word) (us : List Word) (p : Primiti
 primitive_not x w us p is n = elim is [
   | inl t ↦ keyword_not w t.1.0 t.1.1 n
   | inr others ↦ elim others [
-    | inl y ↦ let none = either_word (λ v. qualifiers_at (v ∷ us) ≡ None) w (codes "not") (codes "!") n refl refl in cc (sym y.3 ∙ none)
+    | inl y ↦ let none = either_word (λ v. qualifiers_at (v ∷ us) ≡ None) w (codes "not") (codes "!") n refl refl in cc (sym y.4 ∙ none)
     | inr c ↦ false≢true (sym (identifier_no_not w c.4) ∙ n)
   ]
 ]
@@ -49,7 +49,7 @@ primitive_open : (x : Option Qualifiers) (w : Word) (us : List Word) (p : Primit
 primitive_open x w us p is o = elim is [
   | inl t ↦ keyword_open w t.1.0 t.1.1 o
   | inr others ↦ elim others [
-    | inl y ↦ let none = ap (λ v. qualifiers_at (v ∷ us)) (same_word w (codes "(") o) in cc (sym y.3 ∙ none)
+    | inl y ↦ let none = ap (λ v. qualifiers_at (v ∷ us)) (same_word w (codes "(") o) in cc (sym y.4 ∙ none)
     | inr c ↦ false≢true (sym (identifier_no_open w c.4) ∙ o)
   ]
 ]

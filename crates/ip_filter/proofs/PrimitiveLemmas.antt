@@ -7,6 +7,7 @@ use Rattle.std.proofs.lemmas.List.{append_cancel_right}
 use Rattle.ip_spec.proofs.Common.{◌≡◌, ℕ, ◌+◌, ◌-◌, ◌<◌, ◌≤◌, List, [], ◌∷◌, ◌++◌, length, take, drop, refl, sym, ap, ◌∙◌, subst, arith, Bool, true, false, not, ◌&&◌, ⊤, ◌||◌, inl, inr, if◌then◌else◌, cases_Bool, false≢true, append_assoc, append-nil}
 use Rattle.ip_filter.specs.declared.words.Word.{Word as FirstWord}
 use Rattle.ip_filter.specs.declared.network.Network.{Network}
+use Rattle.ip_filter.specs.declared.network.Network.TheVariants as network
 use Rattle.ip_filter.specs.declared.term.Ports.{Ports}
 use Rattle.ip_filter.specs.declared.parse_error.Expected.{Expected}
 use Rattle.ip_filter.specs.declared.parse_error.Expected.TheVariants as expects
@@ -25,15 +26,15 @@ use Rattle.ip_filter.specs.declared.qualifiers.Named.TheVariants as named
 use Rattle.ip_filter.specs.declared.qualifiers.Primitive.{Primitive}
 use Rattle.ip_filter.specs.declared.primitive.Head.{Head}
 use Rattle.ip_filter.specs.Words.{Word, words}
-use Rattle.ip_filter.specs.Numbers.{ports_of, protocol_of}
+use Rattle.ip_filter.specs.Numbers.{ports_of, protocol_of, IsFrontText, IsMaskText}
 use Rattle.ip_filter.specs.Formula.{terms_of}
-use Rattle.ip_filter.specs.Qualifiers.{protocol_named, protocol_term, multicast_term, multicast_with, direction_named, kind_of, of_any_protocol, directions_at, side_at, sided, side_or_kind_at, with_protocol, after_protocol, qualifiers_at, network_said, ports_said, protocol_said, wanted, Identifies, says, says_named, plain, qualified}
+use Rattle.ip_filter.specs.Qualifiers.{protocol_named, protocol_term, multicast_term, multicast_with, direction_named, kind_of, of_any_protocol, directions_at, side_at, sided, side_or_kind_at, with_protocol, after_protocol, qualifiers_at, network_said, ports_said, protocol_said, wanted, Identifies, IsMasked, Identify, says, says_named, plain, qualified}
 use Rattle.ip_filter.specs.Operators.{is_not, is_and, is_or}
 use Rattle.ip_filter.specs.Grammar.{alone, keyword_of, AreArguments, is_identifier, IsQualified, IsCarried, IsPrimitive}
-use Rattle.ip_filter.specs.Reading.{IsPlace, IsSuffix, IsFirstWord, ReadsTerm, RefusesTerm, WantsArgument, ends_term, begins_no_operator, EndsBefore, fewest_named, fewest_terms, BeginsNoQualifiers, RefusesDirections, IsDueInSide, BeginSide, RefusesSide, ReadsQualifiers, ReadsPrimitive, RefusesPrimitive, BeginsPrimitive, IsDueIn}
+use Rattle.ip_filter.specs.Reading.{IsPlace, IsSuffix, IsFirstWord, ReadsTerm, RefusesTerm, WantsArgument, ends_term, begins_no_operator, EndsBefore, fewest_named, fewest_terms, BeginsNoQualifiers, RefusesDirections, IsDueInSide, BeginSide, RefusesSide, ReadsQualifiers, ReadsPrimitive, RefusesPrimitive, BeginsPrimitive, IsDueIn, LacksMask, BeginsMask}
 use Rattle.ip_filter.proofs.WordLemmas.{or_cases, either_word, same_word}
 use Rattle.ip_filter.proofs.PlaceLemmas.{whole, end_of_end, place_in_end, from_place}
-use Rattle.ip_filter.proofs.NetworkTextLemmas.{one_network, one_network_or_front, some_network, some_host}
+use Rattle.ip_filter.proofs.NetworkTextLemmas.{one_network, one_network_or_front, one_front, one_mask, some_network, some_host, some_mask}
 use Rattle.ip_filter.proofs.TermLemmas.{found_once}
 use Rattle.ip_filter.proofs.QualifierLemmas.{no_word, later, ends_alike, direction_ends, side_without_kind, alone_at, same_pair, from_directions, from_map, qualifiers_more, has_protocol, none_after, direction_of_side, kind_of_side, first_of_side}
 
@@ -157,6 +158,21 @@ side_terms kind.Network d w m bad is = ap (λ x. terms_of (says_named x)) is.2 �
 side_terms kind.Ports d w m bad is = ap (λ x. terms_of (says_named x)) is.2 ∙ ports_terms d is.0
 side_terms kind.Protocol d w m bad is = absurd (bad refl)
 
+-- a network with a mask says as many as one without
+all_terms : (k : Kind) (d : Direction) (w : Word) (us : List Word) (m : Named) → (k ≡ kind.Protocol → ⊥) → Identify k d w us m → terms_of (says_named m) ≡ fewest_named d
+all_terms k d w us m bad is = elim is [
+  | inl one ↦ side_terms k d w m bad one.1
+  | inr masked ↦ ap (λ x. terms_of (says_named x)) masked.7 ∙ network_terms d (network.Ipv4 masked.1 masked.2)
+]
+
+no_protocol_kind : (k : Kind) → k ≡ kind.Network → k ≡ kind.Protocol → ⊥
+no_protocol_kind k is other = cc (sym is ∙ other)
+
+-- a word that begins a network with a mask is one without
+front_identifies : (k : Kind) (d : Direction) (w : Word) (us : List Word) (m : Named) → IsMasked k d w us m → (n : Named) × Identifies k d w n
+front_identifies k d w us m is =
+    (network_said d (network.Ipv4 is.1 is.5.0), subst (λ x. Identifies x d w (network_said d (network.Ipv4 is.1 is.5.0))) (sym is.3) (network.Ipv4 is.1 is.5.0, is.5.1, refl))
+
 -- some word is an identifier, which says few terms, and no operator
 pub some_identifier : (k : Kind) (d : Direction) → (w : Word) × (n : Named) × Identifies k d w n × EndsBefore d k (w ∷ []) × (terms_of (says_named n) ≤ fewest_named d) × IsTrue (begins_no_operator (w ∷ []))
 unfolding some_network some_host
@@ -194,7 +210,7 @@ module _ (x : Option Qualifiers) (n : ℕ) (text : List ℕ) (w : FirstWord) (is
               let one : t.0 ≡ k = cc (sym t.1 ∙ key) in
               (head, rest, (plain_term.0, subst (λ y. AreArguments y vs plain_term.0) one t.2, plain_term.2))
           | inr others ↦ elim others [
-            | inl y ↦ absurd (cc (sym (qualifiers_more (v ∷ vs) more y.0 y.1 [] y.3) ∙ ap qualifiers_at same ∙ none.none tail first))
+            | inl y ↦ absurd (cc (sym (qualifiers_more (v ∷ vs) more y.0 y.1 y.2 y.4) ∙ ap qualifiers_at same ∙ none.none tail first))
             | inr c ↦ absurd (cc (sym (identifier_no_keyword v c.4) ∙ key))
           ]
         ]
@@ -248,7 +264,7 @@ module _ (x : Option Qualifiers) (n : ℕ) (text : List ℕ) (w : FirstWord) (is
   carried_only none none2 q v vs same p = elim p [
     | inl t ↦ absurd (cc (sym t.1.1 ∙ ap keyword_of same ∙ none))
     | inr others ↦ elim others [
-      | inl y ↦ absurd (cc (sym y.3 ∙ ap (λ u. qualifiers_at (u ∷ vs)) same ∙ none2 vs))
+      | inl y ↦ absurd (cc (sym y.4 ∙ ap (λ u. qualifiers_at (u ∷ vs)) same ∙ none2 vs))
       | inr c ↦ subst (λ u. IsCarried x u vs q) same c
     ]
   ]
@@ -323,6 +339,18 @@ fewer_terms y n = here y.protocol refl where
   here None e = omega (arith, same_terms y n e)
   here (Some p) e = omega (arith, more_terms y p n e)
 
+terms_alike : (k : Kind) (d : Direction) (w : Word) (us : List Word) (m n : Named) → Identify k d w us m → Identifies k d w n → terms_of (says_named m) ≡ terms_of (says_named n)
+terms_alike k d w us m n is one = elim is [
+  | inl other ↦ ap (λ x. terms_of (says_named x)) (identified_once k d w m n other.1 one)
+  | inr masked ↦ let no = no_protocol_kind k masked.3 in all_terms k d w us m no (inr masked) ∙ sym (side_terms k d w n no one)
+]
+
+qualified_terms : (y : Qualifiers) (m n : Named) → terms_of (says_named m) ≡ terms_of (says_named n) → terms_of (says (qualified y m)) ≡ terms_of (says (qualified y n))
+qualified_terms y m n e = here y.protocol refl where
+  here : (o : Option Protocol) → y.protocol ≡ o → terms_of (says (qualified y m)) ≡ terms_of (says (qualified y n))
+  here None none = same_terms y m none ∙ e ∙ sym (same_terms y n none)
+  here (Some p) some = more_terms y p m some ∙ ap (λ k. 1 + k) e ∙ sym (more_terms y p n some)
+
 -- what begins with a direction or a kind is qualified
 module _ (x : Option Qualifiers) (q : Primitive) (v : Word) (vs more : List Word) (prim : IsPrimitive x v vs q) where
   side_only : IsTrue (is_some (side_or_kind_at (v ∷ []))) → IsQualified (v ∷ vs) q
@@ -364,39 +392,50 @@ module _ (x : Option Qualifiers) (n : ℕ) (text : List ℕ) (h : Head) (r : Rea
   -- it is these qualifiers and an identifier
   identifier_after : (q : Primitive) (v : Word) (vs ws more : List Word) → IsPrimitive x v vs q → IsTrue (ends_term more) → v ∷ (vs ++ more) ≡ r.word ∷ (r.front ++ ws)
       → take 1 ws ≡ take 1 (words h.rest.now)
-      → (id : Word) × (m : Named) × (ws ≡ id ∷ more) × Identifies h.qualifiers.kind h.qualifiers.direction id m × (q ≡ qualified h.qualifiers m)
+      → (id : Word) × (us : List Word) × (m : Named) × (ws ≡ id ∷ (us ++ more)) × Identify h.qualifiers.kind h.qualifiers.direction id us m × (q ≡ qualified h.qualifiers m)
   identifier_after q v vs ws more p ends same next =
       let y = qualified_only q v vs ws more p ends same in
-      let left = qualifiers_more (v ∷ vs) more y.0 y.1 [] y.3 in
+      let left = qualifiers_more (v ∷ vs) more y.0 y.1 y.2 y.4 in
       let right = r.at ws (ends_alike h.qualifiers.direction h.qualifiers.kind ws (words h.rest.now) next r.ends) in
-      let pair = same_pair (y.0, y.1 ∷ more) (h.qualifiers, ws) (sym left ∙ ap qualifiers_at same ∙ right) in
+      let pair = same_pair (y.0, y.1 ∷ (y.2 ++ more)) (h.qualifiers, ws) (sym left ∙ ap qualifiers_at same ∙ right) in
       let one : y.0 ≡ h.qualifiers = ap (λ g. g.0) pair in
-      (y.1, y.2, sym (ap (λ g. g.1) pair), subst (λ z. Identifies z.kind z.direction y.1 y.2) one y.4, y.5 ∙ ap (λ z. qualified z y.2) one)
+      (y.1, y.2, y.3, sym (ap (λ g. g.1) pair), subst (λ z. Identify z.kind z.direction y.1 y.2 y.3) one y.5, y.6 ∙ ap (λ z. qualified z y.3) one)
 
-  pub qualified_read : (w : FirstWord) → IsFirstWord h.rest.now w → (m : Named) → Identifies h.qualifiers.kind h.qualifiers.direction w.bytes.now m → (p : Primitive) → p ≡ qualified h.qualifiers m
+  -- where no mask follows, the identifier is one word
+  unmasked : (w : FirstWord) → LacksMask h.qualifiers.kind w → (us ws more : List Word) (m : Named) → us ++ more ≡ ws → take 1 ws ≡ take 1 (words w.rest.now)
+      → Identify h.qualifiers.kind h.qualifiers.direction w.bytes.now us m → (us ≡ []) × Identifies h.qualifiers.kind h.qualifiers.direction w.bytes.now m
+  unmasked w lacks us ws more m after next is = elim is [
+    | inl one ↦ one
+    | inr masked ↦ absurd (lacks masked.1 masked.3 masked.5 (sym next ∙ ap (take 1) (sym after) ∙ ap (λ vs. take 1 (vs ++ more)) masked.4))
+  ]
+
+  pub qualified_read : (w : FirstWord) → IsFirstWord h.rest.now w → LacksMask h.qualifiers.kind w → (m : Named) → Identifies h.qualifiers.kind h.qualifiers.direction w.bytes.now m → (p : Primitive) → p ≡ qualified h.qualifiers m
       → n + terms_of (says p) ≤ 64 → ReadsPrimitive x n text p w.rest.now
-  qualified_read w is m says_it p that few = record {
+  qualified_read w is lacks m says_it p that few = record {
     word = r.word;
     args = r.front ++ (w.bytes.now ∷ []);
     begins = r.begins ∙ ap (λ ws. r.word ∷ (r.front ++ ws)) is.begins ∙ ap (λ ws. r.word ∷ ws) (sym (append_assoc r.front (w.bytes.now ∷ []) (words w.rest.now)));
-    is = inr (inl (h.qualifiers, w.bytes.now, m, r.at (w.bytes.now ∷ []) (ends_alike h.qualifiers.direction h.qualifiers.kind (w.bytes.now ∷ []) (words h.rest.now) (ap (take 1) (sym is.begins)) r.ends), says_it, that));
+    is = inr (inl (h.qualifiers, w.bytes.now, [], m, r.at (w.bytes.now ∷ []) (ends_alike h.qualifiers.direction h.qualifiers.kind (w.bytes.now ∷ []) (words h.rest.now) (ap (take 1) (sym is.begins)) r.ends), inl (refl, says_it), that));
     few = λ room. few;
     end = end_of_end text h.rest.now r.end w.rest.now is.end;
     only = λ q v vs ws more prim ends same next.
         let longer : v ∷ (vs ++ more) ≡ r.word ∷ (r.front ++ (w.bytes.now ∷ ws)) = same ∙ ap (λ us. r.word ∷ us) (append_assoc r.front (w.bytes.now ∷ []) ws) in
         let found = identifier_after q v vs (w.bytes.now ∷ ws) more prim ends longer (ap (take 1) (sym is.begins)) in
-        let id : found.0 ≡ w.bytes.now = cc found.2 in
-        let rest : more ≡ ws = cc found.2 in
-        let one = identified_once h.qualifiers.kind h.qualifiers.direction w.bytes.now found.1 m (subst (λ u. Identifies h.qualifiers.kind h.qualifiers.direction u found.1) id found.3) says_it in
+        let id : found.0 ≡ w.bytes.now = cc found.3 in
+        let after : found.1 ++ more ≡ ws = cc found.3 in
+        let there = subst (λ u. Identify h.qualifiers.kind h.qualifiers.direction u found.1 found.2) id found.4 in
+        let alone = unmasked w lacks found.1 ws more found.2 after next there in
+        let rest : more ≡ ws = ap (λ us. us ++ more) (sym alone.0) ∙ after in
+        let one = identified_once h.qualifiers.kind h.qualifiers.direction w.bytes.now found.2 m alone.1 says_it in
         let tail : vs ++ more ≡ (r.front ++ (w.bytes.now ∷ [])) ++ ws = cc same in
-        (cc same, append_cancel_right vs (r.front ++ (w.bytes.now ∷ [])) ws (ap (λ us. vs ++ us) (sym rest) ∙ tail), found.4 ∙ ap (qualified h.qualifiers) one ∙ sym that);
+        (cc same, append_cancel_right vs (r.front ++ (w.bytes.now ∷ [])) ws (ap (λ us. vs ++ us) (sym rest) ∙ tail), found.5 ∙ ap (qualified h.qualifiers) one ∙ sym that);
   }
 
   -- some identifier can follow
   some_follows : n < 64 → BeginsPrimitive x (r.word ∷ r.front) (λ p. n + terms_of (says p) ≤ 64)
   some_follows few =
       let id = some_identifier h.qualifiers.kind h.qualifiers.direction in
-      (r.word, r.front ++ (id.0 ∷ []), id.0 ∷ [], qualified h.qualifiers id.1, inr (inl (h.qualifiers, id.0, id.1, r.at (id.0 ∷ []) id.3, id.2, refl)), small h.qualifiers.protocol refl id.1 id.4 (r.room few), refl) where
+      (r.word, r.front ++ (id.0 ∷ []), id.0 ∷ [], qualified h.qualifiers id.1, inr (inl (h.qualifiers, id.0, [], id.1, r.at (id.0 ∷ []) id.3, inl (refl, id.2), refl)), small h.qualifiers.protocol refl id.1 id.4 (r.room few), refl) where
         small : (o : Option Protocol) → h.qualifiers.protocol ≡ o → (m : Named) → terms_of (says_named m) ≤ fewest_named h.qualifiers.direction → n + fewest_terms h.qualifiers ≤ 64
             → n + terms_of (says (qualified h.qualifiers m)) ≤ 64
         small None e m one room = omega (arith, one, room, same_terms h.qualifiers m e)
@@ -404,7 +443,7 @@ module _ (x : Option Qualifiers) (n : ℕ) (text : List ℕ) (h : Head) (r : Rea
 
   -- bad identifier that the text has there can follow
   module _ (left : ℕ) (place : IsPlace h.rest.now [] left)
-      (bad : (id : Word) (m : Named) → take 1 (words h.rest.now) ≡ id ∷ [] → Identifies h.qualifiers.kind h.qualifiers.direction id m → n + terms_of (says (qualified h.qualifiers m)) ≤ 64 → ⊥) where
+      (bad : (id : Word) (us : List Word) (m : Named) → take 1 (words h.rest.now) ≡ id ∷ [] → Identify h.qualifiers.kind h.qualifiers.direction id us m → n + terms_of (says (qualified h.qualifiers m)) ≤ 64 → ⊥) where
     pub identifier_refused : (e : Expected) → IsDueIn x (r.word ∷ r.front) (take 1 (words h.rest.now)) e → RefusesPrimitive x n text left e
     identifier_refused e due =
         let at : words h.rest.now ≡ words (drop (length text - left) text) = place.words_before ∙ ap words (from_place text h.rest.now r.end left place.within) in
@@ -414,7 +453,7 @@ module _ (x : Option Qualifiers) (n : ℕ) (text : List ℕ) (h : Head) (r : Rea
           begins = λ few. some_follows few;
           none = λ q v vs ws more prim small ends same next.
               let found = identifier_after q v vs ws more prim ends same (next ∙ ap (take 1) (sym at)) in
-              bad found.0 found.1 (ap (take 1) at ∙ sym next ∙ ap (take 1) found.2) found.3 (subst (λ z. n + terms_of (says z) ≤ 64) found.4 small);
+              bad found.0 found.1 found.2 (ap (take 1) at ∙ sym next ∙ ap (take 1) found.3) found.4 (subst (λ z. n + terms_of (says z) ≤ 64) found.5 small);
           expected = subst (λ us. IsDueIn x (r.word ∷ r.front) (take 1 us) e) at due;
         } where
           nothing_after : (us : List Word) → us ++ [] ≡ us
@@ -423,14 +462,19 @@ module _ (x : Option Qualifiers) (n : ℕ) (text : List ℕ) (h : Head) (r : Rea
 
   pub identifier_missing : (left : ℕ) (e : Expected) → (words h.rest.now ≡ []) × IsPlace h.rest.now [] left × (e ≡ wanted h.qualifiers.kind) → RefusesPrimitive x n text left e
   identifier_missing left e a =
-      identifier_refused left a.1 (λ id m next says_it few. cc (sym next ∙ ap (take 1) a.0)) e
+      identifier_refused left a.1 (λ id us m next says_it few. cc (sym next ∙ ap (take 1) a.0)) e
       (due_argument x (r.word ∷ r.front) _ e (subst (WantsArgument (r.word ∷ r.front)) (sym a.2) r.wants))
 
   pub other_identifier : (w : FirstWord) → IsFirstWord h.rest.now w → ((m : Named) → Identifies h.qualifiers.kind h.qualifiers.direction w.bytes.now m → ⊥)
       → RefusesPrimitive x n text w.left (wanted h.qualifiers.kind)
   other_identifier w is bad =
       identifier_refused w.left is.place
-      (λ id m next says_it few. let same : id ≡ w.bytes.now = cc (sym next ∙ ap (take 1) is.begins) in bad m (subst (λ u. Identifies h.qualifiers.kind h.qualifiers.direction u m) same says_it))
+      (λ id us m next says_it few.
+      let same : id ≡ w.bytes.now = cc (sym next ∙ ap (take 1) is.begins) in
+      elim (subst (λ u. Identify h.qualifiers.kind h.qualifiers.direction u us m) same says_it) [
+        | inl one ↦ bad m one.1
+        | inr masked ↦ let front = front_identifies h.qualifiers.kind h.qualifiers.direction w.bytes.now us m masked in bad front.0 front.1
+      ])
       (wanted h.qualifiers.kind) (due_argument x (r.word ∷ r.front) _ (wanted h.qualifiers.kind) r.wants)
 
   pub long_identifier : (w : FirstWord) → IsFirstWord h.rest.now w → (m : Named) → Identifies h.qualifiers.kind h.qualifiers.direction w.bytes.now m → (p : Primitive) → p ≡ qualified h.qualifiers m
@@ -438,19 +482,120 @@ module _ (x : Option Qualifiers) (n : ℕ) (text : List ℕ) (h : Head) (r : Rea
   long_identifier w is m says_it p that long =
       let first : take 1 (words h.rest.now) ≡ w.bytes.now ∷ [] = ap (take 1) is.begins in
       identifier_refused w.left is.place
-      (λ id o next other few.
+      (λ id us o next other few.
       let same : id ≡ w.bytes.now = cc (sym next ∙ first) in
-      let one = identified_once h.qualifiers.kind h.qualifiers.direction w.bytes.now o m (subst (λ u. Identifies h.qualifiers.kind h.qualifiers.direction u o) same other) says_it in
-      omega (arith, long, few, ap (λ z. terms_of (says (qualified h.qualifiers z))) one, ap (λ z. terms_of (says z)) that))
+      let one = terms_alike h.qualifiers.kind h.qualifiers.direction w.bytes.now us o m (subst (λ u. Identify h.qualifiers.kind h.qualifiers.direction u us o) same other) says_it in
+      omega (arith, long, few, qualified_terms h.qualifiers o m one, ap (λ z. terms_of (says z)) that))
       expects.FewerTerms (rw first (
         r.word,
         r.front ++ (w.bytes.now ∷ []),
         [],
         qualified h.qualifiers m,
-        inr (inl (h.qualifiers, w.bytes.now, m, r.at (w.bytes.now ∷ []) (ends_alike h.qualifiers.direction h.qualifiers.kind (w.bytes.now ∷ []) (words h.rest.now) (sym first) r.ends), says_it, refl)),
+        inr (inl (h.qualifiers, w.bytes.now, [], m, r.at (w.bytes.now ∷ []) (ends_alike h.qualifiers.direction h.qualifiers.kind (w.bytes.now ∷ []) (words h.rest.now) (sym first) r.ends), inl (refl, says_it), refl)),
         tt,
         sym (append-nil ((r.word ∷ r.front) ++ (w.bytes.now ∷ []))),
       ))
+
+-- ---- a mask
+
+module _ (x : Option Qualifiers) (n : ℕ) (text : List ℕ) (h : Head) (r : ReadsQualifiers n text h) (a : ℕ) (rest : List ℕ) (b : BeginsMask h a rest) where
+  -- the words before the mask
+  abbrev before_mask : List Word
+  before_mask = r.front ++ (b.address.bytes.now ∷ codes "mask" ∷ [])
+
+  mask_begins : words h.rest.now ≡ b.address.bytes.now ∷ codes "mask" ∷ words rest
+  mask_begins = b.first.begins ∙ ap (λ ws. b.address.bytes.now ∷ ws) (b.second.begins ∙ ap (λ w. w ∷ words b.mask.rest.now) b.is_mask ∙ ap (λ s. codes "mask" ∷ words s) (sym b.after))
+
+  before_begins : words text ≡ (r.word ∷ before_mask) ++ words rest
+  before_begins = r.begins ∙ ap (λ ws. r.word ∷ (r.front ++ ws)) mask_begins ∙ ap (λ ws. r.word ∷ ws) (sym (append_assoc r.front (b.address.bytes.now ∷ codes "mask" ∷ []) (words rest)))
+
+  mask_end : IsSuffix text rest
+  mask_end = subst (IsSuffix text) (sym b.after) (end_of_end text h.rest.now r.end b.mask.rest.now (end_of_end h.rest.now b.address.rest.now b.first.end b.mask.rest.now b.second.end))
+
+  -- what begins with the address and `mask` is a network with a mask
+  mask_only : (q : Primitive) (v : Word) (vs ws more : List Word) → IsPrimitive x v vs q → IsTrue (ends_term more) → v ∷ (vs ++ more) ≡ (r.word ∷ before_mask) ++ ws
+      → (m : Word) × (len : ℕ) × (ws ≡ m ∷ more) × IsMaskText m len × (q ≡ qualified h.qualifiers (network_said h.qualifiers.direction (network.Ipv4 a len)))
+  mask_only q v vs ws more prim ends same =
+      let longer : v ∷ (vs ++ more) ≡ r.word ∷ (r.front ++ (b.address.bytes.now ∷ codes "mask" ∷ ws)) = same ∙ ap (λ us. r.word ∷ us) (append_assoc r.front (b.address.bytes.now ∷ codes "mask" ∷ []) ws) in
+      let found = identifier_after x n text h r q v vs (b.address.bytes.now ∷ codes "mask" ∷ ws) more prim ends longer (ap (take 1) (sym mask_begins)) in
+      let id : found.0 ≡ b.address.bytes.now = cc found.3 in
+      let after : found.1 ++ more ≡ codes "mask" ∷ ws = cc found.3 in
+      elim found.4 [
+        | inl one ↦ absurd (false≢true (subst (λ us. IsTrue (ends_term us)) (ap (λ us. us ++ more) (sym one.0) ∙ after) ends))
+        | inr masked ↦
+            let there : codes "mask" ∷ masked.0 ∷ more ≡ codes "mask" ∷ ws = ap (λ us. us ++ more) (sym masked.4) ∙ after in
+            let front = one_front b.address.bytes.now masked.1 a (subst (λ u. IsFrontText u masked.1) id masked.5) b.front in
+            (masked.0, masked.2, cc there, masked.6, found.5 ∙ ap (qualified h.qualifiers) (masked.7 ∙ ap (λ k. network_said h.qualifiers.direction (network.Ipv4 k masked.2)) front))
+      ]
+
+  -- the words of a network with this mask are one
+  mask_is : (m : Word) (len : ℕ) → IsMaskText m len → IsPrimitive x r.word (before_mask ++ (m ∷ [])) (qualified h.qualifiers (network_said h.qualifiers.direction (network.Ipv4 a len)))
+  mask_is m len is =
+      let there : qualifiers_at (r.word ∷ (r.front ++ (b.address.bytes.now ∷ codes "mask" ∷ m ∷ []))) ≡ Some (h.qualifiers, b.address.bytes.now ∷ codes "mask" ∷ m ∷ [])
+      = r.at (b.address.bytes.now ∷ codes "mask" ∷ m ∷ []) (ends_alike h.qualifiers.direction h.qualifiers.kind (b.address.bytes.now ∷ codes "mask" ∷ m ∷ []) (words h.rest.now) (ap (take 1) (sym mask_begins)) r.ends) in
+      let words_there : r.word ∷ (before_mask ++ (m ∷ [])) ≡ r.word ∷ (r.front ++ (b.address.bytes.now ∷ codes "mask" ∷ m ∷ [])) = ap (λ us. r.word ∷ us) (append_assoc r.front (b.address.bytes.now ∷ codes "mask" ∷ []) (m ∷ [])) in
+      inr (inl (h.qualifiers, b.address.bytes.now, codes "mask" ∷ m ∷ [], network_said h.qualifiers.direction (network.Ipv4 a len), ap qualifiers_at words_there ∙ there, inr (m, a, len, b.network, refl, b.front, is, refl), refl))
+
+  -- there is room for it
+  mask_fits : (len : ℕ) → n < 64 → n + terms_of (says (qualified h.qualifiers (network_said h.qualifiers.direction (network.Ipv4 a len)))) ≤ 64
+  mask_fits len few = here h.qualifiers.protocol refl (r.room few) where
+    here : (o : Option Protocol) → h.qualifiers.protocol ≡ o → n + fewest_terms h.qualifiers ≤ 64 → n + terms_of (says (qualified h.qualifiers (network_said h.qualifiers.direction (network.Ipv4 a len)))) ≤ 64
+    here None e room = omega (arith, room, network_terms h.qualifiers.direction (network.Ipv4 a len), same_terms h.qualifiers (network_said h.qualifiers.direction (network.Ipv4 a len)) e)
+    here (Some p) e room =
+        omega (
+          arith,
+          network_terms h.qualifiers.direction (network.Ipv4 a len),
+          subst (λ o. n + (option_map_or (λ p. 1) o 0 + fewest_named h.qualifiers.direction) ≤ 64) e room,
+          more_terms h.qualifiers p (network_said h.qualifiers.direction (network.Ipv4 a len)) e,
+        )
+
+  pub mask_read : (w : FirstWord) → IsFirstWord rest w → (len : ℕ) → IsMaskText w.bytes.now len → (p : Primitive) → p ≡ qualified h.qualifiers (network_said h.qualifiers.direction (network.Ipv4 a len)) → ReadsPrimitive x n text p w.rest.now
+  mask_read w is len says_it p that = record {
+    word = r.word;
+    args = before_mask ++ (w.bytes.now ∷ []);
+    begins = before_begins ∙ ap (λ ws. r.word ∷ (before_mask ++ ws)) is.begins ∙ ap (λ ws. r.word ∷ ws) (sym (append_assoc before_mask (w.bytes.now ∷ []) (words w.rest.now)));
+    is = subst (IsPrimitive x r.word (before_mask ++ (w.bytes.now ∷ []))) (sym that) (mask_is w.bytes.now len says_it);
+    few = λ room. subst (λ z. n + terms_of (says z) ≤ 64) (sym that) (mask_fits len room);
+    end = end_of_end text rest mask_end w.rest.now is.end;
+    only = λ q v vs ws more prim ends same next.
+        let longer : v ∷ (vs ++ more) ≡ (r.word ∷ before_mask) ++ (w.bytes.now ∷ ws) = same ∙ ap (λ us. r.word ∷ us) (append_assoc before_mask (w.bytes.now ∷ []) ws) in
+        let found = mask_only q v vs (w.bytes.now ∷ ws) more prim ends longer in
+        let mask : found.0 ≡ w.bytes.now = cc found.2 in
+        let after : more ≡ ws = cc found.2 in
+        let one = one_mask w.bytes.now found.1 len (subst (λ u. IsMaskText u found.1) mask found.3) says_it in
+        let tail : vs ++ more ≡ (before_mask ++ (w.bytes.now ∷ [])) ++ ws = cc same in (
+          cc same,
+          append_cancel_right vs (before_mask ++ (w.bytes.now ∷ [])) ws (ap (λ us. vs ++ us) (sym after) ∙ tail),
+          found.4 ∙ ap (λ k. qualified h.qualifiers (network_said h.qualifiers.direction (network.Ipv4 a k))) one ∙ sym that,
+        );
+  }
+
+  mask_refused : (left : ℕ) → IsPlace rest [] left → ((m : Word) (len : ℕ) → take 1 (words rest) ≡ m ∷ [] → IsMaskText m len → ⊥) → RefusesPrimitive x n text left expects.Mask
+  mask_refused left place bad =
+      let at : words rest ≡ words (drop (length text - left) text) = place.words_before ∙ ap words (from_place text rest mask_end left place.within) in
+      record {
+        front = r.word ∷ before_mask;
+        place = subst (λ us. IsPlace text us left) (append-nil (r.word ∷ before_mask)) (place_in_end text rest mask_end (r.word ∷ before_mask) [] left before_begins place);
+        begins = λ few. (
+          r.word,
+          before_mask ++ (some_mask.0 ∷ []),
+          some_mask.0 ∷ [],
+          qualified h.qualifiers (network_said h.qualifiers.direction (network.Ipv4 a some_mask.1)),
+          mask_is some_mask.0 some_mask.1 some_mask.2,
+          mask_fits some_mask.1 few,
+          refl,
+        );
+        none = λ q v vs ws more prim small ends same next.
+            let found = mask_only q v vs ws more prim ends same in
+            bad found.0 found.1 (ap (take 1) at ∙ sym next ∙ ap (take 1) found.2) found.3;
+        expected = (r.word ∷ (r.front ++ (b.address.bytes.now ∷ [])), codes "mask", ap (λ us. r.word ∷ us) (sym (append_assoc r.front (b.address.bytes.now ∷ []) (codes "mask" ∷ []))), refl);
+      }
+
+  pub mask_missing : (left : ℕ) (e : Expected) → (words rest ≡ []) × IsPlace rest [] left × (e ≡ expects.Mask) → RefusesPrimitive x n text left e
+  mask_missing left e m = subst (RefusesPrimitive x n text left) (sym m.2) (mask_refused left m.1 (λ w len next is. cc (sym next ∙ ap (take 1) m.0)))
+
+  pub other_mask : (w : FirstWord) → IsFirstWord rest w → ((len : ℕ) → IsMaskText w.bytes.now len → ⊥) → RefusesPrimitive x n text w.left expects.Mask
+  other_mask w is bad = mask_refused w.left is.place (λ m len next says_it. let same : m ≡ w.bytes.now = cc (sym next ∙ ap (take 1) is.begins) in bad len (subst (λ u. IsMaskText u len) same says_it))
 
 -- ---- where no qualifiers go on
 
@@ -515,7 +660,7 @@ module _ (pre : List Word) (c : ℕ) (around : Qualifiers → Qualifiers) (first
   begin_primitive Is ws rest y id m e is holds =
       let there : qualifiers_at (a.word ∷ a.args (ws ++ rest)) ≡ Some (around y, id ∷ []) = ap qualifiers_at (sym (a.split (ws ++ rest))) ∙ a.there (ws ++ rest) y (id ∷ []) e in
       let identifies = subst (λ d. Identifies (around y).kind d id m) (sym (a.direction y)) (subst (λ k. Identifies k y.direction id m) (sym (a.kind y)) is) in
-      (a.word, a.args (ws ++ rest), rest, qualified (around y) m, inr (inl (around y, id, m, there, identifies, refl)), holds, sym (a.split (ws ++ rest)) ∙ sym (append_assoc pre (first ∷ ws) rest))
+      (a.word, a.args (ws ++ rest), rest, qualified (around y) m, inr (inl (around y, id, [], m, there, inl (refl, identifies), refl)), holds, sym (a.split (ws ++ rest)) ∙ sym (append_assoc pre (first ∷ ws) rest))
 
 module _ (x : Option Qualifiers) (n c k : ℕ) (text rest : List ℕ) (e : IsSuffix text rest) (pre : List Word) (before : words text ≡ pre ++ words rest) (around : Qualifiers → Qualifiers) (left : ℕ) (wanted : Expected)
     (r : RefusesSide k rest left wanted) (a : IsAround pre c around r.first) (counts : k ≡ c + n) (fits : n < 64 → k < 64) where
@@ -527,10 +672,10 @@ module _ (x : Option Qualifiers) (n c k : ℕ) (text rest : List ℕ) (e : IsSuf
   longer q v vs ws more prim small ends same next =
       let all : v ∷ (vs ++ more) ≡ pre ++ r.first ∷ (r.front ++ ws) = same ∙ append_assoc pre (r.first ∷ r.front) ws in
       let y = a.only x q v vs more (r.front ++ ws) prim ends all in
-      let b = a.back (r.front ++ ws) y.0 (y.1 ∷ more) (sym (ap qualifiers_at all) ∙ qualifiers_more (v ∷ vs) more y.0 y.1 [] y.3) in
-      let identifies = subst (λ k. Identifies k b.0.direction y.1 y.2) (a.kind b.0) (subst (λ d. Identifies (around b.0).kind d y.1 y.2) (a.direction b.0) (subst (λ z. Identifies z.kind z.direction y.1 y.2) b.2 y.4)) in
-      let long = r.none ws more b.0 y.1 y.2 (next ∙ ap (λ s. take 1 (words s)) (sym at_place)) b.1 identifies in
-      omega (arith, long, small, counts, ap (λ z. terms_of (says z)) y.5, ap (λ z. terms_of (says (qualified z y.2))) b.2, a.some_terms b.0 y.2)
+      let b = a.back (r.front ++ ws) y.0 (y.1 ∷ (y.2 ++ more)) (sym (ap qualifiers_at all) ∙ qualifiers_more (v ∷ vs) more y.0 y.1 y.2 y.4) in
+      let identifies = subst (λ k. Identify k b.0.direction y.1 y.2 y.3) (a.kind b.0) (subst (λ d. Identify (around b.0).kind d y.1 y.2 y.3) (a.direction b.0) (subst (λ z. Identify z.kind z.direction y.1 y.2 y.3) b.2 y.5)) in
+      let long = r.none ws y.2 more b.0 y.1 y.3 (next ∙ ap (λ s. take 1 (words s)) (sym at_place)) b.1 identifies in
+      omega (arith, long, small, counts, ap (λ z. terms_of (says z)) y.6, ap (λ z. terms_of (says (qualified z y.3))) b.2, a.some_terms b.0 y.3)
 
   due : (next : List Word) → IsDueInSide (r.first ∷ r.front) wanted (BeginSide (r.first ∷ (r.front ++ next)) (λ m. ⊤)) → IsDueIn x (pre ++ r.first ∷ r.front) next wanted
   due next d = elim d [
@@ -572,8 +717,8 @@ module _ (x : Option Qualifiers) (n : ℕ) (text : List ℕ) (w : FirstWord) (is
         let first : u ≡ next.bytes.now = cc e in
         let named_there : protocol_named v ≡ Some p = ap protocol_named head ∙ sym named in
         let y = protocol_only x q v vs more prim p named_there ends u us (subst (λ l. IsTrue (is_some (side_or_kind_at (l ∷ [])))) (sym first) side) rest in
-        let two = more_terms y.0 p y.2 (has_protocol v vs p y.0 (y.1 ∷ []) named_there y.3) in
-        omega (arith, many, small, two, some_terms_named y.2, ap (λ z. terms_of (says z)) y.5)
+        let two = more_terms y.0 p y.3 (has_protocol v vs p y.0 (y.1 ∷ y.2) named_there y.4) in
+        omega (arith, many, small, two, some_terms_named y.3, ap (λ z. terms_of (says z)) y.6)
 
     begins_long : BeginsPrimitive x (w.bytes.now ∷ next.bytes.now ∷ []) (λ p. ⊤)
     begins_long = elim (first_of_side next.bytes.now side) [
@@ -626,11 +771,11 @@ module _ (n : ℕ) (text : List ℕ) (w : FirstWord) (is : IsFirstWord text w) (
         place = place_in_end text w.rest.now is.end (w.bytes.now ∷ []) r.front left is.begins r.place;
         some = ap (λ o. is_some (sided o (kind_of w.bytes.now) [])) (sym named);
         begins = λ few. let b = r.begins few in let room = b.3 in begin_side (λ m. n + terms_of (says_named m) ≤ 64) r.front b.0 b.1 b.2 (λ m small. omega (arith, room, small));
-        none = λ ws more x id m next there identifies.
-            let f = from_directions (directions_at d (r.front ++ ws)) x (id ∷ more) (sym (by_directions (r.front ++ ws)) ∙ there) in
+        none = λ ws us more x id m next there identifies.
+            let f = from_directions (directions_at d (r.front ++ ws)) x (id ∷ (us ++ more)) (sym (by_directions (r.front ++ ws)) ∙ there) in
             let long = r.none ws f.1 f.0 (next ∙ ap (λ s. take 1 (words s)) (sym at)) f.2 in
             let both_sides : x.direction ≡ direction.Both = ap (λ g. g.0.direction) (sym f.3) ∙ direction_of_side f.0 f.1 ∙ long.0 in
-            let two = side_terms x.kind x.direction id m (λ p. kind_of_side f.0 f.1 (ap (λ g. g.0.kind) f.3 ∙ p)) identifies in
+            let two = all_terms x.kind x.direction id us m (λ p. kind_of_side f.0 f.1 (ap (λ g. g.0.kind) f.3 ∙ p)) identifies in
             let many = long.1 in
             omega (arith, many, two, ap fewest_named both_sides);
         expected = elim r.expected [

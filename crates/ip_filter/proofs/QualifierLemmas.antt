@@ -81,6 +81,7 @@ later expects.Icmp6Type us front wants = later_last us front _ wants
 later expects.Comparison us front wants = later_last us front _ wants
 later expects.Count us front wants = later_last us front _ wants
 later expects.Network us front wants = later_last us front _ wants
+later expects.Mask us front wants = later_last us front _ wants
 later expects.Address us front wants = later_last us front _ wants
 later expects.NetworkOrPort us front wants = later_last us front _ wants
 later expects.Ports us front wants = later_last us front _ wants

@@ -24,7 +24,7 @@ use Rattle.ip_filter.specs.Operators.{is_not, is_and, is_or}
 use Rattle.ip_filter.specs.Numbers.{version_named, header_named, protocol_of, number_up_to, tcp_flags_of, comparison_of, fault_kind_of, layer_named}
 use Rattle.ip_filter.specs.IcmpTypes.{icmp_type_of, icmp6_type_of}
 use Rattle.ip_filter.specs.Formula.{Formula, negation, both, either, terms_of}
-use Rattle.ip_filter.specs.Qualifiers.{protocol_term, multicast_with, protocol_named, side_or_kind_at, qualifiers_at, Identifies, says, plain, qualified}
+use Rattle.ip_filter.specs.Qualifiers.{protocol_term, multicast_with, protocol_named, side_or_kind_at, qualifiers_at, Identifies, Identify, says, plain, qualified}
 
 -- ---- keywords
 
@@ -150,7 +150,8 @@ is_identifier w =
 -- qualifiers and an identifier
 abbrev pub IsQualified : List Word → Primitive → Type 0
 IsQualified ws p =
-    (x : Qualifiers) × (w : Word) × (n : Named) × (qualifiers_at ws ≡ Some (x, w ∷ [])) × Identifies x.kind x.direction w n × (p ≡ qualified x n)
+    (x : Qualifiers) × (w : Word) × (vs : List Word) × (n : Named) × (qualifiers_at ws ≡ Some (x, w ∷ vs)) × Identify x.kind x.direction w vs n
+    × (p ≡ qualified x n)
 
 -- an identifier alone, which takes the qualifiers of the primitive before it
 abbrev pub IsCarried : Option Qualifiers → Word → List Word → Primitive → Type 0

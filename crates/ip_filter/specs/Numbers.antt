@@ -1,5 +1,5 @@
 -- How a filter's text writes numbers, protocols, comparisons, kinds of fault and networks.
-use Rattle.std.specs.Prelude.{◌≡◌, ◌⊎◌, ◌*◌, ◌+◌, ◌≤◌, ℕ, List, [], ◌∷◌, length, take, drop, Bool, false, not, ◌==◌, ◌&&◌, ◌||◌, nat_le, nat_lt, bit_and, bit_or, Option, Some, None, codes, if◌then◌else◌}
+use Rattle.std.specs.Prelude.{◌≡◌, ◌⊎◌, ◌*◌, ◌+◌, ◌-◌, ◌^◌, ◌≤◌, ℕ, List, [], ◌∷◌, length, take, drop, Bool, false, not, ◌==◌, ◌&&◌, ◌||◌, nat_le, nat_lt, bit_and, bit_or, Option, Some, None, codes, if◌then◌else◌}
 use Rattle.std.specs.List.{list_all, prefix_len}
 use Rattle.std.specs.Option.{option_map, option_or, option_and_then}
 use Rattle.std.specs.Char.{is_digit}
@@ -242,6 +242,18 @@ front_network w =
 -- a network, or else the front of an IPv4 address (pcap-filter(7))
 abbrev pub IsNetworkOrFront : Word → Network → Type 0
 IsNetworkOrFront w n = IsNetworkText w n ⊎ (((m : Network) → IsNetworkText w m → ⊥) × (front_network w ≡ Some n))
+
+-- an IPv4 address or its front, and no number of bits
+abbrev pub IsFrontText : Word → ℕ → Type 0
+IsFrontText w a = (len : ℕ) × IsNetworkOrFront w (network.Ipv4 a len) × (length w ≤ slash_index w)
+
+-- the mask of 32 bits whose first len are 1, and the others 0 (RFC 4632, section 5.1)
+abbrev pub mask_of : ℕ → ℕ
+mask_of len = 2 ^ 32 - 2 ^ (32 - len)
+
+-- a mask of len bits, written as an address
+abbrev pub IsMaskText : Word → ℕ → Type 0
+IsMaskText w len = (len ≤ 32) × IsFrontText w (mask_of len)
 
 -- an address, and no number of bits
 abbrev pub IsHostText : Word → Network → Type 0

@@ -1,5 +1,5 @@
 -- Qualifiers: the words before an identifier, which say what it is compared with (pcap-filter(7)).
-use Rattle.std.specs.Prelude.{◌≡◌, ◌==◌, ℕ, List, [], ◌∷◌, ◌||◌, Option, Some, None, is_some, codes, if◌then◌else◌}
+use Rattle.std.specs.Prelude.{◌≡◌, ◌==◌, ℕ, List, [], ◌∷◌, ◌||◌, ◌⊎◌, Option, Some, None, is_some, codes, if◌then◌else◌}
 use Rattle.std.specs.Option.{option_map}
 use Rattle.std.specs.Str.{bytes_eq}
 use Rattle.ip_filter.specs.declared.network.Network.{Network}
@@ -21,7 +21,7 @@ use Rattle.ip_filter.specs.declared.qualifiers.Named.TheVariants as named
 use Rattle.ip_filter.specs.declared.qualifiers.Primitive.{Primitive}
 use Rattle.ip_filter.specs.Words.{Word}
 use Rattle.ip_filter.specs.Operators.{is_and, is_or}
-use Rattle.ip_filter.specs.Numbers.{header_numbered, upper_layer_of, protocol_of, ports_of, IsNetworkText, IsNetworkOrFront, IsHostText}
+use Rattle.ip_filter.specs.Numbers.{header_numbered, upper_layer_of, protocol_of, ports_of, IsNetworkText, IsNetworkOrFront, IsFrontText, IsMaskText, IsHostText}
 use Rattle.ip_filter.specs.Formula.{Formula, single, both, either}
 
 -- ---- what primitives say
@@ -172,6 +172,16 @@ Identifies kind.Host d w n = (a : Network) × IsHostText w a × (n ≡ network_s
 Identifies kind.Network d w n = (a : Network) × IsNetworkOrFront w a × (n ≡ network_said d a)
 Identifies kind.Ports d w n = (r : Ports) × (ports_of w ≡ Some r) × (n ≡ ports_said d r)
 Identifies kind.Protocol d w n = (k : ℕ) × (protocol_of w ≡ Some k) × (n ≡ protocol_said k)
+
+-- `net A mask M`: the word w is the address, and a mask follows it
+abbrev pub IsMasked : Kind → Direction → Word → List Word → Named → Type 0
+IsMasked k d w ws n =
+    (m : Word) × (a len : ℕ) × (k ≡ kind.Network) × (ws ≡ codes "mask" ∷ m ∷ []) × IsFrontText w a × IsMaskText m len
+    × (n ≡ network_said d (network.Ipv4 a len))
+
+-- the word w and those after it say n, as an identifier of this kind
+abbrev pub Identify : Kind → Direction → Word → List Word → Named → Type 0
+Identify k d w ws n = ((ws ≡ []) × Identifies k d w n) ⊎ IsMasked k d w ws n
 
 -- what is expected after a direction and `or` or `and`
 abbrev pub wanted_side : Direction → Expected

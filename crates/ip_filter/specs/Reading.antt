@@ -20,9 +20,9 @@ use Rattle.ip_filter.specs.declared.primitive.Head.{Head}
 use Rattle.ip_filter.specs.declared.parse_error.Expected.{Expected}
 use Rattle.ip_filter.specs.declared.parse_error.Expected.TheVariants as expects
 use Rattle.ip_filter.specs.Words.{Word, words, is_white_space}
-use Rattle.ip_filter.specs.Numbers.{comparison_of}
+use Rattle.ip_filter.specs.Numbers.{comparison_of, IsFrontText}
 use Rattle.ip_filter.specs.Formula.{terms_of}
-use Rattle.ip_filter.specs.Qualifiers.{protocol_named, direction_named, kind_named, kind_of, of_any_protocol, directions_at, side_at, side_or_kind_at, qualifiers_at, wanted, Identifies, says, says_named}
+use Rattle.ip_filter.specs.Qualifiers.{protocol_named, direction_named, kind_named, kind_of, of_any_protocol, directions_at, side_at, side_or_kind_at, qualifiers_at, wanted, Identifies, Identify, says, says_named}
 use Rattle.ip_filter.specs.Operators.{is_and, is_or}
 use Rattle.ip_filter.specs.Grammar.{keyword_of, AreArguments, IsPrimitive}
 
@@ -73,6 +73,7 @@ WantsArgument ws expects.Icmp6Type = LastIs (IsKeyword (keyword.Number number.Ic
 WantsArgument ws expects.Comparison = LastIs IsCountKeyword ws
 WantsArgument ws expects.Count = LastIs (λ w. IsTrue (is_some (comparison_of w))) ws
 WantsArgument ws expects.Network = LastIs (IsKind kind.Network) ws
+WantsArgument ws expects.Mask = LastIs (λ w. w ≡ codes "mask") ws
 WantsArgument ws expects.Address = LastIs (IsKind kind.Host) ws
 WantsArgument ws expects.NetworkOrPort = LastIs (λ w. IsTrue (is_some (direction_named w))) ws
 WantsArgument ws expects.Source = AreJoining (codes "dst") ws
@@ -264,8 +265,8 @@ pub record RefusesSide (n : ℕ) (text : List ℕ) (left : ℕ) (e : Expected) :
   pub place : IsPlace text (first ∷ front) left
   pub some : IsTrue (is_some (side_or_kind_at (first ∷ [])))
   pub begins : n < 64 → BeginSide (first ∷ front) (λ m. n + terms_of (says_named m) ≤ 64)
-  pub none : (ws more : List Word) (x : Qualifiers) (id : Word) (m : Named) → take 1 ws ≡ take 1 (words (drop (length text - left) text))
-      → side_or_kind_at (first ∷ (front ++ ws)) ≡ Some (x, id ∷ more) → Identifies x.kind x.direction id m → 64 < n + terms_of (says_named m)
+  pub none : (ws us more : List Word) (x : Qualifiers) (id : Word) (m : Named) → take 1 ws ≡ take 1 (words (drop (length text - left) text))
+      → side_or_kind_at (first ∷ (front ++ ws)) ≡ Some (x, id ∷ (us ++ more)) → Identify x.kind x.direction id us m → 64 < n + terms_of (says_named m)
   pub expected : IsDueInSide (first ∷ front) e (BeginSide (first ∷ (front ++ take 1 (words (drop (length text - left) text)))) (λ m. ⊤))
 
 -- The text begins with the qualifiers h: with a protocol, if they have one, and the others after it. After n terms there is room
@@ -282,6 +283,21 @@ pub record ReadsQualifiers (n : ℕ) (text : List ℕ) (h : Head) : Type 0 where
   pub ends : EndsBefore h.qualifiers.direction h.qualifiers.kind (words h.rest.now)
   pub wants : WantsArgument (word ∷ front) (wanted h.qualifiers.kind)
   pub room : n < 64 → n + fewest_terms h.qualifiers ≤ 64
+
+-- After the qualifiers h, the text begins with the address a of a network and the word `mask`, and `rest` follows them.
+pub record BeginsMask (h : Head) (a : ℕ) (rest : List ℕ) : Type 0 where
+  pub address : FirstWord
+  pub mask : FirstWord
+  pub network : h.qualifiers.kind ≡ kind.Network
+  pub front : IsFrontText address.bytes.now a
+  pub first : IsFirstWord h.rest.now address
+  pub second : IsFirstWord address.rest.now mask
+  pub is_mask : mask.bytes.now ≡ codes "mask"
+  pub after : rest ≡ mask.rest.now
+
+-- the word w isn't the address of a network, or no mask follows it
+abbrev pub LacksMask : Kind → FirstWord → Type 0
+LacksMask k w = (a : ℕ) → k ≡ kind.Network → IsFrontText w.bytes.now a → take 1 (words w.rest.now) ≡ codes "mask" ∷ [] → ⊥
 
 -- After k terms the text begins with the primitive p, and `rest` follows it. No other primitive begins like these words, up
 -- to the word after them.

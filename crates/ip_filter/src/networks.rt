@@ -1,8 +1,9 @@
 //! Networks, as a filter's text writes them.
-ghost use Rattle.std.specs.Prelude.{◌≡◌, take, drop, IfSome, IfNone};
+ghost use Rattle.std.specs.Prelude.{◌≡◌, ◌≤◌, ℕ, take, drop, IfSome, IfNone};
 ghost use Rattle.ip_filter.specs.declared.network.Network.{Network as TheNetwork};
+ghost use Rattle.ip_filter.specs.declared.network.Network.TheVariants as is;
 ghost use Rattle.std.specs.Option.{option_and_then};
-ghost use Rattle.ip_filter.specs.Numbers.{number_up_to, prefix_bits, ipv4_front, dot_index, third_number, front_of, front_bits, front_network, IsNetworkText, IsNetworkOrFront, IsHostText};
+ghost use Rattle.ip_filter.specs.Numbers.{number_up_to, prefix_bits, ipv4_front, dot_index, third_number, front_of, front_bits, front_network, mask_of, IsNetworkText, IsNetworkOrFront, IsFrontText, IsMaskText, IsHostText};
 
 use crate::Network;
 use crate::numbers::{index_of, parse_byte, parse_number};
@@ -103,6 +104,69 @@ fn ipv4_front(first: u8, second: u8, third: u8) -> u32
     ensures { result ≡ ipv4_front first second third }
 {
     u32::from(first) * 16_777_216 + u32::from(second) * 65_536 + u32::from(third) * 256
+}
+
+/// Returns the IPv4 address that the text writes or begins, as that of 192.168. It has no slash.
+pub(crate) fn parse_front_address(text: &[u8]) -> Option<u32>
+    ensures some { IfSome result (IsFrontText text.now) }
+    ensures none { IfNone result ((a : ℕ) → IsFrontText text.now a → ⊥) }
+{
+    if index_of(text, b'/') < text.len() {
+        return None;
+    }
+    match parse_network_or_front(text) {
+        Some(network) => match ipv4_address(network) {
+            Some(address) => Some(address),
+            None => None,
+        },
+        None => None,
+    }
+}
+
+/// Returns the address of a network of IPv4 addresses.
+fn ipv4_address(network: Network) -> Option<u32>
+    ensures some { IfSome result (λ a. (len : ℕ) × (network ≡ is.Ipv4 a len)) }
+    ensures none { IfNone result ((a len : ℕ) → network ≡ is.Ipv4 a len → ⊥) }
+{
+    match network {
+        Network::Ipv4 { address, .. } => Some(address),
+        Network::Ipv6 { .. } => None,
+    }
+}
+
+/// Returns how many ones the mask has that the word writes as an address, if no zero precedes a one.
+pub(crate) fn parse_mask(word: &[u8]) -> Option<u8>
+    ensures some { IfSome result (IsMaskText word.now) }
+    ensures none { IfNone result ((len : ℕ) → IsMaskText word.now len → ⊥) }
+{
+    match parse_front_address(word) {
+        Some(mask) => match mask_len(mask) {
+            Some(len) => Some(len),
+            None => None,
+        },
+        None => None,
+    }
+}
+
+/// Returns how many ones the mask has, if no zero precedes a one.
+fn mask_len(mask: u32) -> Option<u8>
+    ensures some { IfSome result (λ len. (len ≤ 32) × (mask ≡ mask_of len)) }
+    ensures none { IfNone result ((len : ℕ) → len ≤ 32 → mask ≡ mask_of len → ⊥) }
+{
+    'lengths: for len in 0..33 {
+        if mask == mask_of(len) {
+            return Some(len);
+        }
+    }
+    None
+}
+
+/// Returns the mask of `len` ones.
+fn mask_of(len: u8) -> u32
+    requires { len ≤ 32 }
+    ensures { result ≡ mask_of len }
+{
+    ((1u64 << 32) - (1u64 << (32 - len))) as u32
 }
 
 /// Returns the network of the address that the word writes, which has no slash.

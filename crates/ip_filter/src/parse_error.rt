@@ -34,6 +34,9 @@ pub enum Expected {
     /// A network.
     #[error("an address or a prefix")]
     Network,
+    /// A mask, after the address of a network.
+    #[error("a mask that begins with its ones, as 255.255.255.0")]
+    Mask,
     /// A code of ICMP, a type of routing, or a type of option.
     #[error("a number from 0 to 255")]
     Byte,

@@ -1,24 +1,27 @@
 //! Primitives, as a filter's text writes them: a term, or qualifiers and an identifier.
-ghost use Rattle.std.specs.Prelude.{◌≡◌, is_some, ℕ, List, [], ◌∷◌, false, Option, Some, None, codes, IfOk, IfErr, IfSome, IfNone};
+ghost use Rattle.std.specs.Prelude.{◌≡◌, is_some, ℕ, List, [], ◌∷◌, take, false, Option, Some, None, codes, IfOk, IfErr, IfSome, IfNone};
 ghost use Rattle.std.specs.Str.{bytes_eq};
 ghost use Rattle.ip_filter.specs.declared.words.Word.{Word as FirstWord};
-ghost use Rattle.ip_filter.specs.Words.{Word as Text};
+ghost use Rattle.ip_filter.specs.Words.{Word as Text, words};
 ghost use Rattle.ip_filter.specs.declared.qualifiers.Qualifiers.{Qualifiers as TheQualifiers};
 ghost use Rattle.ip_filter.specs.declared.qualifiers.Named.{Named as TheNamed};
-ghost use Rattle.ip_filter.specs.Qualifiers.{Identifies, qualified, of_any_protocol, protocol_named, direction_named, joined_by, wanted_side, side_or_kind_at};
+ghost use Rattle.ip_filter.specs.declared.primitive.Head.{Head as TheHead};
+ghost use Rattle.ip_filter.specs.declared.network.Network.TheVariants as network;
+ghost use Rattle.ip_filter.specs.Qualifiers.{Identifies, qualified, network_said, of_any_protocol, protocol_named, direction_named, joined_by, wanted_side, side_or_kind_at};
 ghost use Rattle.ip_filter.specs.Grammar.{Finds, keyword_of, is_identifier};
-ghost use Rattle.ip_filter.specs.Reading.{IsFirstWord, ReadsArgument, RefusesArgument, BeginsNoQualifiers, ReadsDirections, RefusesDirections, ReadsKind, ReadsSide, RefusesSide, ReadsQualifiers, ReadsPrimitive, RefusesPrimitive};
+ghost use Rattle.ip_filter.specs.Reading.{IsFirstWord, ReadsArgument, RefusesArgument, BeginsNoQualifiers, ReadsDirections, RefusesDirections, ReadsKind, ReadsSide, RefusesSide, ReadsQualifiers, BeginsMask, LacksMask, ReadsPrimitive, RefusesPrimitive};
 
-use crate::Expected;
 use crate::arguments::{Unexpected, argument};
 use crate::keyword::keyword_of;
+use crate::networks::{parse_front_address, parse_mask};
 use crate::operators::{is_and, is_not, is_or};
 use crate::parse_term::read_term;
 use crate::qualifiers::{
     Direction, Kind, Primitive, Protocol, Qualifiers, direction_named, kind_named, kind_of,
-    protocol_named,
+    network_said, protocol_named,
 };
 use crate::words::{Word, first_word};
+use crate::{Expected, Network};
 
 /// The most terms of a filter.
 pub(crate) const MAX_TERMS: usize = 64;
@@ -234,15 +237,87 @@ fn read_qualified<'a>(head: Head<'a>, terms: usize) -> ReadPrimitive<'a>
         → RefusesPrimitive x terms text e.left e.expected) }
 {
     match argument(head.rest, head.qualifiers.kind.wanted()) {
-        Ok(word) => read_identifier(head, terms, word),
+        Ok(word) => match address_before_mask(head.qualifiers.kind, &word) {
+            Some((address, rest)) => match read_mask(head.qualifiers, address, rest) {
+                Ok(read) => Ok(read),
+                Err(error) => Err(error),
+            },
+            None => read_identifier(head, terms, word),
+        },
         Err(error) => Err(error),
+    }
+}
+
+/// Returns the address of a network that the word writes, and the text after the word `mask`, if that follows it.
+fn address_before_mask<'a>(kind: Kind, word: &Word<'a>) -> Option<(u32, &'a [u8])>
+    ensures some { IfSome result (λ r. (h : TheHead) → h.qualifiers.kind ≡ kind → IsFirstWord h.rest.now word.now
+        → BeginsMask h r.0 r.1.now) }
+    ensures none { IfNone result (LacksMask kind word.now) }
+{
+    match kind {
+        Kind::Network => match parse_front_address(word.bytes) {
+            Some(address) => match after_mask(word.rest) {
+                Some(rest) => Some((address, rest)),
+                None => None,
+            },
+            None => None,
+        },
+        _ => None,
+    }
+}
+
+/// Returns the text after the word `mask`, if the text begins with it.
+fn after_mask(text: &[u8]) -> Option<&[u8]>
+    ensures some { IfSome result (λ rest. (w : FirstWord) × IsFirstWord text.now w × (w.bytes.now ≡ codes "mask")
+        × (rest.now ≡ w.rest.now)) }
+    ensures none { IfNone result (take 1 (words text.now) ≡ codes "mask" ∷ [] → ⊥) }
+{
+    match first_word(text) {
+        Some(word) => {
+            if word.bytes == b"mask".as_slice() {
+                Some(word.rest)
+            } else {
+                None
+            }
+        }
+        None => None,
+    }
+}
+
+/// Reads the mask after the address of a network.
+fn read_mask(qualifiers: Qualifiers, address: u32, text: &[u8]) -> ReadPrimitive<'_>
+    ensures ok { IfOk result (λ r. (n : ℕ) (whole : List ℕ) (x : Option TheQualifiers) (h : TheHead)
+        → h.qualifiers ≡ qualifiers → ReadsQualifiers n whole h → BeginsMask h address text.now
+        → ReadsPrimitive x n whole r.0 r.1.now) }
+    ensures err { IfErr result (λ e. (n : ℕ) (whole : List ℕ) (x : Option TheQualifiers) (h : TheHead)
+        → h.qualifiers ≡ qualifiers → ReadsQualifiers n whole h → BeginsMask h address text.now
+        → RefusesPrimitive x n whole e.left e.expected) }
+{
+    match argument(text, Expected::Mask) {
+        Ok(word) => match parse_mask(word.bytes) {
+            Some(len) => Ok((masked(qualifiers, address, len), word.rest)),
+            None => Err(word.unexpected(Expected::Mask)),
+        },
+        Err(error) => Err(error),
+    }
+}
+
+/// Returns the primitive that the qualifiers are with the network of an IPv4 address.
+fn masked(qualifiers: Qualifiers, address: u32, len: u8) -> Primitive
+    ensures { result ≡ qualified qualifiers (network_said qualifiers.direction (network.Ipv4 address len)) }
+{
+    Primitive {
+        protocol: qualifiers.protocol,
+        named: network_said(qualifiers.direction, Network::Ipv4 { address, len }),
+        leaves: Some(qualifiers),
     }
 }
 
 /// Reads the word as the identifier after qualifiers.
 fn read_identifier<'a>(head: Head<'a>, terms: usize, word: Word<'a>) -> ReadPrimitive<'a>
     ensures ok { IfOk result (λ r. (text : List ℕ) (x : Option TheQualifiers) → ReadsQualifiers terms text head.entry
-        → IsFirstWord head.entry.rest.now word.entry → ReadsPrimitive x terms text r.0 r.1.now) }
+        → IsFirstWord head.entry.rest.now word.entry → LacksMask head.entry.qualifiers.kind word.entry
+        → ReadsPrimitive x terms text r.0 r.1.now) }
     ensures err { IfErr result (λ e. (text : List ℕ) (x : Option TheQualifiers) → ReadsQualifiers terms text head.entry
         → IsFirstWord head.entry.rest.now word.entry → RefusesPrimitive x terms text e.left e.expected) }
 {

@@ -280,7 +280,7 @@ impl Kind {
 }
 
 /// Returns what a network says with the direction.
-fn network_said(direction: Direction, network: Network) -> Named
+pub(crate) fn network_said(direction: Direction, network: Network) -> Named
     ensures { result ≡ network_said direction network }
 {
     match direction {

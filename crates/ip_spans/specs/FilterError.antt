@@ -26,3 +26,4 @@ expected_code expected.IcmpType = 18
 expected_code expected.Icmp6Type = 19
 expected_code expected.Source = 20
 expected_code expected.Destination = 21
+expected_code expected.Mask = 22

@@ -64,6 +64,7 @@ fn code_of(expected: Expected) -> u8
         Expected::Icmp6Type => 19,
         Expected::Source => 20,
         Expected::Destination => 21,
+        Expected::Mask => 22,
     }
 }
 
@@ -94,6 +95,7 @@ pub(crate) fn expected_of(code: u8) -> Option<Expected>
         19 => Some(Expected::Icmp6Type),
         20 => Some(Expected::Source),
         21 => Some(Expected::Destination),
+        22 => Some(Expected::Mask),
         _ => None,
     }
 }

@@ -566,6 +566,20 @@ fn errors_in_arguments(rt: HostRuntime) -> Result<(), Fail> {
         ("net 10.1/33", 4, Expected::Network),
         ("src 192.168", 4, Expected::NetworkOrPort),
         ("host 192.168", 5, Expected::Address),
+        ("net 10.0.0.0 mask", 17, Expected::Mask),
+        ("net 10 mask 255.0.255.0", 12, Expected::Mask),
+        ("net 10 mask 0.255.0.0", 12, Expected::Mask),
+        ("net 10 mask 255.0.0.1", 12, Expected::Mask),
+        ("net 10 mask 255.0.0.0/8", 12, Expected::Mask),
+        ("net 10 mask ffff::", 12, Expected::Mask),
+        ("net 10 mask mask", 12, Expected::Mask),
+        ("net 10.0.0.0/8 mask 255.0.0.0", 15, Expected::OperatorOrEnd),
+        ("net ::1 mask 255.0.0.0", 8, Expected::OperatorOrEnd),
+        ("net mask 255.0.0.0", 4, Expected::Network),
+        ("src 10.0.0.0 mask 255.0.0.0", 13, Expected::OperatorOrEnd),
+        ("host 10.0.0.0 mask 255.0.0.0", 14, Expected::OperatorOrEnd),
+        ("net 10 or 11 mask 255.0.0.0", 13, Expected::OperatorOrEnd),
+        ("(net 10 mask 255 255", 17, Expected::OperatorOrClose),
     ];
     for (text, offset, expected) in &rows {
         check_error(&rt, text, *offset, *expected);
@@ -636,6 +650,21 @@ fn primitives(rt: HostRuntime) -> Result<(), Fail> {
         ),
         ("net 192.168/12", "net 192.168.0.0/12"),
         ("net 0xa.1", "net 10.1.0.0/16"),
+        ("net 10.0.0.0 mask 255.0.0.0", "net 10.0.0.0/8"),
+        ("net 192.168.16 mask 255.255.240", "net 192.168.16.0/20"),
+        ("src net 10 mask 255.128.0.0", "src 10.0.0.0/9"),
+        ("dst net 0.0.0.0 mask 0.0.0.0", "dst 0.0.0.0/0"),
+        ("net 192.0.2.1 mask 255.255.255.255", "net 192.0.2.1"),
+        ("net 192.0.2.0 mask 255.255.255.254", "net 192.0.2.0/31"),
+        ("net 128.0.0.0 mask 128.0.0.0", "net 128.0.0.0/1"),
+        (
+            "src and dst net 10.0.0.0 mask 255.0.0.0",
+            "(src 10.0.0.0/8 and dst 10.0.0.0/8)",
+        ),
+        (
+            "ip dst net 10 mask 255.0.0.0 or 11",
+            "(ip and dst 10.0.0.0/8) or (ip and dst 11.0.0.0/8)",
+        ),
         ("ip6 multicast and udp", "dst ff00::/8 and udp"),
     ];
     for (text, longer) in &rows {

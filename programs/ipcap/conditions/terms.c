@@ -72,7 +72,7 @@ static const char arguments[] =
     "          destination-options, routing, fragment\n"
     "TYPE      a number from 0 to 255, or its name in libpcap's expressions, as in the manual page\n"
     "N         a decimal number, or a hexadecimal one after 0x\n"
-    "NETWORK   an IPv4 or IPv6 address, alone or with a slash and a number of bits\n"
+    "NETWORK   an IPv4 or IPv6 address, alone or with a slash and a number of bits; after net, also A mask M\n"
     "ADDRESS   an IPv4 or IPv6 address\n"
     "PORTS     a number from 0 to 65535, a range such as 1024-65535, or the name of a service such as https\n"
     "FLAGS     fin, syn, rst, psh, ack, urg, ece, cwr, or several with commas between; all that count after a slash\n"

@@ -9,7 +9,7 @@
 //!
 //! Bytes are in hexadecimal, after an `x`.
 use etherparse::bpf::{Instruction, Program};
-use etherparse::defragment::{Defragmenter, OwnedDefragmenter, Outcome, Settings};
+use etherparse::defragment::{Defragmenter, Outcome, OwnedDefragmenter, Settings};
 use etherparse::rewrite::{
     cleared, in_order, with_header, with_payload, without, Authentication, RewriteError, Rewritten,
     Which,

@@ -67,6 +67,7 @@ class Filter:
         src NET, dst NET, net NET            NET is an IPv4 or IPv6 address, alone or with a slash and a number of bits
         host A                               A is an IPv4 or IPv6 address
         net 10, net 192.168, net 192.168.1   as `net 10.0.0.0/8`, `net 192.168.0.0/16`, `net 192.168.1.0/24`
+        net 10.0.0.0 mask 255.0.0.0          as `net 10.0.0.0/8`; the ones of the mask are at its start
         ip multicast, ip6 multicast          the destination is in 224.0.0.0/3, in ff00::/8
         src port P, dst port P, port P, portrange P       P is a port or a range such as 1024-65535
         proto N                              as `leads-to N`; of an extension header, `( header N or leads-to N )`

@@ -344,7 +344,7 @@ fn values_that_are_none(rt: HostRuntime) {
 }
 
 /// Returns what the text of a filter needs, by its code, with its words.
-fn expected_rows() -> [(u8, &'static str); 19] {
+fn expected_rows() -> [(u8, &'static str); 22] {
     [
         (1, "a term, `not` or `(`"),
         (2, "`and`, `or` or the end"),
@@ -377,6 +377,9 @@ fn expected_rows() -> [(u8, &'static str); 19] {
             19,
             "a number from 0 to 255 or the name of a type, as icmp6-echo",
         ),
+        (20, "`src`"),
+        (21, "`dst`"),
+        (22, "a mask that begins with its ones, as 255.255.255.0"),
     ]
 }
 
@@ -394,7 +397,7 @@ fn codes_of_nothing_expected(rt: HostRuntime) {
     let mut text = [1; 2];
     assert_same(&rt, 0, expected_text(0, &mut text), 0);
     assert_same(&rt, 0, text, [0, 1]);
-    for code in 22..=255u8 {
+    for code in 23..=255u8 {
         let mut text = [1; 2];
         assert_same(&rt, code, expected_text(code, &mut text), 0);
         assert_same(&rt, code, text, [0, 1]);

@@ -123,6 +123,7 @@ pub enum Expected {
     Count,
     Number,
     Network,
+    Mask,
     Byte,
     NetworkOrPort,
     Source,

@@ -251,8 +251,14 @@ impl Parser {
         if self.terms + terms > MOST_TERMS {
             return self.refuse(Expected::FewerTerms);
         }
+        let address = self.words[self.at].1.clone();
         self.terms += terms;
         self.at += 1;
+        if expected == Expected::Network && self.is_at(&["mask"]) && is_maskable(&address) {
+            self.at += 1;
+            let bits = self.take(mask, Expected::Mask)?;
+            return Ok(with_bits(formula, bits));
+        }
         Ok(formula)
     }
 
@@ -663,6 +669,40 @@ fn front(word: &str) -> Option<Network> {
     };
     address.resize(4, 0);
     Some(Network { address, bits })
+}
+
+/// Returns whether the word is an IPv4 address or the front of one, which a mask may follow.
+fn is_maskable(word: &str) -> bool {
+    let ipv4 = |network: Network| network.address.len() == 4;
+    !word.contains('/') && network(word).or_else(|| front(word)).is_some_and(ipv4)
+}
+
+/// Returns the number of ones of a mask that has no zero before a one.
+fn mask(word: &str) -> Option<usize> {
+    if !is_maskable(word) {
+        return None;
+    }
+    let address = network(word).or_else(|| front(word))?.address;
+    let bits: String = address.iter().map(|byte| format!("{byte:08b}")).collect();
+    let ones = bits.trim_end_matches('0');
+    (!ones.contains('0')).then_some(ones.len())
+}
+
+/// Returns the formula with this number of bits of each network.
+fn with_bits(formula: Formula, bits: usize) -> Formula {
+    let with = |network: Network| Network { bits, ..network };
+    match formula {
+        Formula::Term(Term::Source(network)) => Formula::Term(Term::Source(with(network))),
+        Formula::Term(Term::Destination(network)) => {
+            Formula::Term(Term::Destination(with(network)))
+        }
+        Formula::Term(Term::Either(network)) => Formula::Term(Term::Either(with(network))),
+        Formula::And(first, second) => Formula::And(
+            Box::new(with_bits(*first, bits)),
+            Box::new(with_bits(*second, bits)),
+        ),
+        other => other,
+    }
 }
 
 fn network(word: &str) -> Option<Network> {

@@ -192,7 +192,12 @@ fn term(packet: &[u8], random: &mut Random, words: &mut Vec<String>) {
             if is_side && random.percent(30) {
                 word(words, one_of(&["net", "host"], random));
             }
-            word(words, network(packet, random));
+            let is_network = words.last().is_some_and(|word| word == "net");
+            if random.percent(if is_network { 30 } else { 3 }) {
+                masked(packet, random, words);
+            } else {
+                word(words, network(packet, random));
+            }
             alone(random, words, |random| network(packet, random));
         }
         11..14 => {
@@ -478,6 +483,19 @@ fn network(packet: &[u8], random: &mut Random) -> String {
         3 => format!("{address}/0"),
         _ => format!("{address}/{}", random.below(8 * len + 2)),
     }
+}
+
+/// Appends an address, rarely a network, and a mask, which may have zeros before its ones.
+fn masked(packet: &[u8], random: &mut Random, words: &mut Vec<String>) {
+    let network = network(packet, random);
+    let address = network.split('/').next().unwrap_or_default().to_owned();
+    word(words, if random.percent(90) { address } else { network });
+    word(words, "mask");
+    let mut bits = u32::MAX.checked_shl(random.below(33) as u32).unwrap_or(0);
+    if random.percent(20) {
+        bits ^= 1 << random.below(32);
+    }
+    word(words, Ipv4Addr::from(bits).to_string());
 }
 
 /// Joins words. A sign may touch its neighbours.

@@ -43,7 +43,7 @@ window.ask = (function () {
         if (it.read !== undefined) return Wolfaren.input.read(it.read).format;
         if (it.hash !== undefined) return follow(it.hash);
         if (it.use !== undefined) return { save: save(), keys: keys(), stops: stops() };
-        if (it.names !== undefined) return Array.from({ length: 256 }, (_, i) => Wolfaren.names.ofNumber(i));
+        if (it.names !== undefined) return Array.from({ length: 256 }, (_, i) => Wolfaren.library.numberWord(i));
         if (it.gallery !== undefined) return gallery();
         at("kind").value = it.kind;
         at("first").value = it.first || 0;

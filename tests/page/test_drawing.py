@@ -112,9 +112,10 @@ def test_examples_and_where_captures_are_dropped(page):
 
 
 def test_names_of_numbers(page):
-    """They are those of programs/ipcap/packets/names.c."""
-    rows = dict(re.findall(r'\[(\d+)\] = "([^"]*)"', read(f"{ROOT}/programs/ipcap/packets/names.c")))
-    assert page.ask({"names": True}) == [rows.get(str(number), "") for number in range(256)]
+    """They are those of the definitions."""
+    rows = re.search(r"^number_words =\n((?: .*\n)+)", read(f"{ROOT}/crates/ip_codes/specs/CodeWords.antt"), re.M)[1]
+    names = re.findall(r'(?:codes "(.*?)"|\[\]) ∷', rows)
+    assert page.ask({"names": True}) == names + [""] * (256 - len(names))
 
 
 def test_requests_are_refused(page):

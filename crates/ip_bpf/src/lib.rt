@@ -1,4 +1,4 @@
-//! Checks and runs programs of classic BPF, by which Linux filters packets on sockets, in iptables and in tc. Nothing is
+//! Checks and runs programs of classic BPF, by which Linux filters packets on sockets, in `iptables` and in `tc`. Nothing is
 //! copied or allocated.
 //!
 //! | To | Call |

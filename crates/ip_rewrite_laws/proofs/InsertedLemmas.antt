@@ -31,7 +31,7 @@ led_twice h x y z c d e f =
     ap (λ (m : ℕ). leading_to m (leading_to z h) ∷ c) e
     ∙ (ap (λ (b : List ℕ). let g : ExtHeader = record { number = h.number; bytes = b } in g ∷ c) (set-set h.bytes 0 z y) ∙ ap (λ (x : List ExtHeader). leading_to y h ∷ x) f)
 
-linked_again : (k m : ℕ) (c : List ExtHeader) → linked_headers m (linked_headers k c) ≡ linked_headers m c
+pub linked_again : (k m : ℕ) (c : List ExtHeader) → linked_headers m (linked_headers k c) ≡ linked_headers m c
 linked_again k m [] = refl
 linked_again k m (h ∷ c) =
     led_twice h (number_of_first (linked_headers k c) m) (number_of_first c m) (number_of_first c k) (linked_headers m (linked_headers k c)) (linked_headers m c) (first_linked k m c) (linked_again k m c)

@@ -5,3 +5,6 @@ pub mod MadeLemmas
 pub mod CompleteLemmas
 pub mod SentLemmas
 pub mod CommutingLemmas
+pub mod AgainLemmas
+pub mod StatedLemmas
+pub mod OrderedLemmas

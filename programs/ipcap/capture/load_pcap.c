@@ -9,8 +9,8 @@
 
 #define EACH_CALL(form)                                                                                                     \
     form(pcap_close) form(pcap_datalink) form(pcap_datalink_val_to_description) form(pcap_datalink_val_to_name)           \
-    form(pcap_dump) form(pcap_dump_close) form(pcap_dump_fopen) form(pcap_fopen_offline_with_tstamp_precision)            \
-    form(pcap_get_tstamp_precision) form(pcap_geterr) form(pcap_lib_version) form(pcap_next_ex)                           \
+    form(pcap_dump) form(pcap_dump_close) form(pcap_dump_fopen)                                                       \
+    form(pcap_get_tstamp_precision) form(pcap_geterr) form(pcap_lib_version)                                               \
     form(pcap_open_dead_with_tstamp_precision) form(pcap_snapshot)
 
 #define POINTER(call) __typeof__(call) *call;
@@ -43,19 +43,12 @@ const char *pcap_datalink_val_to_description(int link_type)
     return is_loaded ? loaded.pcap_datalink_val_to_description(link_type) : NULL;
 }
 
-pcap_t *pcap_fopen_offline_with_tstamp_precision(FILE *file, u_int precision, char *error)
-{
-    if (is_loaded) return loaded.pcap_fopen_offline_with_tstamp_precision(file, precision, error);
-    snprintf(error, PCAP_ERRBUF_SIZE, "libpcap can't be loaded");
-    return NULL;
-}
-
 pcap_t *pcap_open_dead_with_tstamp_precision(int link_type, int snap_len, u_int precision)
 {
     return is_loaded ? loaded.pcap_open_dead_with_tstamp_precision(link_type, snap_len, precision) : NULL;
 }
 
-/* The others need what the last two have opened. */
+/* The others need what the last one has opened. */
 
 void pcap_close(pcap_t *handle)
 {
@@ -80,11 +73,6 @@ int pcap_get_tstamp_precision(pcap_t *handle)
 char *pcap_geterr(pcap_t *handle)
 {
     return loaded.pcap_geterr(handle);
-}
-
-int pcap_next_ex(pcap_t *handle, struct pcap_pkthdr **header, const u_char **frame)
-{
-    return loaded.pcap_next_ex(handle, header, frame);
 }
 
 pcap_dumper_t *pcap_dump_fopen(pcap_t *handle, FILE *file)

@@ -6,7 +6,10 @@
 #include <stdlib.h>
 #include <string.h>
 
-enum { MAGIC_LEN = 4 };
+#include "capture/swap.h"
+
+/* How long the header of a classic file is, and the number at its start, or that at the start of a pcapng file. */
+enum { FILE_HEADER = 24, MAGIC_LEN = 4 };
 
 /* Sets the text of the error, formatted as by printf, and returns false. */
 __attribute__((format(printf, 2, 3))) static bool fail(struct capture *capture, const char *format, ...)
@@ -35,30 +38,39 @@ static size_t write_refusal(int link_type, char *text, size_t room)
     return (size_t)len;
 }
 
-/* Makes libpcap's handle with the form of a classic file. */
-static bool make_handle(struct capture *capture)
+/* Sets the form of a classic file whose header was read. Its field of the link type is at `field`. */
+static void set_form(struct capture *capture, const uint8_t *field)
 {
+    enum { EXTENSION = 0xfc };
     const struct wolfaren_capture *file = &capture->classic;
-    unsigned precision = file->form == WOLFAREN_NANOSECONDS ? PCAP_TSTAMP_PRECISION_NANO : PCAP_TSTAMP_PRECISION_MICRO;
-    int snap_len = file->snap_len == 0 || file->snap_len > INT_MAX ? MOST_CAPTURED : (int)file->snap_len;
-    capture->handle = pcap_open_dead_with_tstamp_precision(capture->link_type, snap_len, precision);
-    return capture->handle ? true : fail(capture, "libpcap can't be used");
+    capture->is_classic = true;
+    capture->link_type = capture->form.link_type = link_type_of(file->link_type);
+    capture->form.extension = (uint32_t)(field[file->byte_order ? 0 : 3] & EXTENSION) << 24;
+    capture->form.snap_len = file->snap_len == 0 || file->snap_len > INT_MAX ? MOST_CAPTURED : file->snap_len;
+    capture->form.is_fine = file->form == WOLFAREN_NANOSECONDS;
 }
 
 /* Reads the header of a classic file. */
 static bool open_classic(struct capture *capture)
 {
+    enum { LINK_TYPE_AT = 20 };
     struct source *source = &capture->source;
+    uint8_t header[FILE_HEADER] = {0};
+    size_t len = count_ahead(source);
     struct wolfaren_capture_error error;
     char text[WOLFAREN_TEXT_ROOM];
+    memcpy(header, bytes_ahead(source), len < FILE_HEADER ? len : FILE_HEADER);
     capture->classic = (struct wolfaren_capture){.limit = MOST_CAPTURED};
-    if (!wolfaren_begin_capture(&capture->classic, bytes_ahead(source), count_ahead(source), &error)) {
+    bool is_begun = wolfaren_begin_capture(&capture->classic, header, sizeof header, &error);
+    bool is_other = len >= MAGIC_LEN && !is_begun && error.kind == WOLFAREN_UNKNOWN_MAGIC;
+    if (len < FILE_HEADER && !is_other) return fail(capture, "the file header is truncated");
+    if (!is_begun) {
         wolfaren_capture_error_text(&error, text, sizeof text);
-        return fail(capture, "%s", error.kind == WOLFAREN_NO_CAPTURE_ERROR ? "the file header is truncated" : text);
+        return fail(capture, "%s", text);
     }
-    skip_ahead(source, (size_t)capture->classic.offset);
-    capture->link_type = link_type_of(capture->classic.link_type);
-    if (is_supported(capture->link_type)) return make_handle(capture);
+    set_form(capture, header + LINK_TYPE_AT);
+    skip_ahead(source, FILE_HEADER);
+    if (is_supported(capture->link_type)) return true;
     write_refusal(capture->link_type, capture->error, sizeof capture->error);
     return false;
 }
@@ -147,13 +159,11 @@ static void close_file(struct capture *capture)
 {
     free(capture->blocks.head);
     end_pcapng(&capture->blocks.file);
-    if (capture->handle) pcap_close(capture->handle);
     close_source(&capture->source);
 }
 
 static bool open_opened(struct capture *capture)
 {
-    enum { FILE_HEADER = 24 };
     struct source *source = &capture->source;
     if (!read_ahead(source, FILE_HEADER)) return fail_as_source(capture);
     if (count_ahead(source) == 0) return fail(capture, "the file is empty");
@@ -196,7 +206,7 @@ static bool fail_on_packet(struct capture *capture, const char *reason)
 
 bool has_nanoseconds(const struct capture *capture)
 {
-    return !capture->handle || pcap_get_tstamp_precision(capture->handle) == PCAP_TSTAMP_PRECISION_NANO;
+    return !capture->is_classic || capture->form.is_fine;
 }
 
 /* A second in nanoseconds. */
@@ -229,6 +239,12 @@ static bool fail_on_record(struct capture *capture, const struct wolfaren_record
     return fail_on_packet(capture, text);
 }
 
+/* Whether the numbers of a classic file are in the other byte order than those of this machine. */
+static bool is_swapped(const struct capture *capture)
+{
+    return capture->classic.byte_order != (__BYTE_ORDER__ == __ORDER_BIG_ENDIAN__);
+}
+
 /* Reads the next packet of a classic file. */
 static bool read_from_classic(struct capture *capture, struct packet *packet)
 {
@@ -242,6 +258,7 @@ static bool read_from_classic(struct capture *capture, struct packet *packet)
         wolfaren_next_record(&capture->classic, bytes_ahead(source), count_ahead(source), &record);
     }
     if (record.kind == WOLFAREN_NEXT_ERROR) return fail_on_record(capture, &record);
+    if (is_swapped(capture)) swap_header(capture->link_type, bytes_ahead(source) + record.offset, record.len);
     take_frame(capture, &record, packet);
     skip_ahead(source, record.record_len);
     return true;
@@ -294,7 +311,7 @@ static void find_in_frame(struct packet *packet)
 /* Reads the next packet, even if it is to be skipped. */
 static bool read_next(struct capture *capture, struct packet *packet)
 {
-    if (!(capture->handle ? read_from_classic(capture, packet) : read_from_blocks(capture, packet))) return false;
+    if (!(capture->is_classic ? read_from_classic(capture, packet) : read_from_blocks(capture, packet))) return false;
     capture->number++;
     if (capture->follow) capture->follow(capture);
     packet->is_short = packet->header.caplen < packet->header.len;

@@ -40,11 +40,20 @@ struct capture_blocks {
     char left_out_names[CAPTURE_ERROR_ROOM];
 };
 
+/* What the header of a classic file says of its packets. */
+struct classic_form {
+    int link_type;      /* one of libpcap's DLT_ values */
+    uint32_t extension; /* the bits of its field that aren't the link type: how long the checksum after each frame is */
+    uint32_t snap_len;
+    bool is_fine;       /* timestamps are in nanoseconds, otherwise in microseconds */
+};
+
 struct packet;
 
 struct capture {
-    pcap_t *handle;   /* has the form of a classic file, for outputs; null for a pcapng file */
     const char *name; /* for messages */
+    bool is_classic;  /* it is a classic file, otherwise a pcapng file */
+    struct classic_form form; /* of a classic file */
     struct wolfaren_capture classic; /* reads a classic file */
     const struct memory_source *memory; /* for the head */
     bool keeps_head;  /* of a pcapng file, for an output */

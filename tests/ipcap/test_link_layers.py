@@ -171,6 +171,26 @@ def test_link_layers(harness):
         harness.equal((found["packets"], found["ipv%d" % version]), (1, 1), "link layer", link_layer)
 
 
+def test_swapped_headers(harness):
+    """Copies of frames have the headers whose numbers are in the byte order of the file in that of the copy, as far as they go."""
+    def logs(order):
+        head = struct.pack(order + "HH4s", 7, 10, b"abc")
+        payload = struct.pack(order + "HH", 600, 9) + b"\1\2\3\4\5\6"
+        return [bytes([7, 0, 0, 1]) + it for it in (
+            head + payload, head * 3, head + payload[:4], head + b"\1\2\3", struct.pack(order + "HH", 0, 10) + b"\1\2\3\4",
+            struct.pack(order + "HH", 65535, 10) + b"\1\2\3\4", b"", b"\1\2\3")] + [b"\7\1\0\1\0\4\0\1", b"\7\0\0"]
+
+    def cans(order):
+        identifier = struct.pack(order + "I", 0x12345678)
+        return [cooked(it, protocol) for protocol in (12, 13) for it in (identifier + b"\2\0\0\0\1\2", identifier, b"\1\2\3", b"")] + [
+            cooked(b"\1\2\3\4\5", protocol) for protocol in (1, 4, 11, 14, 0x0c0c, 0x0806)] + [cooked(b"", 12)[:15]]
+    for link_layer, frames in [(NFLOG, logs), (SLL, cans), (SLL2, cans), (ETHERNET, cans)]:
+        for order in "<>":
+            found = harness.run("filter", "not tcp", content=capture(frames(order), link_layer, order=order))
+            copied = frames("<" if link_layer in (NFLOG, SLL) else order)
+            harness.equal(found, (0, capture(copied, link_layer), "", None), "copies", link_layer, order)
+
+
 def test_mismatched(harness):
     """Packets of one IP version that their frame announces as the other are counted where they are, and as mismatched."""
     six, four, five = ipv6_chain([0, 43]), ipv4(51, authentication(6) + TCP), b"\x50" + bytes(60)

@@ -165,13 +165,17 @@ def test_truncated_files(harness):
         path = harness.file(whole[:length])
         found, errors = harness.stat(path, status=1)
         harness.equal(found["packets"], 2, "packets of a file of", length, "bytes")
-        harness.check(errors.startswith("ipcap: %s: can't read packet 3: " % path), errors)
+        needed = 16 if length < third + 16 else len(whole) - third
+        words = "record at offset %d is truncated: %d bytes needed, %d there" % (third, needed, length - third)
+        harness.equal(errors, "ipcap: %s: can't read packet 3: %s\n" % (path, words), "truncated")
     harness.equal(harness.stat(harness.file(whole[:third]))[0]["packets"], 2, "a file that ends after a packet")
-    for content in [b"", whole[:3], whole[:23], b"no capture at all, but some bytes"]:
+    truncated, other = "the file header is truncated", "file header at offset 0 begins with no magic number of capture files"
+    for content, words in [(b"", "the file is empty"), (whole[:3], truncated), (whole[:4], truncated), (whole[:23], truncated),
+                           (b"text", other), (b"no capture at all, but some bytes", other)]:
         path = harness.file(content)
         found, errors = harness.stat(path, harness.file(whole), status=1)
         harness.equal(found["packets"], 3, "the capture after one that can't be read")
-        harness.check(errors.startswith("ipcap: %s: " % path), errors)
+        harness.equal(errors, "ipcap: %s: %s\n" % (path, words), "no header")
     broken = capture([ethernet(ipv6_chain([0]))]) + struct.pack("<IIII", 0, 0, 0x7fffffff, 0x7fffffff) + bytes(60)
     harness.check("can't read packet 2: " in harness.stat(content=broken, status=1)[1], "a packet of 2 GB")
 

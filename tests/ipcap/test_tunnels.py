@@ -10,7 +10,7 @@ from captures import *
 from expected import COUNTS, TABLES, statistics
 from test_stat import chain_in, random_frames
 from test_sum import refuse
-from test_use import refuse_each
+from test_use import LONG, refuse_each
 
 SIX, FOUR = ipv6_chain([0, 43], 6, TCP), ipv4(51, authentication(17) + UDP)
 IN_SIX, IN_FOUR = "IPv6 0,43 -> 6", "IPv4 51 -> 17"
@@ -574,5 +574,6 @@ def test_shown(harness):
     harness.equal(second.split("\n")[0], "packet 1, tunnel 1: 1970-01-01T00:16:40.000005Z, 2001:db8::1.1000 > 2001:db8::2.2000, 76 bytes, IP at 38: "
                   "IPv4 GRE > IPv6 0,43 -> 6, Flags [S]", "the first line")
     harness.equal(first, harness.run("show", "-c", "1", content=capture(list(CARRIERS.values())))[1].decode().rstrip("\n"), "the outer packet")
-    refuse_each(harness, ["show", "--tunnels", "tcp", harness.file(capture(list(CARRIERS.values())))])
-    refuse_each(harness, ["filter", "--tunnels", "tcp", harness.file(capture(list(CARRIERS.values())))])
+    path = harness.file(capture([*CARRIERS.values(), LONG], snap_len=len(LONG)))
+    refuse_each(harness, ["show", "--tunnels", "tcp", path])
+    refuse_each(harness, ["filter", "--tunnels", "tcp", path])

@@ -262,6 +262,10 @@ def test_bounded_memory(harness):
         harness.check(few[0] == many[0] == 0 and many[3] < few[3] + (500 << 10), command, few, many)
 
 
+# a frame for which more memory is needed than for the others
+LONG = ethernet(bytes(100000))
+
+
 def refuse_each(harness, arguments, given=b""):
     """Refuses each of the first hundred allocations of a command in turn."""
     wanted = harness.run(*arguments, content=given)[1]
@@ -306,7 +310,7 @@ def test_small_stacks(harness):
 
 def test_refused_memory(harness):
     """Each failed allocation ends the program with a message, unless it gets by without that memory."""
-    content = capture([ethernet(ipv6_chain([60] * 40)), ethernet(ipv4(4, ipv6_chain([60] * 41)))])
+    content = capture([ethernet(ipv6_chain([60] * 40)), ethernet(ipv4(4, ipv6_chain([60] * 41))), LONG], snap_len=len(LONG))
     path = harness.file(content)
     counts = harness.run("stat", "--json", "--tunnels", path)[1]
     harness.finish()

@@ -161,7 +161,7 @@ class Packets(Scratch):
 
     def test_unreadable(self):
         """The capture is opened by the call, before a packet is asked for."""
-        for path, words in [(self.file(b"no capture", "x"), "unknown file format"),
+        for path, words in [(self.file(b"no capture", "x"), "no magic number of capture files"),
                             (self.file(capture([b""], 119), "y"), "link layer PRISM_HEADER .* isn't supported"),
                             (f"{self.folder}/none", "No such file"), (self.folder, "Is a directory")]:
             with self.assertRaisesRegex(CaptureError, words):
@@ -418,7 +418,7 @@ class Writes(Scratch):
         with self.assertRaises(CaptureOSError) as raised:
             Filter("version 6").write(f"{self.folder}/none", self.output)
         self.assertEqual((raised.exception.errno, raised.exception.filename), (errno.ENOENT, f"{self.folder}/none"))
-        with self.assertRaisesRegex(CaptureError, "unknown file format"):
+        with self.assertRaisesRegex(CaptureError, "no magic number of capture files"):
             Filter("version 6").write(self.file(b"no capture", "x"), self.output)
         self.assertEqual(self.left(), ["x"])
 

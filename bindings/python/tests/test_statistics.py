@@ -232,7 +232,7 @@ class Captures(unittest.TestCase):
             self.assertEqual((str(error), repr(error)), (f"{path}: {error.reason}", f"CaptureError({path!r}, {error.reason!r})"))
 
     def test_unreadable(self):
-        for path, words in [(write(self.folder.name, "x", b"no capture"), "unknown file format"),
+        for path, words in [(write(self.folder.name, "x", b"no capture"), "no magic number of capture files"),
                             (write(self.folder.name, "y", capture([b""], 119)), "link layer PRISM_HEADER .* isn't supported"),
                             (f"{self.folder.name}/none", "No such file"), (self.folder.name, "Is a directory")]:
             with self.assertRaisesRegex(CaptureError, words) as raised:

@@ -1,13 +1,15 @@
 #include "capture/capture.h"
 
-#include <errno.h>
+#include <limits.h>
 #include <stdarg.h>
+#include <stdio.h>
 #include <stdlib.h>
 #include <string.h>
 
-#include "wolfaren.h"
+#include "capture/swap.h"
 
-enum { MAGIC_LEN = 4 };
+/* How long the header of a classic file is, and the number at its start, or that at the start of a pcapng file. */
+enum { FILE_HEADER = 24, MAGIC_LEN = 4 };
 
 /* Sets the text of the error, formatted as by printf, and returns false. */
 __attribute__((format(printf, 2, 3))) static bool fail(struct capture *capture, const char *format, ...)
@@ -19,53 +21,11 @@ __attribute__((format(printf, 2, 3))) static bool fail(struct capture *capture, 
     return false;
 }
 
-/* Returns the error of the system that ended reading, or 0 if there is none. `errno` may still be that error. */
-static int read_error(const struct capture *capture)
-{
-    if (!capture->source.is_plain) return capture->source.system_error;
-    return ferror(capture->file) ? errno : 0;
-}
-
 /* Sets the error to that of the source, and returns false. */
 static bool fail_as_source(struct capture *capture)
 {
-    capture->system_error = capture->file ? read_error(capture) : capture->source.system_error;
-    if (*capture->source.error) return fail(capture, "%s", capture->source.error);
-    return fail(capture, "%s", capture->system_error ? strerror(capture->system_error) : "read error");
-}
-
-/*
- * Reads the first bytes of a file, up to MAGIC_LEN, and pushes them back. Stores their number. The C standard guarantees only one byte of
- * pushback. The C libraries we know take back everything just read from their buffer. With others, ungetc fails.
- */
-static bool look_at_magic(FILE *file, uint8_t magic[MAGIC_LEN], size_t *len)
-{
-    *len = fread(magic, 1, MAGIC_LEN, file);
-    if (ferror(file)) return false;
-    clearerr(file);
-    for (size_t i = *len; i > 0; i--)
-        if (ungetc(magic[i - 1], file) == EOF) return false;
-    memset(magic + *len, 0, MAGIC_LEN - *len);
-    return true;
-}
-
-/* Whether timestamps are in nanoseconds: files with that magic, in either byte order. */
-static bool is_nanosecond_magic(const uint8_t magic[MAGIC_LEN])
-{
-    static const uint8_t magics[][MAGIC_LEN] = {{0xa1, 0xb2, 0x3c, 0x4d}, {0x4d, 0x3c, 0xb2, 0xa1}};
-    for (size_t i = 0; i < sizeof magics / sizeof magics[0]; i++)
-        if (memcmp(magics[i], magic, MAGIC_LEN) == 0) return true;
-    return false;
-}
-
-/* Takes the stream of the source, or null if that couldn't be opened. */
-static bool take_stream(struct capture *capture, FILE *stream)
-{
-    capture->file = stream;
-    if (!stream) return fail_as_source(capture);
-    setvbuf(capture->file, capture->buffer, _IOFBF, sizeof capture->buffer);
-    capture->is_live = is_live(&capture->source);
-    return true;
+    capture->system_error = capture->source.system_error;
+    return fail(capture, "%s", capture->source.error);
 }
 
 /* Writes that a link layer isn't supported to a text. Returns the length that it needs. */
@@ -78,15 +38,38 @@ static size_t write_refusal(int link_type, char *text, size_t room)
     return (size_t)len;
 }
 
-/* Opens a classic file with libpcap. */
-static bool open_handle(struct capture *capture, const uint8_t magic[MAGIC_LEN])
+/* Sets the form of a classic file whose header was read. Its field of the link type is at `field`. */
+static void set_form(struct capture *capture, const uint8_t *field)
 {
-    char error[PCAP_ERRBUF_SIZE] = "";
-    unsigned precision = is_nanosecond_magic(magic) ? PCAP_TSTAMP_PRECISION_NANO : PCAP_TSTAMP_PRECISION_MICRO;
-    capture->handle = pcap_fopen_offline_with_tstamp_precision(capture->file, precision, error);
-    if (!capture->handle && *capture->source.error) return fail_as_source(capture);
-    if (!capture->handle) return fail(capture, "%s", error);
-    capture->link_type = pcap_datalink(capture->handle);
+    enum { EXTENSION = 0xfc };
+    const struct wolfaren_capture *file = &capture->classic;
+    capture->is_classic = true;
+    capture->link_type = capture->form.link_type = link_type_of(file->link_type);
+    capture->form.extension = (uint32_t)(field[file->byte_order ? 0 : 3] & EXTENSION) << 24;
+    capture->form.snap_len = file->snap_len == 0 || file->snap_len > INT_MAX ? MOST_CAPTURED : file->snap_len;
+    capture->form.is_fine = file->form == WOLFAREN_NANOSECONDS;
+}
+
+/* Reads the header of a classic file. */
+static bool open_classic(struct capture *capture)
+{
+    enum { LINK_TYPE_AT = 20 };
+    struct source *source = &capture->source;
+    uint8_t header[FILE_HEADER] = {0};
+    size_t len = count_ahead(source);
+    struct wolfaren_capture_error error;
+    char text[WOLFAREN_TEXT_ROOM];
+    memcpy(header, bytes_ahead(source), len < FILE_HEADER ? len : FILE_HEADER);
+    capture->classic = (struct wolfaren_capture){.limit = MOST_CAPTURED};
+    bool is_begun = wolfaren_begin_capture(&capture->classic, header, sizeof header, &error);
+    bool is_other = len >= MAGIC_LEN && !is_begun && error.kind == WOLFAREN_UNKNOWN_MAGIC;
+    if (len < FILE_HEADER && !is_other) return fail(capture, "the file header is truncated");
+    if (!is_begun) {
+        wolfaren_capture_error_text(&error, text, sizeof text);
+        return fail(capture, "%s", text);
+    }
+    set_form(capture, header + LINK_TYPE_AT);
+    skip_ahead(source, FILE_HEADER);
     if (is_supported(capture->link_type)) return true;
     write_refusal(capture->link_type, capture->error, sizeof capture->error);
     return false;
@@ -159,13 +142,13 @@ static bool open_blocks(struct capture *capture)
 {
     enum { MOST_HEAD = 1 << 24 };
     struct capture_blocks *blocks = &capture->blocks;
-    begin_pcapng(&blocks->file, capture->file);
+    begin_pcapng(&blocks->file, &capture->source);
     while (!blocks->is_ahead && blocks->head_len < MOST_HEAD && read_block(&blocks->file)) {
         blocks->is_ahead = blocks->file.kind == BLOCK_PACKET;
         if (!blocks->is_ahead && !take_other_block(capture)) return false;
     }
     blocks->has_begun = true;
-    if (*capture->source.error || ferror(capture->file)) return fail_as_source(capture);
+    if (*capture->source.error) return fail_as_source(capture);
     if (*blocks->file.error) return fail(capture, "%s", blocks->file.error);
     if (!blocks->has_interface && blocks->left_out_count > 0) return fail(capture, "%s", blocks->left_out_names);
     if (blocks->has_interface || blocks->head_len < MOST_HEAD) return true;
@@ -176,25 +159,23 @@ static void close_file(struct capture *capture)
 {
     free(capture->blocks.head);
     end_pcapng(&capture->blocks.file);
-    if (capture->handle)
-        pcap_close(capture->handle);
-    else
-        fclose(capture->file);
+    close_source(&capture->source);
 }
 
 static bool open_opened(struct capture *capture)
 {
-    uint8_t magic[MAGIC_LEN];
-    size_t len;
-    if (!look_at_magic(capture->file, magic, &len)) return fail_as_source(capture);
-    if (len == 0) return fail(capture, "the file is empty");
-    return is_pcapng_magic(magic) ? open_blocks(capture) : open_handle(capture, magic);
+    struct source *source = &capture->source;
+    if (!read_ahead(source, FILE_HEADER)) return fail_as_source(capture);
+    if (count_ahead(source) == 0) return fail(capture, "the file is empty");
+    bool is_pcapng = count_ahead(source) >= MAGIC_LEN && is_pcapng_magic(bytes_ahead(source));
+    return is_pcapng ? open_blocks(capture) : open_classic(capture);
 }
 
-/* Opens the capture that is in a stream, if there is one. */
-static bool open_stream(struct capture *capture, FILE *stream)
+/* Opens the capture that is in the source, if that was opened. */
+static bool open_bytes(struct capture *capture, bool is_open)
 {
-    if (!take_stream(capture, stream)) return false;
+    if (!is_open) return fail_as_source(capture);
+    capture->is_live = is_live(&capture->source);
     if (open_opened(capture)) return true;
     close_file(capture);
     return false;
@@ -205,55 +186,81 @@ bool open_capture(struct capture *capture, const char *path, const struct memory
     *capture = (struct capture){.memory = memory, .keeps_head = keeps_head};
     capture->name = is_standard_stream(path) ? "standard input" : path;
     if (!wolfaren_cpu_is_supported()) return fail(capture, UNSUPPORTED_CPU);
-    return open_stream(capture, open_source(&capture->source, path, memory));
+    return open_bytes(capture, open_source(&capture->source, path, memory));
 }
 
 bool open_capture_of(struct capture *capture, int descriptor, const char *name, const struct memory_source *memory)
 {
     *capture = (struct capture){0};
     capture->name = name;
-    return open_stream(capture, open_descriptor(&capture->source, descriptor, memory));
+    return open_bytes(capture, open_descriptor(&capture->source, descriptor, memory));
 }
 
 /* Sets the error that a packet can't be read, for a reason that the source may know better, and returns false. */
 static bool fail_on_packet(struct capture *capture, const char *reason)
 {
-    capture->system_error = read_error(capture);
+    capture->system_error = capture->source.system_error;
     return fail(capture, "can't read packet %llu: %s", (unsigned long long)capture->number + 1,
                 *capture->source.error ? capture->source.error : reason);
 }
 
 bool has_nanoseconds(const struct capture *capture)
 {
-    return !capture->handle || pcap_get_tstamp_precision(capture->handle) == PCAP_TSTAMP_PRECISION_NANO;
+    return !capture->is_classic || capture->form.is_fine;
 }
 
 /* A second in nanoseconds. */
 enum { SECOND = 1000000000 };
 
-/* Returns a time that a classic file has. */
-static struct timespec classic_time(const struct capture *capture, const struct timeval *time)
+/* Takes the frame of a record, which is the first thing that is ahead. */
+static void take_frame(struct capture *capture, const struct wolfaren_record *record, struct packet *packet)
 {
-    /* the format has unsigned numbers of 32 bits, which libpcap reads as signed ones */
-    time_t seconds = time->tv_sec < 0 ? (time_t)(uint32_t)time->tv_sec : time->tv_sec;
-    /* the fraction of a damaged capture may be a second or more */
-    uint64_t fraction = (uint64_t)(uint32_t)time->tv_usec * (has_nanoseconds(capture) ? 1 : 1000);
-    return (struct timespec){seconds + (time_t)(fraction / SECOND), (long)(fraction % SECOND)};
-}
-
-/* Reads the next packet of a classic file. */
-static bool read_from_handle(struct capture *capture, struct packet *packet)
-{
-    struct pcap_pkthdr *header;
-    int answer = pcap_next_ex(capture->handle, &header, &packet->frame);
-    if (answer == PCAP_ERROR_BREAK) return false;
-    if (answer != 1) return fail_on_packet(capture, pcap_geterr(capture->handle));
-    packet->header = *header;
-    packet->time = classic_time(capture, &header->ts);
+    time_t seconds = (time_t)(record->time / SECOND);
+    long nanoseconds = (long)(record->time % SECOND);
+    packet->header.caplen = (bpf_u_int32)record->len;
+    packet->header.len = record->original_len;
+    packet->header.ts = (struct timeval){seconds, has_nanoseconds(capture) ? nanoseconds : nanoseconds / 1000};
+    packet->time = (struct timespec){seconds, nanoseconds};
+    packet->frame = bytes_ahead(&capture->source) + record->offset;
     packet->link_type = capture->link_type;
     packet->block = NULL;
     packet->is_left_out = false;
     packet->has_time = true;
+}
+
+/* Sets the error that the next record can't be read, and returns false. */
+static bool fail_on_record(struct capture *capture, const struct wolfaren_record *record)
+{
+    char text[WOLFAREN_TEXT_ROOM];
+    wolfaren_capture_error_text(&record->error, text, sizeof text);
+    if (record->kind == WOLFAREN_NEXT_NEEDS)
+        snprintf(text, sizeof text, "record at offset %llu is truncated: %zu bytes needed, %zu there",
+                 (unsigned long long)capture->classic.offset, record->needed, count_ahead(&capture->source));
+    return fail_on_packet(capture, text);
+}
+
+/* Whether the numbers of a classic file are in the other byte order than those of this machine. */
+static bool is_swapped(const struct capture *capture)
+{
+    return capture->classic.byte_order != (__BYTE_ORDER__ == __ORDER_BIG_ENDIAN__);
+}
+
+/* Reads the next packet of a classic file. */
+static bool read_from_classic(struct capture *capture, struct packet *packet)
+{
+    struct source *source = &capture->source;
+    struct wolfaren_record record;
+    wolfaren_next_record(&capture->classic, bytes_ahead(source), count_ahead(source), &record);
+    while (record.kind == WOLFAREN_NEXT_NEEDS || record.kind == WOLFAREN_NEXT_ENDED) {
+        size_t count = count_ahead(source);
+        if (!read_ahead(source, count + 1 > record.needed ? count + 1 : record.needed)) return fail_on_packet(capture, "read error");
+        if (count_ahead(source) == count) return record.kind == WOLFAREN_NEXT_NEEDS && fail_on_record(capture, &record);
+        wolfaren_next_record(&capture->classic, bytes_ahead(source), count_ahead(source), &record);
+    }
+    if (record.kind == WOLFAREN_NEXT_ERROR) return fail_on_record(capture, &record);
+    if (is_swapped(capture)) swap_header(capture->link_type, bytes_ahead(source) + record.offset, record.len);
+    take_frame(capture, &record, packet);
+    skip_ahead(source, record.record_len);
     return true;
 }
 
@@ -304,7 +311,7 @@ static void find_in_frame(struct packet *packet)
 /* Reads the next packet, even if it is to be skipped. */
 static bool read_next(struct capture *capture, struct packet *packet)
 {
-    if (!(capture->handle ? read_from_handle(capture, packet) : read_from_blocks(capture, packet))) return false;
+    if (!(capture->is_classic ? read_from_classic(capture, packet) : read_from_blocks(capture, packet))) return false;
     capture->number++;
     if (capture->follow) capture->follow(capture);
     packet->is_short = packet->header.caplen < packet->header.len;

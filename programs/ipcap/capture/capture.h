@@ -7,12 +7,12 @@
 #include <stdbool.h>
 #include <stddef.h>
 #include <stdint.h>
-#include <stdio.h>
 #include <time.h>
 
 #include "capture/pcapng.h"
 #include "capture/protocol.h"
 #include "capture/source.h"
+#include "wolfaren.h"
 
 /* A buffer size that is large enough for the text of every error and its terminating null byte. */
 enum { CAPTURE_ERROR_ROOM = PCAP_ERRBUF_SIZE + 64 };
@@ -20,8 +20,8 @@ enum { CAPTURE_ERROR_ROOM = PCAP_ERRBUF_SIZE + 64 };
 /* Why nothing is read on a processor without the library's instructions. */
 #define UNSUPPORTED_CPU "this processor lacks instructions of x86-64-v2, such as SSE4.2"
 
-/* How many bytes are read from a file at once. */
-enum { CAPTURE_BUFFER = 1 << 17 };
+/* The greatest number of captured bytes of a record in a classic file, as in libpcap. */
+enum { MOST_CAPTURED = 1 << 18 };
 
 /* How many link layers that aren't supported are named. */
 enum { MOST_LEFT_OUT = 8 };
@@ -40,12 +40,21 @@ struct capture_blocks {
     char left_out_names[CAPTURE_ERROR_ROOM];
 };
 
+/* What the header of a classic file says of its packets. */
+struct classic_form {
+    int link_type;      /* one of libpcap's DLT_ values */
+    uint32_t extension; /* the bits of its field that aren't the link type: how long the checksum after each frame is */
+    uint32_t snap_len;
+    bool is_fine;       /* timestamps are in nanoseconds, otherwise in microseconds */
+};
+
 struct packet;
 
 struct capture {
-    pcap_t *handle;   /* null for a pcapng file */
     const char *name; /* for messages */
-    FILE *file;       /* the bytes of the source */
+    bool is_classic;  /* it is a classic file, otherwise a pcapng file */
+    struct classic_form form; /* of a classic file */
+    struct wolfaren_capture classic; /* reads a classic file */
     const struct memory_source *memory; /* for the head */
     bool keeps_head;  /* of a pcapng file, for an output */
     struct capture_blocks blocks;
@@ -65,7 +74,6 @@ struct capture {
     void *copier; /* for `copy` */
     char error[CAPTURE_ERROR_ROOM];          /* why opening or reading failed, otherwise empty */
     int system_error;                        /* the `errno` of that if the system refused it, otherwise 0 */
-    char buffer[CAPTURE_BUFFER];             /* of `file` */
     struct source source;
 };
 

@@ -74,7 +74,7 @@ static void show_progress(struct capture *capture)
     fputs(erase, stderr);
     write_escaped(stderr, capture->name);
     fprintf(stderr, ": %llu packets", (unsigned long long)capture->number);
-    double at = (double)source_position(&capture->source, capture->file);
+    double at = (double)capture->source.position;
     if (input->len > 0 && at <= (double)input->len)
         fprintf(stderr, ", %d %%", (int)(at * 100 / (double)input->len));
     fflush(stderr);

@@ -75,9 +75,9 @@ bool is_pcapng_magic(const uint8_t bytes[4])
     return memcmp(bytes, magic, sizeof magic) == 0;
 }
 
-void begin_pcapng(struct pcapng *pcapng, FILE *file)
+void begin_pcapng(struct pcapng *pcapng, struct source *source)
 {
-    *pcapng = (struct pcapng){.file = file};
+    *pcapng = (struct pcapng){.source = source};
 }
 
 /* Returns the number in 2, 4 or 8 bytes of the block. */
@@ -102,23 +102,15 @@ static uint64_t double_word_at(const struct pcapng *pcapng, size_t at)
     return pcapng->is_big_endian ? be64toh(number) : le64toh(number);
 }
 
-static bool make_room(struct pcapng *pcapng, size_t room)
+/* Reads bytes of the block up to `len`, where they stay. At the end of the file before the block, sets no error. */
+static bool read_bytes(struct pcapng *pcapng, size_t len)
 {
-    if (room <= pcapng->room) return true;
-    uint8_t *block = realloc(pcapng->block, room);
-    if (!block) return fail_on_memory(pcapng);
-    pcapng->block = block;
-    pcapng->room = room;
-    return true;
-}
-
-/* Reads bytes of the block from `from` up to `to`. At the end of the file before the block, sets no error. */
-static bool read_bytes(struct pcapng *pcapng, size_t from, size_t to)
-{
-    size_t count = fread(pcapng->block + from, 1, to - from, pcapng->file);
-    if (from + count == to) return true;
-    if (ferror(pcapng->file)) return fail(pcapng, "block", "can't be read: %s", strerror(errno));
-    return from + count == 0 ? false : fail(pcapng, "block", "is truncated");
+    struct source *source = pcapng->source;
+    bool is_read = read_ahead(source, len);
+    pcapng->block = bytes_ahead(source);
+    if (count_ahead(source) >= len) return true;
+    if (!is_read) return fail(pcapng, "block", "can't be read: %s", source->error);
+    return count_ahead(source) == 0 ? false : fail(pcapng, "block", "is truncated");
 }
 
 /* Determines the byte order of a section from its first bytes. */
@@ -134,7 +126,7 @@ static bool read_byte_order(struct pcapng *pcapng)
 /* Reads the first bytes of a block, as many as every block has, and its length. */
 static bool read_length(struct pcapng *pcapng)
 {
-    if (!make_room(pcapng, LEAST_SECTION) || !read_bytes(pcapng, 0, LEAST_BLOCK)) return false;
+    if (!read_bytes(pcapng, LEAST_BLOCK)) return false;
     bool is_section = is_pcapng_magic(pcapng->block);
     if (is_section && !read_byte_order(pcapng)) return false;
     size_t least = is_section ? LEAST_SECTION : LEAST_BLOCK;
@@ -152,8 +144,7 @@ static const struct {
 
 enum { LINK_TYPES = sizeof link_types / sizeof *link_types };
 
-/* Returns libpcap's DLT_ value for a link type in a file. */
-static int link_type_of(unsigned number)
+int link_type_of(unsigned number)
 {
     for (size_t i = 0; i < LINK_TYPES; i++)
         if (link_types[i].number == number) return link_types[i].link_type;
@@ -269,8 +260,8 @@ bool read_block(struct pcapng *pcapng)
 {
     pcapng->offset += pcapng->len;
     pcapng->len = 0;
-    if (!read_length(pcapng) || !make_room(pcapng, pcapng->len)) return false;
-    if (!read_bytes(pcapng, LEAST_BLOCK, pcapng->len)) return false;
+    if (!read_length(pcapng) || !read_bytes(pcapng, pcapng->len)) return false;
+    skip_ahead(pcapng->source, pcapng->len);
     uint32_t repeated = word_at(pcapng, pcapng->len - TRAILER_LEN);
     if (repeated != pcapng->len)
         return fail(pcapng, "block", "has a length of %zu at its start, but of %u at its end", pcapng->len, repeated);
@@ -353,5 +344,4 @@ bool read_block_packet(struct pcapng *pcapng, struct block_packet *packet)
 void end_pcapng(struct pcapng *pcapng)
 {
     free(pcapng->interfaces);
-    free(pcapng->block);
 }

@@ -8,8 +8,9 @@
 #include <stdbool.h>
 #include <stddef.h>
 #include <stdint.h>
-#include <stdio.h>
 #include <time.h>
+
+#include "capture/source.h"
 
 /* A buffer size that is large enough for the text of every error. */
 enum { PCAPNG_ERROR_ROOM = 160 };
@@ -34,15 +35,14 @@ enum block_kind {
 };
 
 struct pcapng {
-    FILE *file;
+    struct source *source;
     uint64_t offset; /* where the last block begins in the file */
     bool is_big_endian;
     struct interface *interfaces; /* of the section */
     size_t interface_count;
     size_t interface_room;
-    uint8_t *block;  /* the last block, valid until the next one is read */
+    uint8_t *block;  /* the last block, which may be changed, in the bytes of the source: valid until the next one is read */
     size_t len;      /* of that block */
-    size_t room;     /* allocated for blocks */
     enum block_kind kind;
     char error[PCAPNG_ERROR_ROOM]; /* why reading failed, otherwise empty */
 };
@@ -57,14 +57,17 @@ struct block_packet {
     struct timespec time;
 };
 
+/* Returns libpcap's DLT_ value for a link type in a file. */
+int link_type_of(unsigned number);
+
 /* Returns the link type in files for one of libpcap's DLT_ values. */
 unsigned file_link_type(int link_type);
 
 /* Whether these are the first four bytes of a pcapng file. */
 bool is_pcapng_magic(const uint8_t bytes[4]);
 
-/* Begins to read a file, of which nothing was read yet. */
-void begin_pcapng(struct pcapng *pcapng, FILE *file);
+/* Begins to read a source, of which nothing was skipped yet. */
+void begin_pcapng(struct pcapng *pcapng, struct source *source);
 
 /*
  * Reads the next block, and what it says of the section or an interface. The length of a section is replaced by -1, which

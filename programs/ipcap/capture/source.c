@@ -1,11 +1,9 @@
-/* for `fopencookie`, which the GNU C library and musl have */
-#define _GNU_SOURCE
-
 #include "capture/source.h"
 
 #include <errno.h>
 #include <fcntl.h>
 #include <stdarg.h>
+#include <stdio.h>
 #include <stdlib.h>
 #include <string.h>
 #include <sys/stat.h>
@@ -82,7 +80,7 @@ static bool write_copy(struct source *source, const uint8_t *bytes, size_t len)
 static ssize_t read_file(struct source *source, void *bytes, size_t len)
 {
     ssize_t count;
-    if (source->wait && !source->wait(source->descriptor)) return fail(source, "interrupted");
+    if (source->wait && !source->is_plain && !source->wait(source->descriptor)) return fail(source, "interrupted");
     do
         count = read(source->descriptor, bytes, len);
     while (count < 0 && is_made_again());
@@ -159,19 +157,66 @@ static ssize_t read_compressed(struct source *source, char *bytes, size_t len)
     return count;
 }
 
-/* Reads for the stream. After an error, every further call fails. */
-static ssize_t read_source(void *cookie, char *bytes, size_t len)
+/* Reads bytes, as many as have arrived. Returns their number, 0 at the end, or -1. After an error, every further call fails. */
+static ssize_t read_bytes(struct source *source, void *bytes, size_t len)
 {
-    struct source *source = cookie;
     if (*source->error) return -1;
     return source->compression ? read_compressed(source, bytes, len) : copy(source, bytes, len);
 }
 
-static int close_source(void *cookie)
+/* Makes room for so many bytes that are ahead: those that are there move to the start, and room grows by whole steps. */
+static bool make_room_ahead(struct source *source, size_t len)
 {
-    struct source *source = cookie;
+    struct ahead *ahead = &source->ahead;
+    if (ahead->start == ahead->end) ahead->start = ahead->end = 0;
+    if (ahead->room - ahead->start >= len && ahead->end < ahead->room) return true;
+    if (ahead->start > 0) memmove(ahead->bytes, ahead->bytes + ahead->start, ahead->end - ahead->start);
+    ahead->end -= ahead->start;
+    ahead->start = 0;
+    if (ahead->room >= len) return true;
+    size_t room = (len + SOURCE_ROOM - 1) / SOURCE_ROOM * SOURCE_ROOM;
+    uint8_t *bytes = realloc(ahead->bytes, room);
+    if (!bytes) {
+        fail(source, "out of memory");
+        return false;
+    }
+    ahead->bytes = bytes;
+    ahead->room = room;
+    return true;
+}
+
+bool read_ahead(struct source *source, size_t len)
+{
+    struct ahead *ahead = &source->ahead;
+    while (count_ahead(source) < len) {
+        if (!make_room_ahead(source, len)) return false;
+        ssize_t count = read_bytes(source, ahead->bytes + ahead->end, ahead->room - ahead->end);
+        if (count <= 0) return count == 0;
+        ahead->end += (size_t)count;
+    }
+    return true;
+}
+
+uint8_t *bytes_ahead(const struct source *source)
+{
+    return source->ahead.bytes + source->ahead.start;
+}
+
+size_t count_ahead(const struct source *source)
+{
+    return source->ahead.end - source->ahead.start;
+}
+
+void skip_ahead(struct source *source, size_t len)
+{
+    source->ahead.start += len;
+}
+
+void close_source(struct source *source)
+{
     if (source->decoder) source->compression->end(source->decoder);
-    return source->descriptor == STDIN_FILENO ? 0 : close(source->descriptor);
+    free(source->ahead.bytes);
+    if (source->descriptor != STDIN_FILENO) close(source->descriptor);
 }
 
 bool is_live(const struct source *source)
@@ -198,28 +243,6 @@ static bool begin(struct source *source, const struct memory_source *memory)
     return source->decoder;
 }
 
-/* Whether the first bytes of a file that isn't compressed can be read again. If so, that comes next. */
-static bool rewind_file(struct source *source)
-{
-    if (source->compression || is_live(source)) return false;
-    if (lseek(source->descriptor, -(off_t)source->end, SEEK_CUR) < 0) return false;
-    source->start = source->end = 0;
-    return true;
-}
-
-/* Opens a stream that reads the file itself, which takes less time, or if it can't, one that calls `read_source`. */
-static FILE *open_stream(struct source *source)
-{
-    static const cookie_io_functions_t functions = {.read = read_source, .close = close_source};
-    source->is_plain = rewind_file(source);
-    if (!source->is_plain) return fopencookie(source, "r", functions);
-    bool is_standard = source->descriptor == STDIN_FILENO;
-    int descriptor = is_standard ? dup(STDIN_FILENO) : source->descriptor;
-    FILE *stream = fdopen(descriptor, "rb");
-    if (!stream && is_standard && descriptor >= 0) close(descriptor);
-    return stream;
-}
-
 /* Opens a file, which waits for a writer if the file is a pipe. Returns its descriptor, or -1 on failure. */
 static int open_file(const char *path)
 {
@@ -230,27 +253,22 @@ static int open_file(const char *path)
     return descriptor;
 }
 
-FILE *open_source(struct source *source, const char *path, const struct memory_source *memory)
+bool open_source(struct source *source, const char *path, const struct memory_source *memory)
 {
     int descriptor = is_standard_stream(path) ? STDIN_FILENO : open_file(path);
     if (descriptor >= 0) return open_descriptor(source, descriptor, memory);
     *source = (struct source){.descriptor = descriptor};
     fail_as_system(source);
-    return NULL;
+    return false;
 }
 
-FILE *open_descriptor(struct source *source, int descriptor, const struct memory_source *memory)
+bool open_descriptor(struct source *source, int descriptor, const struct memory_source *memory)
 {
     *source = (struct source){.descriptor = descriptor};
-    FILE *stream = begin(source, memory) ? open_stream(source) : NULL;
-    if (!stream && !*source->error) fail(source, "out of memory");
-    if (!stream) close_source(source);
-    return stream;
-}
-
-uint64_t source_position(const struct source *source, FILE *stream)
-{
-    if (!source->is_plain) return source->position;
-    off_t position = ftello(stream);
-    return position < 0 ? 0 : (uint64_t)position;
+    if (begin(source, memory)) {
+        source->is_plain = !source->compression && !is_live(source);
+        return true;
+    }
+    close_source(source);
+    return false;
 }

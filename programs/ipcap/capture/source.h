@@ -5,28 +5,34 @@
 #include <stdbool.h>
 #include <stddef.h>
 #include <stdint.h>
-#include <stdio.h>
 
 #include "capture/compression.h"
 
-/* How many bytes of a file are kept until they are consumed. */
+/* How many bytes of a file are kept until they are decompressed, and at least how many are read ahead at once. */
 enum { SOURCE_ROOM = 1 << 16 };
 
 /* A buffer size that is large enough for the text of every error. */
 enum { SOURCE_ERROR_ROOM = 128 };
 
+/* The bytes that were read, decompressed, and not yet skipped: those from `start` to `end`. */
+struct ahead {
+    uint8_t *bytes;
+    size_t start, end, room;
+};
+
 struct source {
     int descriptor;
-    bool is_plain;     /* the stream reads the file itself, and what follows has no meaning except for the errors */
+    bool is_plain;     /* a regular file that isn't compressed, so that its bytes needn't be waited for */
     bool is_ended;     /* nothing more comes from the file */
     bool is_complete;  /* the last compressed stream is complete */
     uint64_t position; /* number of bytes read from the file */
-    size_t start, end; /* where the bytes that were read and not yet consumed are in `bytes` */
+    size_t start, end; /* where the bytes that were read and not yet decompressed are in `bytes` */
     const struct compression *compression; /* null if the bytes aren't compressed */
     void *decoder;
     bool (*wait)(int descriptor); /* called before bytes are read, unless it is null; returns false if none are wanted */
     char error[SOURCE_ERROR_ROOM]; /* why opening or reading failed, otherwise empty */
     int system_error;              /* the `errno` of that if the system refused it, otherwise 0 */
+    struct ahead ahead;
     uint8_t bytes[SOURCE_ROOM];
 };
 
@@ -46,18 +52,31 @@ bool is_standard_stream(const char *path);
 void copy_bytes_to(int descriptor);
 
 /*
- * Opens a file or standard input. Returns a stream of its bytes, decompressed if the first ones are those of a known
- * format. Closing the stream also closes the file. The stream has each byte as soon as it has arrived. Decompression asks
- * `memory`, or takes what it needs if that is null. On failure, sets `error` and returns null. If reading from the stream fails
- * later, `error` says why.
+ * Opens a file or standard input. Its bytes are decompressed if the first ones are those of a known format. Decompression asks
+ * `memory`, or takes what it needs if that is null. On failure, sets `error` and returns false, and there is nothing to close.
  */
-FILE *open_source(struct source *source, const char *path, const struct memory_source *memory);
+bool open_source(struct source *source, const char *path, const struct memory_source *memory);
 
-/* Opens the stream of a file that is open, as `open_source` does. Closes the file on failure, too. */
-FILE *open_descriptor(struct source *source, int descriptor, const struct memory_source *memory);
+/* Opens a file that is open, as `open_source` does. Closes the file on failure, too. */
+bool open_descriptor(struct source *source, int descriptor, const struct memory_source *memory);
 
-/* Returns how many bytes of the file were read for the stream. */
-uint64_t source_position(const struct source *source, FILE *stream);
+/*
+ * Reads on until so many bytes are ahead, and more only if they have arrived. At the end of the file, fewer may be. Those that
+ * are ahead may move. Returns false if that fails, and sets `error`; what was read before stays there.
+ */
+bool read_ahead(struct source *source, size_t len);
+
+/* Returns the bytes that are ahead, which may be changed. They stay where they are until more are read. */
+uint8_t *bytes_ahead(const struct source *source);
+
+/* Returns the number of these bytes. */
+size_t count_ahead(const struct source *source);
+
+/* Skips bytes that are ahead. */
+void skip_ahead(struct source *source, size_t len);
+
+/* Closes a source that was opened. */
+void close_source(struct source *source);
 
 /* Whether the file isn't a regular one, so that its bytes may arrive as they are captured. */
 bool is_live(const struct source *source);

@@ -162,7 +162,7 @@ static bool write_empty_output(struct target *target, const struct request *requ
 /* Whether a classic file has the link layer of the output. If not, reports it. Packets of a pcapng file may differ. */
 static bool has_link_type(const struct target *target, const struct capture *capture)
 {
-    if (!capture->handle || capture->link_type == target->link_type) return true;
+    if (!capture->is_classic || capture->link_type == target->link_type) return true;
     const char *name = pcap_datalink_val_to_name(capture->link_type);
     const char *first = pcap_datalink_val_to_name(target->link_type);
     complain("%s: link layer %s, but that of %s is %s", capture->name, name ? name : "unknown", target->first,
@@ -266,7 +266,7 @@ static bool filter_whole_packets(const struct request *request, struct target *t
 /* Whether a capture has no link layer, since it is a pcapng file without interfaces, and therefore without packets. */
 static bool has_no_link_type(const struct capture *capture)
 {
-    return !capture->handle && !capture->blocks.has_interface;
+    return !capture->is_classic && !capture->blocks.has_interface;
 }
 
 /* Returns the name of a file for comments, with hidden characters escaped, or null if memory runs out. */

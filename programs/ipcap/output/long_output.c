@@ -28,19 +28,15 @@ static bool copy_long_block(struct capture *capture, const uint8_t *block, size_
 /* Begins a classic file, or with numbers a pcapng file, with the link layer and the timestamp precision of the capture. */
 static bool begin_long_classic(struct output *output, struct capture *capture, FILE *file)
 {
-    int precision = has_nanoseconds(capture) ? PCAP_TSTAMP_PRECISION_NANO : PCAP_TSTAMP_PRECISION_MICRO;
-    int snap_len = pcap_snapshot(capture->handle) > MOST_SNAP_LEN ? pcap_snapshot(capture->handle) : MOST_SNAP_LEN;
-    pcap_t *handle = pcap_open_dead_with_tstamp_precision(capture->link_type, snap_len, (u_int)precision);
-    bool is_begun = handle && begin_like_handle(output, handle, file);
-    if (!handle) snprintf(output->error, sizeof output->error, "out of memory");
-    if (!handle && file != stdout) fclose(file);
-    if (handle) pcap_close(handle);
-    return is_begun && (!capture->is_live || flush_output(output));
+    struct classic_form form = capture->form;
+    form.extension = 0;
+    if (form.snap_len < MOST_SNAP_LEN) form.snap_len = MOST_SNAP_LEN;
+    return begin_form(output, &form, file) && (!capture->is_live || flush_output(output));
 }
 
 bool begin_long_output(struct output *output, struct capture *capture, FILE *file)
 {
-    if (capture->handle) return begin_long_classic(output, capture, file);
+    if (capture->is_classic) return begin_long_classic(output, capture, file);
     visit_blocks(capture->blocks.head, capture->blocks.head_len, lift_snap_len, NULL);
     bool is_begun = begin_output(output, capture, file);
     copy_block = capture->copy;

@@ -23,40 +23,41 @@ bool flush_output(struct output *output)
     return fflush(output->file) == 0 && !ferror(output->file) ? true : fail(output, "write failed");
 }
 
-/* Writes the head of a pcapng file in the form of `handle`. */
-static bool begin_numbered(struct output *output, pcap_t *handle, FILE *file)
+/* Begins a pcapng file, in which packets have numbers. */
+static bool begin_numbered(struct output *output, const struct classic_form *form, FILE *file)
 {
     uint8_t head[NUMBERED_HEAD];
-    int snap_len = pcap_snapshot(handle);
-    output->file = file;
-    output->is_fine = pcap_get_tstamp_precision(handle) == PCAP_TSTAMP_PRECISION_NANO;
-    size_t len = write_numbered_head(head, pcap_datalink(handle), snap_len > 0 ? (uint32_t)snap_len : 0, output->is_fine);
+    output->is_fine = form->is_fine;
+    size_t len = write_numbered_head(head, form->link_type, form->snap_len, form->is_fine);
     errno = 0;
     return fwrite(head, 1, len, file) == len || flush_output(output);
 }
 
-/* Writes the head of a classic file. If that fails, libpcap has closed the file. */
-bool begin_like_handle(struct output *output, pcap_t *handle, FILE *file)
+/* Begins a classic file. */
+static bool begin_classic(struct output *output, const struct classic_form *form, FILE *file)
 {
-    if (output->has_numbers) return begin_numbered(output, handle, file);
+    static const uint32_t microseconds = 0xa1b2c3d4, nanoseconds = 0xa1b23c4d;
+    struct pcap_file_header head = {.magic = form->is_fine ? nanoseconds : microseconds,
+                                    .version_major = PCAP_VERSION_MAJOR,
+                                    .version_minor = PCAP_VERSION_MINOR,
+                                    .snaplen = form->snap_len,
+                                    .linktype = file_link_type(form->link_type) | form->extension};
+    output->is_classic = true;
     errno = 0;
-    output->dumper = pcap_dump_fopen(handle, file);
-    output->file = output->dumper ? file : NULL;
-    return output->dumper ? true : fail(output, pcap_geterr(handle));
+    return fwrite(&head, sizeof head, 1, file) == 1 || flush_output(output);
+}
+
+bool begin_form(struct output *output, const struct classic_form *form, FILE *file)
+{
+    output->file = file;
+    return output->has_numbers ? begin_numbered(output, form, file) : begin_classic(output, form, file);
 }
 
 bool begin_joint_output(struct output *output, int link_type, FILE *file)
 {
-    pcap_t *handle = pcap_open_dead_with_tstamp_precision(link_type, MOST_SNAP_LEN, PCAP_TSTAMP_PRECISION_NANO);
-    if (!handle) {
-        if (file != stdout) fclose(file);
-        errno = 0;
-        return fail(output, "out of memory");
-    }
+    struct classic_form form = {.link_type = link_type, .snap_len = MOST_SNAP_LEN, .is_fine = true};
     output->is_joint = true;
-    bool is_begun = begin_like_handle(output, handle, file);
-    pcap_close(handle);
-    return is_begun;
+    return begin_form(output, &form, file);
 }
 
 bool write_blocks(struct output *output, const struct capture *capture, const uint8_t *blocks, size_t len)
@@ -91,8 +92,7 @@ bool begin_empty_output(struct output *output, FILE *file)
 
 bool begin_output(struct output *output, struct capture *capture, FILE *file)
 {
-    pcap_t *handle = capture->handle;
-    bool is_begun = handle ? begin_like_handle(output, handle, file) : begin_blocks(output, capture, file);
+    bool is_begun = capture->is_classic ? begin_form(output, &capture->form, file) : begin_blocks(output, capture, file);
     return is_begun && (!capture->is_live || flush_output(output));
 }
 
@@ -112,32 +112,36 @@ static void write_numbered(struct output *output, const struct capture *capture,
     if (!is_numbered && output->unnumbered == 0) output->unnumbered = capture->number;
 }
 
+/* Writes a packet to a classic file. */
+static void write_record(struct output *output, const struct capture *capture, const struct packet *packet)
+{
+    const struct pcap_pkthdr *header = &packet->header;
+    uint32_t seconds = (uint32_t)(output->is_joint ? packet->time.tv_sec : header->ts.tv_sec);
+    uint32_t fraction = (uint32_t)(output->is_joint ? packet->time.tv_nsec : header->ts.tv_usec);
+    uint32_t head[] = {seconds, fraction, header->caplen, header->len};
+    errno = 0;
+    bool is_written = fwrite(head, sizeof head, 1, output->file) == 1 &&
+                      fwrite(packet->frame, 1, header->caplen, output->file) == header->caplen;
+    if (capture->is_live || !is_written) flush_output(output);
+}
+
 void write_packet(struct output *output, const struct capture *capture, const struct packet *packet)
 {
-    struct pcap_pkthdr header = packet->header;
     output->written++;
     if (output->has_numbers) {
         write_numbered(output, capture, packet);
         return;
     }
-    if (!output->dumper) {
+    if (!output->is_classic)
         write_blocks(output, capture, packet->block, packet->block_len);
-        return;
-    }
-    /* a file of nanoseconds has them where pcap_dump takes microseconds */
-    if (output->is_joint) header.ts = (struct timeval){packet->time.tv_sec, packet->time.tv_nsec};
-    errno = 0;
-    pcap_dump((u_char *)output->dumper, &header, packet->frame);
-    if (capture->is_live || ferror(output->file)) flush_output(output);
+    else
+        write_record(output, capture, packet);
 }
 
 void end_output(struct output *output)
 {
     end_numbered(&output->numbered);
-    if (output->dumper)
-        pcap_dump_close(output->dumper);
-    else if (output->file && output->file != stdout)
-        fclose(output->file);
+    if (output->file && output->file != stdout) fclose(output->file);
 }
 
 bool does_match(const struct wolfaren_filter *condition, const struct packet *packet)

@@ -2,7 +2,6 @@
 #ifndef IPCAP_OUTPUT_H
 #define IPCAP_OUTPUT_H
 
-#include <pcap/pcap.h>
 #include <stdbool.h>
 #include <stddef.h>
 #include <stdint.h>
@@ -18,7 +17,7 @@ enum { MOST_SNAP_LEN = 262144 };
 /* A capture that is written. All zeros are one that isn't begun. `has_numbers` is set before that. */
 struct output {
     FILE *file;            /* null until the output is begun */
-    pcap_dumper_t *dumper; /* writes to `file`, or null for a pcapng file */
+    bool is_classic;       /* it is a classic file, otherwise a pcapng file */
     bool is_joint;         /* it is for several files, so its timestamps are in nanoseconds */
     bool has_numbers;      /* it is a pcapng file, in which each packet has its number in a comment */
     bool is_fine;          /* with numbers, whether its timestamps are in nanoseconds */
@@ -43,11 +42,8 @@ bool begin_output(struct output *output, struct capture *capture, FILE *file);
  */
 bool begin_joint_output(struct output *output, int link_type, FILE *file);
 
-/*
- * Begins a classic file with the link layer, the snap length and the timestamp precision of a handle, or with numbers a pcapng
- * file. Errors are as for `begin_output`.
- */
-bool begin_like_handle(struct output *output, pcap_t *handle, FILE *file);
+/* Begins a classic file, or with numbers a pcapng file, of this form. Errors are as for `begin_output`. */
+bool begin_form(struct output *output, const struct classic_form *form, FILE *file);
 
 /* Begins a pcapng file without interfaces, which has no packets. Errors are as for `begin_output`. */
 bool begin_empty_output(struct output *output, FILE *file);

@@ -40,12 +40,12 @@
  *    of them writes it. A call writes what its other pointers refer to, and takes no lock: no other thread may read or
  *    write that during the call.
  *
- * The library needs memcpy, memmove and memset, and nothing else. It is compiled for x86-64-v2 (SSE4.2) and the System
- * V calling convention; wolfaren_cpu_is_supported returns whether a processor has these instructions. It uses SSE
- * registers, the red zone below the stack pointer, and less than 2 KB of stack, except for wolfaren_parse_filter, which
- * uses less than 8 KB. A kernel must therefore save the SSE registers around calls, and must not take an interrupt on the
- * same stack. For ARM64 it is compiled for ARMv8-A, the AAPCS64 calling convention and little-endian data, and may use
- * vector registers.
+ * The library needs memcpy, memmove and memset, and for wolfaren_next_record the division of 128 bits that is in the runtime
+ * library of each compiler (__udivti3), and nothing else. It is compiled for x86-64-v2 (SSE4.2) and the System V calling
+ * convention; wolfaren_cpu_is_supported returns whether a processor has these instructions. It uses SSE registers, the red
+ * zone below the stack pointer, and less than 2 KB of stack, except for wolfaren_parse_filter, which uses less than 9 KB. A
+ * kernel must therefore save the SSE registers around calls, and must not take an interrupt on the same stack. For ARM64 it
+ * is compiled for ARMv8-A, the AAPCS64 calling convention and little-endian data, and may use vector registers.
  *
  * For other machines, `make rust-c` builds a library of the same source with Rust's compiler. It also needs the C library.
  * Nothing is proved of it, but it is tested on x86-64, ARMv7 and i686, and on s390x, which is big-endian.

@@ -44,10 +44,10 @@ LACKING = ["qemu64", "core2duo", "Conroe",
            *(f"Nehalem,-{it}" for it in ["pni", "ssse3", "sse4.1", "sse4.2", "popcnt", "cx16", "lahf-lm"])]
 
 
-def test_undefined_symbols_are_three_at_most(library):
+def test_undefined_symbols_are_those_that_the_header_names(library):
     lines = [line.split() for line in run("nm", "-g", library.archive).splitlines()]
     defined = {it[-1] for it in lines if len(it) == 3}
-    assert {it[-1] for it in lines if it[:1] == ["U"]} - defined <= {"memcpy", "memmove", "memset"}
+    assert {it[-1] for it in lines if it[:1] == ["U"]} - defined <= {"memcpy", "memmove", "memset", "__udivti3"}
 
 
 def test_versions_and_checksums_agree():

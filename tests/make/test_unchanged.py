@@ -49,6 +49,7 @@ def built(tmp_path_factory):
     write(f"{room}/bin/rt", RT, 0o755)
     asked, _ = make(room, "wheel")
     assert {"ipexts_c", "ipexts"} <= {*asked}
+    make(room, "deb")
     yield room
     shutil.rmtree(room)
 

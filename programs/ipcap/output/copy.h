@@ -6,7 +6,7 @@
 
 /*
  * Whether the file `output`, or standard output if that is null or `-`, is the file at a path or on standard input. Opening it
- * for writing would truncate it, and appending to it would go on for ever.
+ * for writing would truncate it, and appending to it would never end.
  */
 bool is_input(const char *output, const char *path);
 

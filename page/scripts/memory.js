@@ -1,5 +1,5 @@
 // The library's memory, and the structs of include/wolfaren.h there. `make page` writes those to wolfaren.js, with the size of a
-// pointer: 4 bytes if rustc has compiled the library, 8 if Rattle has.
+// pointer: 4 bytes if `rustc` has compiled the library, 8 if Rattle has.
 "use strict";
 Wolfaren.memory = (function () {
     const POINTER = Wolfaren.pointerSize, IS_WIDE = POINTER === 8, PAGE = 65536;
@@ -71,7 +71,7 @@ Wolfaren.memory = (function () {
         return IS_WIDE ? BigInt(number) : number;
     }
     // Returns bytes as calls take them that Rattle has compiled to take a struct of pointer and length, which WebAssembly passes
-    // in memory: at `pair`, where PAIR bytes are. rustc has compiled them to take pointer and length.
+    // in memory: at `pair`, where PAIR bytes are. `rustc` has compiled them to take pointer and length.
     function passedPair(pair, at, len) {
         if (!IS_WIDE) return [at, len];
         putNumber("size", pair, at);

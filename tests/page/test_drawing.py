@@ -146,6 +146,7 @@ def test_a_narrow_window_is_whole(narrow, kind, pasted, places, words):
 
 def test_old_browsers_are_told(page, browser):
     """A browser without what the library needs shows a message: WebAssembly, with 64-bit memory if Rattle has compiled it."""
+    page.needs_chromium()
     lacking, words = (("WebAssembly.validate = () => false;", "64-bit WebAssembly memory") if browser.execute_script("return Wolfaren.pointerSize") == 8
                       else ("delete window.WebAssembly;", "WebAssembly, which the library needs"))
     script = browser.execute_cdp_cmd("Page.addScriptToEvaluateOnNewDocument", {"source": lacking})

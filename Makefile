@@ -28,7 +28,8 @@
 # make rust-c         build its C library in build/rust-c (RUST_TARGET=.., CC=.., AR=..: for another machine; CARGO_FLAGS)
 # make docs           write pages in build/docs/: the documents, each crate's calls with their contracts, the definitions, and,
 #                     where doxygen, Cargo and sphinx are there, the C interface and the packages. Needs Python's markdown
-# make page           build the files that page/index.html needs
+# make page           build the files that page/index.html needs: of the Rust package for wasm32, where there is a Rust compiler
+#                     for that, such as the one that `scripts/fetch-rust wasm32` fetches; otherwise with Rattle for wasm64
 # make test-page      test that page in Chromium
 # make mutants        try the mutants in tests/mutants/ (CRATE='NAME ..': only these crates; ONLY=WORD: only those whose
 #                     names contain the word; JOBS=3: so many at a time)
@@ -239,7 +240,7 @@ docs:
 	echo "Python's package markdown is missing (Debian: python3-markdown)." >&2; exit 1
 
 page:
-	$(RT_IS_THERE)
+	$(PYTHON_IS_THERE)
 	scripts/build-page
 
 test-page: page

@@ -2,7 +2,7 @@
 "use strict";
 Wolfaren.kind = (function () {
     const NAMES = { packet: "an IP packet", ethernet: "an Ethernet frame", cooked: "a Linux cooked frame", cooked2: "a Linux cooked frame, version 2",
-        loopback: "a loopback frame", ppp: "a PPP frame", chain6: "an IPv6 chain of headers", chain4: "an IPv4 chain of headers", capture: "a capture" };
+        loopback: "a loopback frame", ppp: "a PPP frame", frame: "a frame of another link type", chain6: "an IPv6 chain of headers", chain4: "an IPv4 chain of headers", capture: "a capture" };
     const MAGICS = ["a1b2c3d4", "d4c3b2a1", "a1b23c4d", "4d3cb2a1", "0a0d0d0a"];
     // EtherTypes of frames without an IP packet: ARP, MPLS, PPPoE, LLDP and others.
     const OTHER_TYPES = [0x0806, 0x8035, 0x8847, 0x8848, 0x8863, 0x8864, 0x88cc, 0x888e, 0x88f7];
@@ -35,12 +35,12 @@ Wolfaren.kind = (function () {
     }
     // Returns whether the bytes are a whole IP packet, or an Ethernet frame with one, which may be padded to the least length.
     function isComplete(bytes) {
-        const frame = Wolfaren.link.find("ethernet", Uint8Array.from(bytes)), packet = bytes.slice(frame.offset);
+        const frame = Wolfaren.frames.find("ethernet", 0, Uint8Array.from(bytes)), packet = bytes.slice(frame.offset);
         const isPadded = bytes.length === LEAST_PADDED && statedLen(packet) > 0 && statedLen(packet) < packet.length;
         return isWhole(bytes) || (frame.isIp && (isWhole(packet) || isPadded));
     }
     function carriesIp(kind, bytes) {
-        const found = Wolfaren.link.find(kind, bytes);
+        const found = Wolfaren.frames.find(kind, 0, bytes);
         return found.isIp && isPlausible(kind, bytes) && statedLen(bytes.slice(found.offset)) !== null;
     }
     // The first fields of cooked frames have few values: a direction, or bytes that are 0.

@@ -1,90 +1,100 @@
-// Calls the library. Its structs have the layout of include/wolfaren.h, with a 64-bit size_t.
+// Calls the library, of whose functions include/wolfaren.h has the documentation.
 "use strict";
 Wolfaren.library = (function () {
-    const HEADER = 24, DISSECTION = 104, BYTES = 16;
-    // A struct wolfaren_dissection and the slice of bytes; a struct wolfaren_chain has 56 bytes.
-    const ANSWER = DISSECTION + BYTES;
+    const { PAIR, IS_WIDE, sizeOf, read, write, lay, copy, passed, passedPair, text } = Wolfaren.memory;
     // The smallest module with a memory of 64-bit addresses.
     const WIDE = new Uint8Array([0, 97, 115, 109, 1, 0, 0, 0, 5, 3, 1, 4, 1]);
-    let calls = null, memory = null, room = 0, start = 0;
+    const NAME = IS_WIDE ? `the formally verified library, which ${Wolfaren.compiler} has compiled to 64-bit WebAssembly`
+        : `the Rust package that is made of formally verified source, which ${Wolfaren.compiler} has compiled to WebAssembly`;
+    const WHY_NOT = IS_WIDE ? "This browser doesn't support 64-bit WebAssembly memory, which the library needs. Chromium 133, Firefox 134 and later do."
+        : "This browser doesn't support WebAssembly, which the library needs.";
+    const NEEDS = 2, ENDED = 3, MOST_TEXT = 256;
+    let calls = null;
 
     function isSupported() {
-        return typeof WebAssembly === "object" && WebAssembly.validate(WIDE);
+        return typeof WebAssembly === "object" && (!IS_WIDE || WebAssembly.validate(WIDE));
     }
     async function load() {
-        const text = atob(Wolfaren.module);
-        const made = await WebAssembly.instantiate(Uint8Array.from(text, (it) => it.charCodeAt(0)), {});
-        calls = made.instance.exports;
-        memory = calls.memory;
-        start = memory.buffer.byteLength;
+        const module = Uint8Array.from(atob(Wolfaren.module), (it) => it.charCodeAt(0));
+        calls = (await WebAssembly.instantiate(module, {})).instance.exports;
+        Wolfaren.memory.use(calls.memory);
     }
-    // Copies the bytes into memory after the part that the module itself uses, with room after them for the results.
-    function place(bytes) {
-        const most = Math.floor(bytes.length / 8) + 1;
-        const needed = bytes.length + 8 + ANSWER + most * HEADER;
-        while (room < needed) {
-            memory.grow(16n);
-            room = memory.buffer.byteLength - start;
-        }
-        new Uint8Array(memory.buffer, start, bytes.length).set(bytes);
-        const answer = start + Math.ceil(bytes.length / 8) * 8;
-        return { answer, headers: answer + ANSWER, most };
-    }
-    function size(view, at) {
-        return Number(view.getBigUint64(at, true));
-    }
-    function faultAt(view, at) {
-        return { requiredLen: size(view, at), len: size(view, at + 8), offset: size(view, at + 16), kind: view.getUint8(at + 24), header: view.getUint8(at + 25),
-            layer: view.getUint8(at + 26), lenSource: view.getUint8(at + 27), value: view.getUint32(at + 28, true) };
-    }
-    function headersAt(view, at, count) {
-        const headers = [];
-        for (let i = 0; i < count; i++) {
-            const header = at + i * HEADER;
-            headers.push({ offset: size(view, header), len: size(view, header + 8), number: view.getUint8(header + 16), next: view.getUint8(header + 17) });
-        }
-        markStructs(headers, at);
-        return headers;
-    }
-    // Numbers the structs of six places that hold the headers, from 1. Each holds at least one header.
-    function markStructs(headers, at) {
-        for (let from = 0, struct = 1; from < headers.length; struct++) {
-            const len = Number(calls.wolfaren_run_len(BigInt(at + from * HEADER), BigInt(headers.length - from)));
+    // Returns the headers that a call has stored, each with its struct of six places, numbered from 1.
+    function headersAt(at, count) {
+        const size = sizeOf("header"), headers = Array.from({ length: count }, (_, i) => read("header", at + i * size));
+        for (let from = 0, struct = 1; from < count; struct++) {
+            const len = Number(calls.wolfaren_run_len(passed(at + from * size), passed(count - from)));
             headers.slice(from, from + len).forEach((it) => (it.struct = struct));
             from += len;
         }
+        return headers;
+    }
+    // Returns how many headers these bytes can have at most.
+    function mostHeaders(bytes) {
+        return Math.floor(bytes.length / 8) + 1;
     }
     // Parses the longest chain that starts with the number `first`. `version` is 6 or 4.
     function parseChain(version, first, bytes) {
-        const at = place(bytes);
+        const most = mostHeaders(bytes), [from, at, headers] = lay(bytes.length, sizeOf("chain"), sizeOf("header", most));
+        copy(bytes, from);
         const call = version === 6 ? calls.wolfaren_parse_chain : calls.wolfaren_parse_ipv4_chain;
-        call(first, BigInt(start), BigInt(bytes.length), BigInt(at.headers), BigInt(at.most), BigInt(at.answer));
-        const view = new DataView(memory.buffer);
-        return { headers: headersAt(view, at.headers, size(view, at.answer)), len: size(view, at.answer + 8), fault: faultAt(view, at.answer + 16),
-            next: view.getUint32(at.answer + 48, true), fragmented: view.getUint32(at.answer + 52, true) === 1 };
+        call(first, passed(from), passed(bytes.length), passed(headers), passed(most), passed(at));
+        const chain = read("chain", at);
+        return { ...chain, headers: headersAt(headers, chain.headers) };
     }
     // Dissects the packet at the start of the bytes, which may be any bytes.
     function dissect(bytes) {
-        const at = place(bytes), answer = at.answer, given = answer + DISSECTION;
-        const view = new DataView(memory.buffer);
-        // This call takes the bytes as a struct of pointer and length. WebAssembly passes structs in memory.
-        view.setBigUint64(given, BigInt(start), true);
-        view.setBigUint64(given + 8, BigInt(bytes.length), true);
-        calls.wolfaren_dissect(BigInt(given), BigInt(at.headers), BigInt(at.most), BigInt(answer));
-        return { baseLen: size(view, answer), statedLen: size(view, answer + 8), headers: headersAt(view, at.headers, size(view, answer + 16)),
-            payloadOffset: size(view, answer + 24), payloadLen: size(view, answer + 32), missing: size(view, answer + 40), padding: size(view, answer + 48),
-            fault: faultAt(view, answer + 56), identification: view.getUint32(answer + 88, true), fragmentOffset: view.getUint32(answer + 92, true),
-            version: view.getUint16(answer + 96, true), number: view.getUint16(answer + 98, true), fragment: view.getUint16(answer + 100, true), end: view.getUint16(answer + 102, true) };
+        const most = mostHeaders(bytes), [from, pair, at, headers] = lay(bytes.length, PAIR, sizeOf("dissection"), sizeOf("header", most));
+        copy(bytes, from);
+        calls.wolfaren_dissect(...passedPair(pair, from, bytes.length), passed(headers), passed(most), passed(at));
+        const packet = read("dissection", at);
+        return { ...packet, headers: headersAt(headers, packet.headers) };
+    }
+    // Finds the IP packet in a frame. Returns null if the link type isn't supported.
+    function findIp(linkType, frame) {
+        const [from, pair, at] = lay(frame.length, PAIR, sizeOf("frame"));
+        copy(frame, from);
+        return calls.wolfaren_find_ip(linkType, ...passedPair(pair, from, frame.length), passed(at)) ? read("frame", at) : null;
+    }
+    // Reads the records and blocks of a capture, which are in the library's memory a part at a time, with memory for the
+    // description of `room` interfaces. Returns { form, records }. The last record has no frame and says why; each has the offset
+    // `at` which it begins. If the bytes begin no capture, `form` is null and the last record has the error.
+    function readCapture(bytes, limit, room) {
+        const PART = 1 << 20, sizes = [PAIR, sizeOf("capture"), sizeOf("record"), sizeOf("capture_error"), sizeOf("interface", room)];
+        const [pair, capture, record, error, interfaces, part] = lay(...sizes, PART), records = [];
+        write("capture", capture, { interfaces, room, limit });
+        copy(bytes.subarray(0, PART), part);
+        const isBegun = calls.wolfaren_begin_capture(passed(capture), ...passedPair(pair, part, Math.min(PART, bytes.length)), passed(error));
+        if (!isBegun) return { form: null, records: [{ error: read("capture_error", error) }] };
+        const { form } = read("capture", capture);
+        for (let from = 0, end = Math.min(PART, bytes.length); ;) {
+            const at = Number(read("capture", capture).offset);
+            calls.wolfaren_next_record(passed(capture), ...passedPair(pair, part + at - from, end - at), passed(record));
+            const found = { ...read("record", record), at };
+            const isShort = (found.kind === NEEDS || found.kind === ENDED) && end < bytes.length;
+            if (!isShort) records.push(found);
+            if (!isShort && found.kind >= NEEDS) return { form, records };
+            if (!isShort) continue;
+            [from, end] = [at, Math.min(at + Math.max(PART, found.needed), bytes.length)];
+            lay(...sizes, end - from);
+            copy(bytes.subarray(from, end), part);
+        }
+    }
+    // Returns an error in a capture as text.
+    function captureErrorText(error) {
+        const [at, said] = lay(sizeOf("capture_error"), MOST_TEXT);
+        write("capture_error", at, error);
+        return text(said, Number(calls.wolfaren_capture_error_text(passed(at), passed(said), passed(MOST_TEXT))));
     }
     // Returns the word for a code: that which the call stores as a slice with a 0 at its end.
     function word(call, code) {
-        const at = place([]).answer;
-        call(code, BigInt(at));
-        const view = new DataView(memory.buffer);
-        return String.fromCharCode(...new Uint8Array(memory.buffer, size(view, at), size(view, at + 8) - 1));
+        const [at] = lay(sizeOf("name"));
+        call(code, passed(at));
+        const found = read("name", at);
+        return text(found.text, found.size - 1);
     }
     const kindWord = (kind) => word(calls.wolfaren_find_kind_word, kind);
     const layerWord = (layer) => word(calls.wolfaren_find_layer_word, layer);
     const numberWord = (number) => word(calls.wolfaren_find_number_word, number);
-    return { isSupported, load, parseChain, dissect, kindWord, layerWord, numberWord };
+    return { NAME, WHY_NOT, isSupported, load, parseChain, dissect, findIp, readCapture, captureErrorText, kindWord, layerWord, numberWord };
 })();

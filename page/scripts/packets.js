@@ -47,7 +47,7 @@ Wolfaren.packets = (function () {
     function chainOf(model) {
         if (model.packet.version === 0) return "unread base header";
         const numbers = model.headers.map((it) => it.number), few = numbers.length > MOST_NUMBERS ? `${numbers.length} headers` : numbers.join(",");
-        return `IPv${model.packet.version} ${few}${few === "" ? "" : " "}-> ${model.packet.number}`;
+        return `IPv${model.packet.version} ${few}${few === "" ? "" : " "}-> ${model.packet.payloadNumber}`;
     }
     function choose(index) {
         if (index < 0 || index >= count) return;

@@ -1,27 +1,30 @@
 // Connects the controls to the rest.
 "use strict";
 Wolfaren.page = (function () {
-    const LINK = /^#(packet|ethernet|cooked|cooked2|loopback|ppp|chain6|chain4)(?::(\d{1,3}))?(:places)?:([0-9a-f]*)$/i;
+    const LINK = /^#(packet|ethernet|cooked|cooked2|loopback|ppp|frame|chain6|chain4)(?::(\d{1,5}))?(:places)?:([0-9a-f]*)$/i;
     const EXAMPLE = "6000000000202b40 20010db8000000000000000000000001 20010db8000000000000000000000002\n3c00000000000000 2c00010400000000 1100000100000007 0035303900080000";
     const STYLES = ["fill", "stroke", "stroke-width", "stroke-dasharray", "font-family", "font-size", "font-weight", "text-anchor", "dominant-baseline",
         "text-decoration"];
     const EMPTY = { bytes: new Uint8Array(0) };
+    // The kinds that need a number, and the greatest one.
+    const NUMBERED = { chain6: 255, chain4: 255, frame: 65535 };
     const at = (id) => document.getElementById(id);
     // The packets of the list, the one that is drawn, and what was read from the text.
     let packets = [], packet = EMPTY, reading = null, isFromFile = false, model = null, drawn = null, width = 0;
 
-    function firstNumber() {
-        return Math.min(255, Math.max(0, Math.trunc(Number(at("first").value)) || 0));
+    function numberFor(kind) {
+        return Math.min(NUMBERED[kind] || 0, Math.max(0, Math.trunc(Number(at("number").value)) || 0));
     }
-    // Returns the kind of a packet: the chosen one, that of the capture, or what the bytes look like.
+    // Returns the kind of a packet and its number: the chosen one, that of the capture, or what the bytes look like.
     function kindOf(it) {
-        if (at("kind").value !== "auto") return { kind: at("kind").value, why: "" };
-        return it.kind === undefined ? Wolfaren.kind.find(it.bytes) : { kind: it.kind, why: it.why };
+        const chosen = at("kind").value;
+        if (chosen !== "auto") return { kind: chosen, number: numberFor(chosen), why: "" };
+        return it.kind === undefined ? Wolfaren.kind.find(it.bytes) : it;
     }
     function parse(it) {
-        const { kind, why } = kindOf(it);
+        const { kind, number = 0, why } = kindOf(it);
         if (kind === null) return Wolfaren.parse.unparsed(it.bytes, why);
-        const parsed = Wolfaren.parse.parse(kind === "capture" ? "packet" : kind, firstNumber(), it.bytes, it.wire);
+        const parsed = Wolfaren.parse.parse(kind === "capture" ? "packet" : kind, number, it.bytes, it.wire);
         return Object.assign(parsed, { hint: hintOf(kind, it.bytes, parsed) });
     }
     // Returns the kind that the bytes look like if another one was chosen. It explains an error in the IP version better than
@@ -35,7 +38,7 @@ Wolfaren.page = (function () {
     function show() {
         model = parse(packet);
         addPlaces(model);
-        at("first-label").hidden = !model.kind.startsWith("chain");
+        at("number").hidden = NUMBERED[at("kind").value] === undefined;
         at("summary").textContent = Wolfaren.table.sentence(model);
         at("summary").className = `summary ${model.fault ? Wolfaren.table.endWord(model.fault) : ""}`;
         at("link").href = linkTo(model);
@@ -55,9 +58,10 @@ Wolfaren.page = (function () {
     function widthOfPage() {
         return Math.floor(at("main").getBoundingClientRect().width);
     }
-    function foundText({ kind, why }) {
+    function foundText({ kind, number, why }) {
         if (kind === null) return `The ${why}.`;
-        return why === "" ? "Nothing was recognized: taken as an IP packet." : `This is ${Wolfaren.kind.NAMES[kind]}, ${why}.`;
+        if (why === "") return "Nothing was recognized: taken as an IP packet.";
+        return `This is ${Wolfaren.kind.NAMES[kind]}${kind === "frame" ? `, ${number}` : ""}, ${why}.`;
     }
     // Draws the packet for the width of the window.
     function drawAgain() {
@@ -76,8 +80,8 @@ Wolfaren.page = (function () {
     function hexOf(bytes) {
         return Array.from(bytes, (it) => it.toString(16).padStart(2, "0")).join("");
     }
-    function linkTo({ kind, first, bytes }) {
-        return `#${kind === "other" ? "packet" : kind}${kind.startsWith("chain") ? `:${first}` : ""}${at("places").checked ? ":places" : ""}:${hexOf(bytes)}`;
+    function linkTo({ kind, number, bytes }) {
+        return `#${kind === "other" ? "packet" : kind}${NUMBERED[kind] ? `:${number}` : ""}${at("places").checked ? ":places" : ""}:${hexOf(bytes)}`;
     }
     // Marks the unread parts of the text. A transparent copy of the text lies below the text field; only its marks show.
     function markUnread(text, unread) {
@@ -164,7 +168,7 @@ Wolfaren.page = (function () {
         if (!isChosen) at("file").value = "";
         at("text").value = "";
         showUnread([]);
-        showCapture(Wolfaren.capture.read(buffer));
+        showCapture(Wolfaren.frames.readCapture(buffer));
     }
     function showCapture(found) {
         const text = list(found.packets);
@@ -202,7 +206,7 @@ Wolfaren.page = (function () {
         const { packets: found } = reading, isOne = found.length < 2, isCapture = isOne && found.length > 0 && kindOf({ bytes: found[0] }).kind === "capture";
         if (isCapture || !isOne) isFromFile = false;
         if (!isFromFile) at("file").value = ""; // or else it names a file of which nothing is shown
-        if (isCapture) return showCapture(Wolfaren.capture.read(Uint8Array.from(found[0]).buffer));
+        if (isCapture) return showCapture(Wolfaren.frames.readCapture(Uint8Array.from(found[0]).buffer));
         if (!isOne) return showSeveral(found);
         if (!isFromFile) list([]);
         packet = found.length > 0 ? { bytes: found[0] } : EMPTY;
@@ -227,7 +231,7 @@ Wolfaren.page = (function () {
         if (!found) return false;
         if (model && location.hash === linkTo(model)) return true;
         at("kind").value = kindOfLink(found);
-        if (found[2] !== undefined) at("first").value = found[2];
+        if (found[2] !== undefined) at("number").value = found[2];
         at("places").checked = found[3] !== undefined;
         at("text").value = found[4];
         isFromFile = false;
@@ -249,7 +253,7 @@ Wolfaren.page = (function () {
     }
     function onInput(event) {
         if (event.target.id === "file") return;
-        if (event.target.id === "kind" || event.target.id === "first") changeKind();
+        if (event.target.id === "kind" || event.target.id === "number") changeKind();
         else if (event.target.id === "places") show();
         else takeText();
     }
@@ -282,10 +286,11 @@ Wolfaren.page = (function () {
     }
     async function begin() {
         if (!Wolfaren.library.isSupported()) {
-            at("summary").textContent = "This browser doesn't support 64-bit WebAssembly memory, which the library needs. Chromium 133, Firefox 134 and later do.";
+            at("summary").textContent = Wolfaren.library.WHY_NOT;
             return;
         }
         await Wolfaren.library.load();
+        at("parser").textContent = Wolfaren.library.NAME;
         listen();
         Wolfaren.examples.show(at("examples"));
         if (takeLink()) return;

@@ -5,20 +5,23 @@ Wolfaren.parse = (function () {
     const ATOMIC = 1, AT_TRUNCATED_HEADER = 2;
     const PLACES = { 0: 0, 60: 1, 43: 2, 44: 3, 51: 4 };
 
-    // Parses the bytes. `kind` is one of those in kind.js, except for a capture. `wire` is the frame's original length, if that is
-    // known.
-    function parse(kind, first, bytes, wire) {
-        const model = { kind, first, bytes, wire, parts: [], fault: null, headers: [], packet: null, note: "" };
+    // Parses the bytes. `kind` is one of those in kind.js, except for a capture. `number` is that with which a chain starts, or the
+    // link type of a frame. `wire` is the frame's original length, if that is known.
+    function parse(kind, number, bytes, wire) {
+        const model = { kind, number, bytes, wire, parts: [], fault: null, headers: [], packet: null, note: "" };
         if (kind === "chain6" || kind === "chain4") return parseChain(model, kind === "chain6" ? 6 : 4);
-        const base = kind === "packet" ? 0 : pushLink(model);
+        if (kind === "packet") return parsePacket(model, 0);
+        const link = Wolfaren.frames.find(kind, number, bytes);
+        if (link === null) return unparsed(bytes, `link type ${number} isn't supported`);
+        const base = pushLink(model, link);
         return base < 0 ? model : parsePacket(model, base);
     }
     function push(model, style, name, offset, len, more) {
         if (len > 0) model.parts.push({ style, name, offset, len, ...more });
     }
     // Adds the headers before the IP packet. Returns their length in bytes, or -1 if there is no IP packet.
-    function pushLink(model) {
-        const link = Wolfaren.link.find(model.kind, model.bytes), all = model.bytes.length;
+    function pushLink(model, link) {
+        const all = model.bytes.length;
         push(model, "link", link.name, 0, link.isTruncated ? all : link.offset, {});
         if (link.isIp) return link.offset;
         if (link.isTruncated && model.wire <= all) return noteShort(model, link.name);
@@ -39,9 +42,9 @@ Wolfaren.parse = (function () {
         return model;
     }
     function parseChain(model, version) {
-        const chain = Wolfaren.library.parseChain(version, model.first, model.bytes);
+        const chain = Wolfaren.library.parseChain(version, model.number, model.bytes);
         pushHeaders(model, chain.headers, 0);
-        pushRest(model, chain.next, chain.fragmented && chain.fault.kind === 0, chain.len, model.bytes.length - chain.len, false);
+        pushRest(model, chain.nextHeader, chain.fragmented === 1 && chain.fault.kind === 0, chain.len, model.bytes.length - chain.len, false);
         if (chain.fault.kind !== 0) model.fault = faultAt(chain.fault, chain.len, false);
         return model;
     }
@@ -49,7 +52,7 @@ Wolfaren.parse = (function () {
         return { kind: fault.kind, offset, isTruncated, name: Wolfaren.faults.nameOf(fault, isTruncated), text: Wolfaren.faults.textOf(fault, offset) };
     }
     function pushHeaders(model, headers, base) {
-        model.headers = headers.map((it) => ({ ...it, offset: it.offset + base }));
+        model.headers = headers.map((it) => ({ ...it, offset: it.offset + base, next: it.nextHeader }));
         for (const it of model.headers) push(model, Wolfaren.names.styles[it.number], Wolfaren.library.numberWord(it.number), it.offset, it.len, { ...it, isHeader: true });
     }
     // Adds the payload. That of a fragment is part of one, in the colour of the fragment header. A truncated header is in the
@@ -74,7 +77,7 @@ Wolfaren.parse = (function () {
         const isFragment = packet.fragment > ATOMIC && packet.fault.kind === 0;
         push(model, "base", `IPv${version}`, base, packet.baseLen, { version, next: model.bytes[base + nextAt], nextAt });
         pushHeaders(model, packet.headers, base);
-        pushRest(model, packet.number, isFragment, at, packet.payloadLen, packet.end === AT_TRUNCATED_HEADER);
+        pushRest(model, packet.payloadNumber, isFragment, at, packet.payloadLen, packet.end === AT_TRUNCATED_HEADER);
         push(model, isFragment ? "missing of-fragment" : "missing", "missing", at + packet.payloadLen, packet.missing, { isMissing: true });
         push(model, "beyond", "padding", at + packet.payloadLen, packet.padding, {});
         const holder = fragmentHolder(model, version);

@@ -1,29 +1,24 @@
-//! Counts the frames of the capture on standard input, and those of raw IP and Ethernet with an IP packet.
+//! Counts the frames of the capture on standard input, and those with an IP packet.
 use std::io::{Error, Read, stdin};
-use wolfaren::captures::{Capture, Interface, Next};
+use wolfaren::captures::{Frames, Interface};
 use wolfaren::dissect::dissect;
+use wolfaren::frames::{FrameEnd, find_ip};
 
 fn main() -> Result<(), Error> {
     let mut bytes = Vec::new();
     stdin().read_to_end(&mut bytes)?;
     let mut interfaces = [Interface::default(); 256];
-    let begun = Capture::begin(&bytes, 262_144, &mut interfaces).map_err(Error::other)?;
-    let mut capture = begun.ok_or_else(|| Error::other("truncated file header"))?;
-    let (mut rest, mut frames, mut packets) = (&bytes[capture.offset() as usize..], 0, 0);
-    loop {
-        match capture.next(rest) {
-            Next::Frame(frame) => {
-                let start = if frame.link_type == 1 { 14 } else { 0 };
-                let packet = frame.captured.get(start..).unwrap_or(&[]);
-                let is_ip = matches!(frame.link_type, 1 | 101) && dissect(packet).base.is_some();
-                (frames, packets) = (frames + 1, packets + usize::from(is_ip));
-                rest = &rest[frame.record_len..];
-            }
-            Next::Block(block) => rest = &rest[block.record_len..],
-            end => {
-                println!("{frames} frames, {packets} of IP: {end:?}");
-                return Ok(());
-            }
-        }
+    let mut capture = Frames::new(&bytes, 262_144, &mut interfaces).map_err(Error::other)?;
+    let (mut frames, mut packets) = (0, 0);
+    for frame in capture.by_ref() {
+        let found = find_ip(frame.link_type.into(), frame.captured);
+        let is_ip = found.is_some_and(|it| {
+            it.end == FrameEnd::Ip && dissect(&frame.captured[it.offset..]).base.is_some()
+        });
+        (frames, packets) = (frames + 1, packets + usize::from(is_ip));
     }
+    if let Some(end) = capture.end() {
+        println!("{frames} frames, {packets} of IP: {end:?}");
+    }
+    Ok(())
 }

@@ -17,6 +17,9 @@ extern crate core as std;
 pub mod build;
 mod calls;
 mod fields;
+#[cfg(feature = "std")]
+mod frame_reader;
+mod frames_of;
 pub mod ip_number;
 mod memory;
 mod plain;
@@ -152,6 +155,9 @@ pub mod batches {
 
 /// Capture files, from bytes to frames.
 pub mod captures {
+    #[cfg(feature = "std")]
+    pub use crate::frame_reader::FrameReader;
+    pub use crate::frames_of::Frames;
     pub use crate::ip_captures::*;
 }
 

@@ -46,7 +46,7 @@ window.ask = (function () {
         if (it.names !== undefined) return Array.from({ length: 256 }, (_, i) => Wolfaren.library.numberWord(i));
         if (it.gallery !== undefined) return gallery();
         at("kind").value = it.kind;
-        at("first").value = it.first || 0;
+        at("number").value = it.first || 0;
         at("places").checked = it.places === true;
         at("text").value = it.text;
         at("form").dispatchEvent(new Event("input"));

@@ -144,10 +144,13 @@ def test_a_narrow_window_is_whole(narrow, kind, pasted, places, words):
     assert words in reply["said"] and "…" not in reply["said"]
 
 
-def test_old_browsers_are_told(browser):
-    """A browser without 64-bit memory shows a message."""
-    script = browser.execute_cdp_cmd("Page.addScriptToEvaluateOnNewDocument", {"source": "WebAssembly.validate = () => false;"})
+def test_old_browsers_are_told(page, browser):
+    """A browser without what the library needs shows a message: WebAssembly, with 64-bit memory if Rattle has compiled it."""
+    page.needs_chromium()
+    lacking, words = (("WebAssembly.validate = () => false;", "64-bit WebAssembly memory") if browser.execute_script("return Wolfaren.pointerSize") == 8
+                      else ("delete window.WebAssembly;", "WebAssembly, which the library needs"))
+    script = browser.execute_cdp_cmd("Page.addScriptToEvaluateOnNewDocument", {"source": lacking})
     old = Page(browser)
-    assert "This browser doesn't support 64-bit WebAssembly memory" in browser.find_element("tag name", "body").text
+    assert f"This browser doesn't support {words}" in browser.find_element("tag name", "body").text
     browser.execute_cdp_cmd("Page.removeScriptToEvaluateOnNewDocument", script)
     old.open()

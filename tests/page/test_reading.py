@@ -8,6 +8,8 @@ from files import DAMAGED, FRAMES, IN_PCAPNG, OTHERS, capture, pcapng
 from packets import FAULTY, FRAME, LIKE_FRAME, SENTENCES, VERSION_5
 from pastes import HEADER, PACKET, PRINTABLE, READ, REFUSED, spellings
 
+# What the parts of frames and packets that come first are named.
+LAYERS = ["Ethernet", "Linux cooked", "loopback", "PPP", "802.11", "radiotap", "Cisco HDLC", "PPPoE", "Frame Relay", "IPv4", "IPv6"]
 # How many packets of a capture are listed.
 LISTED = 10000
 FRAME_BYTES, HEADER_BYTES, PACKET_BYTES = (bytes.fromhex(it) for it in (FRAME, HEADER, PACKET))
@@ -50,7 +52,7 @@ def test_captures(page, content, wanted, time):
     reply = drop(page, content)
     assert (reply["each"], reply["told"], reply["why"]) == (wanted, "", "")
     assert f": 1970-01-01T00:00:{time}, " in reply["list"][0][0]
-    assert reply["rows"][0][3] in ("Ethernet", "Linux cooked", "loopback", "PPP", "IPv4", "IPv6") and reply["rows"][-1][3] == "UDP"
+    assert reply["rows"][0][3] in LAYERS and reply["rows"][-1][3] == "UDP"
 
 
 @pytest.mark.parametrize("order", "<>")
@@ -99,7 +101,24 @@ def test_more_packets_than_are_listed(page):
                      "told": f"Only the first {LISTED} of {LISTED + 5} packets are listed."}
 
 
-@pytest.mark.parametrize(("kind", "frame"), [(kind, frame) for _, kind, frame in FRAMES if kind != "ppp"])
+def test_captures_are_read_in_parts(page):
+    """Of more than a megabyte, and with a frame that is longer than that."""
+    whole, longest = bytes.fromhex("600000000500" "1140") + bytes(32 + 0x500), bytes.fromhex("6000000000001140") + bytes(3 << 19)
+    reply = drop(page, capture(">", 0xa1b2c3d4, 101, [*[whole] * 1000, longest, *[whole] * 5]), head=True)
+    assert reply == {"head": "1006 packets", "told": ""}
+
+
+def test_frames_of_a_link_type(page):
+    """Those without a kind of their own are chosen by its number, also in links."""
+    link, kind, frame = FRAMES[-1]
+    reply = page.text(kind, frame, first=link)
+    assert (reply["why"], reply["summary"][:41]) == ("", "A frame of 64 bytes: Frame Relay, IPv6, d")
+    reply = page.ask({"hash": f"#frame:127:{FRAMES[-4][2]}"})
+    assert (reply["kind"], reply["rows"][0][:4]) == ("frame", ["0", "40", "", "radiotap"])
+    assert page.text(kind, frame, first=147)["summary"] == "A frame of 64 bytes: link type 147 isn't supported."
+
+
+@pytest.mark.parametrize(("kind", "frame"), [(kind, frame) for _, kind, frame in FRAMES if kind not in ("ppp", "frame")])
 def test_kinds_are_recognized(page, kind, frame):
     reply = page.text("auto", frame)
     assert (reply["kind"], reply["why"]) == (kind, "") and "This is a" in reply["found"]

@@ -90,6 +90,17 @@ packet_error interfaces i captured there =
 abbrev pub timed_packet_error : List Interface → ByteOrder → ℕ → List ℕ → Option BlockError
 timed_packet_error interfaces o i b = option_or (packet_error interfaces i (number_at o b 20) (length b - 32)) (options_error o (slice_range b (28 + padded (number_at o b 20)) (length b - 4)))
 
+-- the captured length that a simple packet block states, by the first interface of the section
+abbrev pub simple_captured : List Interface → ByteOrder → List ℕ → ℕ
+simple_captured interfaces o b = option_map_or (λ i. simple_len i (number_at o b 8)) (slice_get interfaces 0) 0
+
+-- What is wrong with a simple packet block (section 4.4): that, or it has more bytes than the packet, which its total length is to
+-- account for.
+abbrev pub simple_packet_error : List Interface → ByteOrder → List ℕ → Option BlockError
+simple_packet_error interfaces o b =
+    let captured = simple_captured interfaces o b in
+    option_or (packet_error interfaces 0 captured (length b - 16)) (if nat_lt (padded captured) (length b - 16) then Some (error.Surplus captured (length b - 16)) else None)
+
 -- What is wrong with the version of a section: the major number is 1, and the minor one 0 or, as in early files, 2 (section 4.1).
 abbrev pub version_error : ℕ → ℕ → Option BlockError
 version_error major minor = if major == 1 && (minor == 0 || minor == 2) then None else Some (error.UnknownVersion major minor)
@@ -101,7 +112,7 @@ fields_error room interfaces o kind.InterfaceDescription b = option_or (if nat_l
 fields_error room interfaces o kind.ObsoletePacket b = timed_packet_error interfaces o (short_number_at o b 8) b
 fields_error room interfaces o kind.EnhancedPacket b = timed_packet_error interfaces o (number_at o b 8) b
 fields_error room interfaces o kind.InterfaceStatistics b = options_error o (slice_range b 20 (length b - 4))
-fields_error room interfaces o kind.SimplePacket b = packet_error interfaces 0 (option_map_or (λ i. simple_len i (number_at o b 8)) (slice_get interfaces 0) 0) (length b - 16)
+fields_error room interfaces o kind.SimplePacket b = simple_packet_error interfaces o b
 fields_error room interfaces o kind.Other b = None
 
 -- What is wrong with a whole block: its two total lengths differ (section 3.1), or one of its fields is wrong.

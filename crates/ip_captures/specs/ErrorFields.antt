@@ -25,6 +25,7 @@ block_fields offset (block.TooManyInterfaces room) = fields_with offset 9 room 0
 block_fields offset (block.UnknownInterface interface) = fields_with offset 10 interface 0
 block_fields offset (block.LongPacket captured_len left) = fields_with offset 11 captured_len left
 block_fields offset (block.LongOption len left) = fields_with offset 12 len left
+block_fields offset (block.Surplus captured_len left) = fields_with offset 13 captured_len left
 
 -- the fields of an error
 abbrev pub error_fields : CaptureError → CaptureErrorFields
@@ -44,6 +45,7 @@ AreBlockNumbers (block.TooManyInterfaces room) = room < 2 ^ 64
 AreBlockNumbers (block.UnknownInterface interface) = interface < 2 ^ 32
 AreBlockNumbers (block.LongPacket captured_len left) = (captured_len < 2 ^ 32) × (left < 2 ^ 64)
 AreBlockNumbers (block.LongOption len left) = (len < 2 ^ 16) × (left < 2 ^ 64)
+AreBlockNumbers (block.Surplus captured_len left) = (captured_len < 2 ^ 32) × (left < 2 ^ 64)
 
 -- The numbers of an error are those that its fields hold.
 abbrev pub AreNumbers : CaptureError → Type 0

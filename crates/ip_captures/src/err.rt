@@ -97,4 +97,12 @@ pub enum BlockError {
         /// The number of bytes after its code and its length.
         left: usize,
     },
+    /// A simple packet block has more bytes than its packet and the padding (section 4.4).
+    #[error("states {captured_len} captured bytes, and {left} are left")]
+    Surplus {
+        /// The number of captured bytes that it states.
+        captured_len: u32,
+        /// The number of bytes after its fields.
+        left: usize,
+    },
 }

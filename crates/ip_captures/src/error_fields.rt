@@ -19,7 +19,7 @@ pub struct CaptureErrorFields {
     pub other: u64,
     /// What is wrong: no error 0, the magic number 1, the version 2, a long record 3; the byte-order magic 4, the total
     /// length 5, a long block 6, two total lengths 7, the version of a section 8, too many interfaces 9, an unknown
-    /// interface 10, too few captured bytes 11, an option of too few bytes 12.
+    /// interface 10, too few captured bytes 11, an option of too few bytes 12, more bytes than a simple packet has 13.
     pub kind: u8,
 }
 
@@ -78,6 +78,9 @@ impl CaptureErrorFields {
             }
             BlockError::LongOption { len, left } => {
                 Self::at(offset, 12, u64::from(len), left as u64)
+            }
+            BlockError::Surplus { captured_len, left } => {
+                Self::at(offset, 13, u64::from(captured_len), left as u64)
             }
         }
     }
@@ -146,6 +149,10 @@ impl CaptureErrorFields {
             },
             12 => BlockError::LongOption {
                 len: low_16_bits(self.value),
+                left: self.other as usize,
+            },
+            13 => BlockError::Surplus {
+                captured_len: value,
                 left: self.other as usize,
             },
             _ => return None,

@@ -48,8 +48,8 @@ pub(crate) fn check_options(order: ByteOrder, options: &[u8]) -> Result<(), Bloc
 {
     let mut rest = options;
     'options: while let Some(len) = option_len(order, rest) {
-        let found = order.u16_at(rest, 0);
-        if found == 0 {
+        let number = order.u16_at(rest, 0);
+        if number == 0 {
             return Ok(());
         }
         rest = rest.split_at(len).1;

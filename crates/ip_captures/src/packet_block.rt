@@ -3,7 +3,7 @@ ghost use Rattle.std.specs.Prelude.{◌≡◌, ◌≤◌, ◌<◌, ◌+◌, ◌-
 ghost use Rattle.std.specs.Option.{option_map_or, option_or};
 ghost use Rattle.ip_captures.specs.Numbers.{number_at};
 ghost use Rattle.ip_captures.specs.Frame.{contents};
-ghost use Rattle.ip_captures.specs.Block.{kind_of, block_type, total_len, least_len, whole_error, fields_error, packet_error, timed_packet_error, packet_in, simple_len, ticks_at};
+ghost use Rattle.ip_captures.specs.Block.{kind_of, block_type, total_len, least_len, whole_error, fields_error, timed_packet_error, simple_packet_error, packet_in, simple_len, ticks_at};
 ghost use Rattle.ip_captures.specs.BlockGiven.{IsGiven};
 
 use crate::block::BlockHead;
@@ -80,12 +80,10 @@ fn simple_packet<'a>(
     block: &'a [u8],
 ) -> Result<Frame<'a>, BlockError>
     requires { 16 ≤ length block.now }
-    ensures right { IfOk result (λ f. packet_error interfaces.now 0
-        (option_map_or (λ i. simple_len i (number_at order block.now 8)) (slice_get interfaces.now 0) 0) (length block.now - 16) ≡ None) }
+    ensures right { IfOk result (λ f. simple_packet_error interfaces.now order block.now ≡ None) }
     ensures frame { IfOk result (λ f. contents f ≡ packet_in interfaces.now block.now 0 None (number_at order block.now 8)
         (slice_range block.now 12 (12 + option_map_or (λ i. simple_len i (number_at order block.now 8)) (slice_get interfaces.now 0) 0))) }
-    ensures error { IfErr result (λ e. packet_error interfaces.now 0
-        (option_map_or (λ i. simple_len i (number_at order block.now 8)) (slice_get interfaces.now 0) 0) (length block.now - 16) ≡ Some e) }
+    ensures error { IfErr result (λ e. simple_packet_error interfaces.now order block.now ≡ Some e) }
 {
     let described = interface_at(interfaces, 0)?;
     let original_len = order.u32_at(block, 8);
@@ -93,6 +91,9 @@ fn simple_packet<'a>(
     let left = block.len() - 16;
     if captured_len as usize > left {
         return Err(BlockError::LongPacket { captured_len, left });
+    }
+    if (captured_len as usize + 3) / 4 * 4 < left {
+        return Err(BlockError::Surplus { captured_len, left });
     }
     Ok(Frame {
         captured: &block[12..12 + captured_len as usize],

@@ -40,8 +40,7 @@
  *    of them writes it. A call writes what its other pointers refer to, and takes no lock: no other thread may read or
  *    write that during the call.
  *
- * The library needs memcpy, memmove and memset, and for wolfaren_next_record the division of 128 bits that is in the runtime
- * library of each compiler (__udivti3), and nothing else. It is compiled for x86-64-v2 (SSE4.2) and the System V calling
+ * The library needs memcpy, memmove and memset, and nothing else. It is compiled for x86-64-v2 (SSE4.2) and the System V calling
  * convention; wolfaren_cpu_is_supported returns whether a processor has these instructions. It uses SSE registers, the red
  * zone below the stack pointer, and less than 2 KB of stack, except for wolfaren_parse_filter, which uses less than 9 KB. A
  * kernel must therefore save the SSE registers around calls, and must not take an interrupt on the same stack. For ARM64 it
@@ -65,10 +64,10 @@
 #define WOLFAREN_VERSION (10000 * WOLFAREN_VERSION_MAJOR + 100 * WOLFAREN_VERSION_MINOR + WOLFAREN_VERSION_PATCH)
 
 /* A checksum of the structs, numbers and calls in this header, made by scripts/abi of the repository. */
-#define WOLFAREN_ABI 0x1b1dfb15u
+#define WOLFAREN_ABI 0x4ac7c4abu
 
 /* The symbol that is named after the checksum. */
-#define WOLFAREN_ABI_SYMBOL wolfaren_abi_1b1dfb15
+#define WOLFAREN_ABI_SYMBOL wolfaren_abi_4ac7c4ab
 
 /* The machines for which the library is built. That of `make rust-c` is for any machine, and its users define WOLFAREN_PLAIN. */
 #ifdef WOLFAREN_PLAIN
@@ -307,10 +306,12 @@ enum {
     WOLFAREN_BLOCK_LENGTH = 5,          /* a block states too few bytes (value), or no multiple of 4 */
     WOLFAREN_LONG_BLOCK = 6,            /* a block states more bytes (value) than the limit (other) */
     WOLFAREN_BLOCK_LENGTHS = 7,         /* a block states one length at its start (value) and another one at its end (other) */
-    WOLFAREN_UNKNOWN_SECTION = 8,       /* the major version of a section (value) isn't 1 */
+    WOLFAREN_UNKNOWN_SECTION = 8,       /* the version of a section (value for the major, other for the minor) isn't 1.0 or 1.2 */
     WOLFAREN_TOO_MANY_INTERFACES = 9,   /* a section describes more interfaces than there is memory for (value) */
     WOLFAREN_UNKNOWN_INTERFACE = 10,    /* a packet is of an interface (value) that isn't described */
-    WOLFAREN_LONG_PACKET = 11           /* a packet states more captured bytes (value) than its block has */
+    WOLFAREN_LONG_PACKET = 11,          /* a packet states more captured bytes (value) than are left in its block (other) */
+    WOLFAREN_LONG_OPTION = 12,          /* an option states more bytes (value) than are left in its block (other) */
+    WOLFAREN_SURPLUS = 13               /* a simple packet states fewer captured bytes (value) than are left in its block (other) */
 };
 
 /* What is wrong with a capture, and where. */
@@ -360,8 +361,9 @@ bool wolfaren_begin_capture(struct wolfaren_capture *capture, const uint8_t *byt
  * from `capture->offset` on: as many as there are, or as the caller has read so far. More bytes change no frame, block or error,
  * so a caller that gets WOLFAREN_NEXT_NEEDS reads on, and the capture is truncated there if no more bytes come.
  *
- * Blocks are checked as far as their fields are used: the lengths of options that are skipped aren't. A record or block that is
- * longer than the limit is an error, so a buffer of `limit` + 24 bytes is always enough.
+ * Section headers, interface descriptions and statistics, and enhanced and obsolete packets are checked with the lengths of their
+ * options; of other blocks only the lengths are. A record or block that is longer than the limit is an error, so a buffer of
+ * `limit` + 24 bytes is always enough.
  */
 void wolfaren_next_record(struct wolfaren_capture *capture, const uint8_t *bytes, size_t len, struct wolfaren_record *record)
     WOLFAREN_NONNULL(1, 4);

@@ -387,9 +387,12 @@ static void test_bad_blocks(void)
     expect_error(&bad, WOLFAREN_UNKNOWN_INTERFACE, 48, 1, 0, "block at offset 48 has a packet of interface 1, which isn't described");
     bad = file;
     put_simple_packet(&bad, 4, 9);
-    expect_error(&bad, WOLFAREN_LONG_PACKET, 48, 9, 0, "block at offset 48 states 9 captured bytes, more than it has");
+    expect_error(&bad, WOLFAREN_LONG_PACKET, 48, 9, 4, "block at offset 48 states 9 captured bytes, 4 are left");
     bad = file;
-    end_block(&bad, begin_block(&bad, 5));
+    put_simple_packet(&bad, 13, 9);
+    expect_error(&bad, WOLFAREN_SURPLUS, 48, 9, 16, "block at offset 48 states 9 captured bytes, and 16 are left");
+    bad = file;
+    end_block(&bad, begin_block(&bad, 4));
     bad.bytes[56]++;
     expect_error(&bad, WOLFAREN_BLOCK_LENGTHS, 48, 12, 13, "block at offset 48 states 12 bytes at its start and 13 at its end");
     bad = file;
@@ -406,12 +409,58 @@ static void test_bad_blocks(void)
                  "block at offset 88 describes one interface more than the 3 that there is memory for");
 }
 
+/* Puts a block of which the last option states so many bytes, after `fields` bytes of its fields and a whole option. */
+static void put_bad_options(struct file *file, uint32_t type, size_t fields, uint16_t len)
+{
+    size_t begin = begin_block(file, type);
+    if (type == 0x0a0d0d0a) {
+        put(file, 0x1a2b3c4d, 4);
+        put(file, 1, 4);
+        fields -= 8;
+    }
+    memset(file->bytes + file->len, 0, fields);
+    file->len += fields;
+    put(file, 1, 2);
+    put(file, 4, 2);
+    put(file, 0x6b6b6b6b, 4);
+    put(file, 1, 2);
+    put(file, len, 2);
+    put(file, 0, 4);
+    end_block(file, begin);
+}
+
+/* An option that states more bytes than its block has is an error in each block that has options, but not after their end. */
+static void test_bad_options(void)
+{
+    static const struct {
+        uint32_t type;
+        size_t fields;
+    } kinds[] = {{0x0a0d0d0a, 16}, {1, 8}, {5, 12}, {6, 20}, {2, 20}};
+    for (size_t i = 0; i < sizeof kinds / sizeof *kinds; i++) {
+        struct file file = {.len = 0}, bad;
+        put_section(&file);
+        put_interface(&file, ETHERNET, 0, 6, 0);
+        bad = file;
+        put_bad_options(&bad, kinds[i].type, kinds[i].fields, 5);
+        expect_error(&bad, WOLFAREN_LONG_OPTION, 48, 5, 4, "block at offset 48 has an option of 5 bytes, 4 are left");
+        bad = file;
+        put_bad_options(&bad, kinds[i].type, kinds[i].fields, 4);
+        expect(read_bytes(bad.bytes, bad.len).last.kind == WOLFAREN_NEXT_ENDED, "whole options");
+        bad.bytes[bad.len - 20] = 0; /* the code of the first option */
+        bad.bytes[bad.len - 10] = 5;
+        expect(read_bytes(bad.bytes, bad.len).last.kind == WOLFAREN_NEXT_ENDED, "bytes after the end of the options");
+    }
+}
+
 static void test_bad_sections(void)
 {
     struct file file = {.len = 0};
     put_section(&file);
     file.bytes[12] = 2;
-    expect_error(&file, WOLFAREN_UNKNOWN_SECTION, 0, 2, 0, "block at offset 0 states version 2, not 1");
+    expect_error(&file, WOLFAREN_UNKNOWN_SECTION, 0, 2, 0, "block at offset 0 states version 2.0, not 1.0 or 1.2");
+    file.bytes[12] = 1;
+    file.bytes[14] = 1;
+    expect_error(&file, WOLFAREN_UNKNOWN_SECTION, 0, 1, 1, "block at offset 0 states version 1.1, not 1.0 or 1.2");
     file.bytes[8] = 0;
     expect_error(&file, WOLFAREN_UNKNOWN_BYTE_ORDER, 0, 0, 0, "block at offset 0 has no byte-order magic");
 }
@@ -466,6 +515,7 @@ int main(void)
     test_classic_files();
     test_pcapng_files();
     test_bad_blocks();
+    test_bad_options();
     test_bad_sections();
     test_bad_records();
     test_other_files();

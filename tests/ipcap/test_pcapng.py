@@ -82,14 +82,16 @@ TIMES = [(b"", 1000000005, "1970-01-01T00:16:40.000005000Z"), (option(9, b"\6"),
          (option(9, b"\xa0"), (1000 << 32) + (1 << 31), "1970-01-01T00:16:40.500000000Z"),
          (option(2, b"eth0") + option(14, struct.pack("<q", 3600)), 5, "1970-01-01T01:00:00.000005000Z"),
          (option(14, struct.pack("<q", -3600)), 7200000001, "1970-01-01T01:00:00.000001000Z"),
-         (option(14, struct.pack("<q", -1)), 1, "1969-12-31T23:59:59.000001000Z"),
+         (option(14, struct.pack("<q", -1)), 10**6 + 1, "1970-01-01T00:00:00.000001000Z"),
          (option(9, b"\0"), 1 << 32, "2106-02-07T06:28:16.000000000Z"),
-         (option(9, b"\0"), 253402300799, "9999-12-31T23:59:59.000000000Z"),
-         (option(9, b"\0"), 253402300800, "253402300800.000000000"),
-         (option(9, b"\0"), (1 << 64) - 1, "9223372036854775806.000000000"),
-         (option(14, struct.pack("<q", (1 << 63) - 1)), 10**9, "9223372036854775806.000000000"),
+         (option(9, b"\x09"), (1 << 64) - 1, "2554-07-21T23:34:33.709551615Z"),
          (option(9, b"\x13"), (1 << 64) - 1, "1970-01-01T00:00:01.844674407Z"),
          (option(9, b"\xbf"), (1 << 64) - 1, "1970-01-01T00:00:01.999999999Z")]
+
+
+# The options of an interface and the units of a timestamp where 64 bits don't hold the time in nanoseconds, or the units of a second.
+NO_TIMES = [(option(14, struct.pack("<q", -1)), 1), (option(9, b"\0"), 18446744074), (option(9, b"\0"), (1 << 64) - 1),
+            (option(14, struct.pack("<q", (1 << 63) - 1)), 10**9), (option(9, b"\x14"), 1), (option(9, b"\xc0"), 1)]
 
 
 def test_times(harness):
@@ -99,6 +101,9 @@ def test_times(harness):
         harness.equal(objects(harness, content=content)[0]["time"], wanted, options, units)
         for name, kept in [("--since", content), ("--until", section() + interface(options=options))]:
             harness.equal(harness.run("filter", ANY, name, wanted, content=content), (0, kept, "", None), name, wanted)
+    for options, units in NO_TIMES:
+        content = section() + interface(options=options) + packet(ethernet(PACKET), units=units)
+        harness.equal("time" in objects(harness, content=content)[0], False, options, units)
     content = section() + interface() + simple(ethernet(PACKET)) + packet(ethernet(OTHER))
     shown = objects(harness, content=content)
     harness.equal(["time" in it for it in shown], [False, True], "a simple packet")
@@ -219,42 +224,40 @@ def test_among_files(harness):
         harness.equal(harness.run("filter", ANY, classic, later), (1, wanted + last, words, None), reason)
 
 
-ODD = "the block at offset @ has a length of %d, which isn't a multiple of 4 from 12 to 16777216"
-TRUNCATED, SHORT = "the block at offset @ is truncated", "the packet at offset @ is too short"
-LONG = "the packet at offset @ has a length of %d, but its block has only %d bytes"
-NO_INTERFACE = "the packet at offset @ names interface %d, but there are %d"
-OPTION = "the interface description at offset @ has an option of %d bytes, but only %d are left"
-RESOLUTION = "the interface description at offset @ has a resolution of %s seconds, which isn't supported"
-VERSION = "the section at offset @ has version %s, which isn't supported"
+ODD = "block at offset @ states %d bytes, which is too few or no multiple of 4"
+LONG_BLOCK = "block at offset @ states %d bytes, more than 16777216"
+TRUNCATED = "block at offset @ is truncated: %d bytes needed, %d there"
+LONG = "block at offset @ states %d captured bytes, %d are left"
+NO_INTERFACE = "block at offset @ has a packet of interface %d, which isn't described"
+OPTION = "block at offset @ has an option of %d bytes, %d are left"
+VERSION = "block at offset @ states version %s, not 1.0 or 1.2"
 
 # Bytes after a section and an Ethernet interface, and the error, in which @ is the offset of the last block.
 HOSTILE = [
     (struct.pack("<II", 6, 0) + bytes(40), ODD % 0), (struct.pack("<II", 6, 11) + bytes(40), ODD % 11),
-    (struct.pack("<II", 6, 33) + bytes(40), ODD % 33), (struct.pack("<II", 6, 0xFFFFFFFC) + bytes(40), ODD % 0xFFFFFFFC),
-    (struct.pack("<II", 99, 16777220) + bytes(40), ODD % 16777220), (struct.pack("<II", 99, 16777216) + bytes(40), TRUNCATED),
-    (struct.pack("<II", 6, 32), TRUNCATED), (packet(b"frame")[:-1], TRUNCATED),
-    (packet(b"frame")[:-4] + bytes(4), "the block at offset @ has a length of 40 at its start, but of 0 at its end"),
-    (block(6, bytes(16)), SHORT), (block(6, b""), SHORT), (block(2, bytes(16)), SHORT), (block(3, b""), SHORT),
+    (struct.pack("<II", 6, 33) + bytes(40), ODD % 33), (struct.pack("<II", 6, 0xFFFFFFFC) + bytes(40), LONG_BLOCK % 0xFFFFFFFC),
+    (struct.pack("<II", 99, 16777220) + bytes(40), LONG_BLOCK % 16777220),
+    (struct.pack("<II", 99, 16777216) + bytes(40), TRUNCATED % (16777216, 48)),
+    (struct.pack("<II", 6, 32), TRUNCATED % (12, 8)), (packet(b"frame")[:-1], TRUNCATED % (40, 39)),
+    (packet(b"frame")[:-4] + bytes(4), "block at offset @ states 40 bytes at its start and 0 at its end"),
+    (block(6, bytes(16)), ODD % 28), (block(6, b""), ODD % 12), (block(2, bytes(16)), ODD % 28), (block(3, b""), ODD % 12),
     (block(6, struct.pack("<IIIII", 0, 0, 0, 5, 5) + bytes(4)), LONG % (5, 4)),
     (block(2, struct.pack("<HHIIII", 0, 0, 0, 0, 0xFFFFFFFF, 5) + bytes(4)), LONG % (0xFFFFFFFF, 4)),
     (block(3, struct.pack("<I", 0x7FFFFFFF) + bytes(8)), LONG % (0x7FFFFFFF, 8)),
-    (packet(b"frame", 1), NO_INTERFACE % (1, 1)), (obsolete(b"frame", 65535), NO_INTERFACE % (65535, 1)),
-    (section() + packet(b"frame"), NO_INTERFACE % (0, 0)), (section() + simple(b"frame"), NO_INTERFACE % (0, 0)),
-    (b"\x0a\x0d\x0d\x0a" + struct.pack("<II", 28, 0x1A2B3C4E) + bytes(16),
-     "the section header at offset @ has no byte-order magic"),
-    (b"\x0a\x0d\x0d\x0a" + struct.pack("<II", 24, 0x1A2B3C4D) + bytes(16), (ODD % 24).replace("from 12", "from 28")),
+    (packet(b"frame", 1), NO_INTERFACE % 1), (obsolete(b"frame", 65535), NO_INTERFACE % 65535),
+    (section() + packet(b"frame"), NO_INTERFACE % 0), (section() + simple(b"frame"), NO_INTERFACE % 0),
+    (b"\x0a\x0d\x0d\x0a" + struct.pack("<II", 28, 0x1A2B3C4E) + bytes(16), "block at offset @ has no byte-order magic"),
+    (b"\x0a\x0d\x0d\x0a" + struct.pack("<II", 24, 0x1A2B3C4D) + bytes(16), ODD % 24),
     (section(version=(2, 0)), VERSION % "2.0"), (section(version=(1, 1)), VERSION % "1.1"),
-    (block(1, bytes(4)), "the interface description at offset @ is too short"),
+    (block(1, bytes(4)), ODD % 16),
     (interface(options=struct.pack("<HH", 2, 5) + bytes(4)), OPTION % (5, 4)),
     (interface(options=struct.pack("<HH", 9, 65535)), OPTION % (65535, 0)),
-    (section(options=struct.pack("<HH", 1, 9) + bytes(4)), OPTION.replace("interface description", "section header") % (9, 4)),
-    (packet(b"frame", options=struct.pack("<HH", 1, 5) + bytes(4)), OPTION.replace("interface description", "packet") % (5, 4)),
-    (packet(b"frame", options=struct.pack("<HH", 0, 1)), OPTION.replace("interface description", "packet") % (1, 0)),
-    (block(2, struct.pack("<HHIIIIHH", 0, 0, 0, 0, 0, 0, 1, 3)), OPTION.replace("interface description", "packet") % (3, 0)),
-    (block(5, bytes(8)), "the interface statistics block at offset @ is too short"),
-    (block(5, bytes(12) + struct.pack("<HH", 2, 9) + bytes(8)), OPTION.replace("interface description", "interface statistics block") % (9, 8)),
-    (block(3, struct.pack("<I", 5) + bytes(12)), "the packet at offset @ has a length of 5, but its block has 12 bytes"),
-    (interface(options=option(9, b"\x14")), RESOLUTION % "10^-20"), (interface(options=option(9, b"\xc0")), RESOLUTION % "2^-64"),
+    (section(options=struct.pack("<HH", 1, 9) + bytes(4)), OPTION % (9, 4)),
+    (packet(b"frame", options=struct.pack("<HH", 1, 5) + bytes(4)), OPTION % (5, 4)),
+    (packet(b"frame", options=struct.pack("<HH", 0, 1)), OPTION % (1, 0)),
+    (block(2, struct.pack("<HHIIIIHH", 0, 0, 0, 0, 0, 0, 1, 3)), OPTION % (3, 0)),
+    (block(3, struct.pack("<I", 5) + bytes(12)), "block at offset @ states 5 captured bytes, and 12 are left"),
+    (block(5, bytes(8)), ODD % 20), (block(5, bytes(12) + struct.pack("<HH", 2, 9) + bytes(8)), OPTION % (9, 8)),
 ]
 
 
@@ -263,7 +266,7 @@ def test_hostile(harness):
     good = packet(ethernet(PACKET))
     start = section() + interface()
     for content, words in HOSTILE:
-        before = len(start) + (len(section()) if "there are 0" in words else 0)
+        before = len(start) + (len(section()) if content.startswith(section()) else 0)
         found = harness.run("show", "--one-line", content=start + content)
         wanted = ["ipcap: standard input: %s%s\n" % (it, words.replace("@", str(before))) for it in ("", "can't read packet 1: ")]
         harness.check(found[:2] == (1, b"") and found[2] in wanted, words, found)
@@ -277,7 +280,7 @@ def test_hostile(harness):
     harness.equal(harness.run("stat", content=names), (1, b"", words, None), "a late interface")
     more = harness.file(start + interface() * 65536, ".pcapng")
     status, _, errors, _ = harness.run("stat", more)
-    harness.check(status == 1 and " is one too many: 65536 are supported\n" in errors, errors)
+    harness.check(status == 1 and " describes one interface more than the 65536 that there is memory for\n" in errors, errors)
 
 
 def test_truncated(harness):
@@ -290,7 +293,9 @@ def test_truncated(harness):
         found = harness.answer(harness.plain, ["show", "--one-line"], content[:kept], None)
         packets = sum(kept >= end for end in (ends[4], ends[6]))
         start = max(end for end in ends if end <= kept)
-        words = "" if kept in ends else "the block at offset %d is truncated\n" % start
+        there = kept - start
+        needed = 12 if there < 12 else len(parts[ends.index(start)])
+        words = "" if kept in ends else "block at offset %d is truncated: %d bytes needed, %d there\n" % (start, needed, there)
         harness.equal((found[0], found[1].count(b"\n"), found[2].partition("offset")[2]),
                       (int(kept not in ends), packets, words.partition("offset")[2]), kept)
 

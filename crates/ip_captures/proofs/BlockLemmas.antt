@@ -4,9 +4,10 @@ use Rattle.std.proofs.lemmas.List.{length-append, length-take-le, take-append-dr
 use Rattle.std.proofs.lemmas.Option.{same_Some}
 use Rattle.std.proofs.lemmas.Bool.{le-leb, leb-true}
 use Rattle.std.proofs.lemmas.Bool.Decides.{nat_tests}
-use Rattle.std.specs.Prelude.{Option, Some, None, is_none, not, ◌==◌, ◌&&◌, nat_le, if◌then◌else◌}
-use Rattle.std.specs.Option.{option_map_or}
+use Rattle.std.specs.Prelude.{Option, Some, None, is_none, not, ◌==◌, ◌&&◌, nat_le, nat_lt, slice_range, if◌then◌else◌}
+use Rattle.std.specs.Option.{option_map_or, option_or}
 use Rattle.ip_captures.specs.Numbers.{number_at}
+use Rattle.ip_captures.specs.Options.{options_error}
 use Rattle.ip_captures.specs.Block.{Section, kind_of, order_of, block_type, total_len, least_len, length_error, head_error, own_order, packet_error, fields_error, whole_error, block_error, IsBlock, first_block_len, entered, section_after, frame_of_kind, frame_of_block}
 use Rattle.ip_captures.specs.BlockGiven.{IsGiven, IsBody}
 use Rattle.ip_captures.specs.PcapngNext.{IsNextBlock, section_next, offset_next}
@@ -66,6 +67,7 @@ least_len-least kind.SectionHeader = omega arith
 least_len-least kind.InterfaceDescription = omega arith
 least_len-least kind.ObsoletePacket = omega arith
 least_len-least kind.SimplePacket = omega arith
+least_len-least kind.InterfaceStatistics = omega arith
 least_len-least kind.EnhancedPacket = omega arith
 least_len-least kind.Other = omega arith
 
@@ -148,6 +150,7 @@ frame_len interfaces o kind.InterfaceDescription b g e = cc
 frame_len interfaces o kind.ObsoletePacket b g e = sym (ap (λ (x : FrameContents). x.record_len) (same_Some _ g e))
 frame_len interfaces o kind.SimplePacket b g e = sym (ap (λ (x : FrameContents). x.record_len) (same_Some _ g e))
 frame_len interfaces o kind.EnhancedPacket b g e = sym (ap (λ (x : FrameContents). x.record_len) (same_Some _ g e))
+frame_len interfaces o kind.InterfaceStatistics b g e = cc
 frame_len interfaces o kind.Other b g e = cc
 
 -- The head of a block of k bytes at the start of s.
@@ -228,12 +231,18 @@ module _ (limit room : ℕ) (c : Section) (offset : ℕ) (s : List ℕ) (o : Byt
   read next.Ended g = absurd g
   read (next.Error e) g = absurd g
 
+-- two of which the first one that is something counts, and none is: the first one is none
+or_none : {X : Type 0} (x y : Option X) → option_or x y ≡ None → x ≡ None
+or_none None y e = refl
+or_none (Some z) y e = cc
+
 room_by : (room : ℕ) (interfaces : List Interface) (o : ByteOrder) (k : BlockKind) (b : List ℕ) → k ≡ kind.InterfaceDescription → fields_error room interfaces o k b ≡ None → length interfaces < room
-room_by room interfaces o kind.InterfaceDescription b i e = grind (arith, nat_tests, e)
+room_by room interfaces o kind.InterfaceDescription b i e = let first = or_none (let n : Option BlockError = None in if nat_lt (length interfaces) room then n else Some (error.TooManyInterfaces room)) (options_error o (slice_range b 16 (length b - 4))) e in grind (arith, nat_tests, first)
 room_by room interfaces o kind.SectionHeader b i e = cc
 room_by room interfaces o kind.ObsoletePacket b i e = cc
 room_by room interfaces o kind.SimplePacket b i e = cc
 room_by room interfaces o kind.EnhancedPacket b i e = cc
+room_by room interfaces o kind.InterfaceStatistics b i e = cc
 room_by room interfaces o kind.Other b i e = cc
 
 else_none : {X : Type 0} (t : Bool) (x y : Option X) (z : X) → x ≡ Some z → (if t then x else y) ≡ None → y ≡ None

@@ -91,6 +91,7 @@ captured_of interfaces o kind.SimplePacket b f e =
     }
 captured_of interfaces o kind.EnhancedPacket b f e =
     record { end = 28 + number_at o b 20; is = sym (ap (λ (x : FrameContents). x.captured) (same_Some _ (contents f) e)); least = omega arith }
+captured_of interfaces o kind.InterfaceStatistics b f e = cc
 captured_of interfaces o kind.Other b f e = cc
 
 least_by : (limit : ℕ) (order : ByteOrder) (s : List ℕ) (x : Option ByteOrder)

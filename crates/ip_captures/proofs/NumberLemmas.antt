@@ -1,5 +1,7 @@
--- Numbers at offsets of bytes, and of bytes that continue them.
-use Rattle.std.proofs.Common.{◌≡◌, ℕ, ◌+◌, ◌-◌, ◌≤◌, List, ◌++◌, length, take, drop, ap, arith, refl, ◌∙◌, sym}
+-- Numbers at offsets of bytes, and of bytes that continue them; a quotient by parts.
+use Rattle.std.proofs.Common.{◌≡◌, ℕ, ◌+◌, ◌-◌, ◌*◌, ◌/◌, ◌%◌, ◌<◌, ◌≤◌, List, ◌++◌, length, take, drop, ap, arith, refl, ◌∙◌, sym}
+use Rattle.std.proofs.Math.Nat.{mul-add-div_right}
+use Rattle.std.proofs.lemmas.Nat.{div-add-mod'}
 use Rattle.std.proofs.lemmas.List.{drop-append-le, take-append-le, length-drop, take-append-drop, length-take-le}
 use Rattle.std.specs.Prelude.{slice_range}
 use Rattle.ip_captures.specs.Numbers.{number_at, short_number_at}
@@ -34,3 +36,9 @@ pub range-take : (s : List ℕ) (k i j : ℕ) → i ≤ j → j ≤ k → k ≤ 
 range-take s k i j h g l =
     let long : j ≤ length (take k s) = omega (arith, length-take-le k s l) in
     sym (range-append (take k s) (drop k s) i j h long) ∙ ap (λ t. slice_range t i j) (take-append-drop k s)
+
+-- so many times n, divided by t
+pub quotient_by_parts : (k n t : ℕ) → 0 < t → n / t * k + n % t * k / t ≡ n * k / t
+quotient_by_parts k n t h =
+    let joined : n / t * k * t + n % t * k ≡ n * k = omega (arith, ap (λ a. a * k) (div-add-mod' n t)) in
+    sym (mul-add-div_right h (n / t * k) (n % t * k)) ∙ ap (λ a. a / t) joined

@@ -1,10 +1,11 @@
 -- The blocks of a pcapng capture (draft-ietf-opsawg-pcapng, sections 3 and 4).
 use Rattle.std.specs.Prelude.{◌≡◌, ◌≤◌, ℕ, ◌+◌, ◌-◌, ◌*◌, ◌%◌, ◌^◌, ◌==◌, min, List, [], ◌∷◌, ◌++◌, length, take, drop, slice_get, slice_range, Option, Some, None, not, ◌&&◌, ◌||◌, nat_le, nat_lt, is_none, if◌then◌else◌}
-use Rattle.std.specs.Option.{option_map_or}
+use Rattle.std.specs.Option.{option_map_or, option_or}
 use Rattle.std.specs.List.{concat}
 use Rattle.ip_captures.specs.Numbers.{short_number_at, number_at}
 use Rattle.ip_captures.specs.Frame.{FrameContents}
 use Rattle.ip_captures.specs.Interface.{interface_in, time_of}
+use Rattle.ip_captures.specs.Options.{padded, options_error}
 use Rattle.ip_captures.specs.Pieces.{AreLongest, pieces_in}
 use Rattle.ip_captures.specs.declared.byte_order.ByteOrder.{ByteOrder}
 use Rattle.ip_captures.specs.declared.byte_order.ByteOrder.TheVariants.{LittleEndian, BigEndian}
@@ -26,6 +27,7 @@ kind_of t =
     else if t == 1 then kind.InterfaceDescription
     else if t == 2 then kind.ObsoletePacket
     else if t == 3 then kind.SimplePacket
+    else if t == 5 then kind.InterfaceStatistics
     else if t == 6 then kind.EnhancedPacket
     else kind.Other
 
@@ -50,6 +52,7 @@ least_len kind.SectionHeader = 28
 least_len kind.InterfaceDescription = 20
 least_len kind.ObsoletePacket = 32
 least_len kind.SimplePacket = 16
+least_len kind.InterfaceStatistics = 24
 least_len kind.EnhancedPacket = 32
 least_len kind.Other = 12
 
@@ -75,20 +78,41 @@ own_order order s = option_map_or (λ o. o) (order_of order s) order
 abbrev pub simple_len : Interface → ℕ → ℕ
 simple_len i original = if i.snap_len == 0 then original else min original i.snap_len
 
--- What is wrong with an interface and a captured length: no such interface is described in the section, or the block has fewer bytes.
+-- What is wrong with an interface and a captured length: no such interface is described in the section, or the block has only `there`
+-- bytes.
 abbrev pub packet_error : List Interface → ℕ → ℕ → ℕ → Option BlockError
 packet_error interfaces i captured there =
     if not (nat_lt i (length interfaces)) then Some (error.UnknownInterface i)
-    else if nat_lt there captured then Some (error.LongPacket captured)
+    else if nat_lt there captured then Some (error.LongPacket captured there)
     else None
+
+-- What is wrong with an enhanced or obsolete packet block of an interface: that, or its options are (sections 4.3 and A.1).
+abbrev pub timed_packet_error : List Interface → ByteOrder → ℕ → List ℕ → Option BlockError
+timed_packet_error interfaces o i b = option_or (packet_error interfaces i (number_at o b 20) (length b - 32)) (options_error o (slice_range b (28 + padded (number_at o b 20)) (length b - 4)))
+
+-- the captured length that a simple packet block states, by the first interface of the section
+abbrev pub simple_captured : List Interface → ByteOrder → List ℕ → ℕ
+simple_captured interfaces o b = option_map_or (λ i. simple_len i (number_at o b 8)) (slice_get interfaces 0) 0
+
+-- What is wrong with a simple packet block (section 4.4): that, or it has more bytes than the packet, which its total length is to
+-- account for.
+abbrev pub simple_packet_error : List Interface → ByteOrder → List ℕ → Option BlockError
+simple_packet_error interfaces o b =
+    let captured = simple_captured interfaces o b in
+    option_or (packet_error interfaces 0 captured (length b - 16)) (if nat_lt (padded captured) (length b - 16) then Some (error.Surplus captured (length b - 16)) else None)
+
+-- What is wrong with the version of a section: the major number is 1, and the minor one 0 or, as in early files, 2 (section 4.1).
+abbrev pub version_error : ℕ → ℕ → Option BlockError
+version_error major minor = if major == 1 && (minor == 0 || minor == 2) then None else Some (error.UnknownVersion major minor)
 
 -- What is wrong with the fields of a whole block, where there is memory for so many interfaces.
 abbrev pub fields_error : ℕ → List Interface → ByteOrder → BlockKind → List ℕ → Option BlockError
-fields_error room interfaces o kind.SectionHeader b = if short_number_at o b 12 == 1 then None else Some (error.UnknownVersion (short_number_at o b 12))
-fields_error room interfaces o kind.InterfaceDescription b = if nat_lt (length interfaces) room then None else Some (error.TooManyInterfaces room)
-fields_error room interfaces o kind.ObsoletePacket b = packet_error interfaces (short_number_at o b 8) (number_at o b 20) (length b - 32)
-fields_error room interfaces o kind.EnhancedPacket b = packet_error interfaces (number_at o b 8) (number_at o b 20) (length b - 32)
-fields_error room interfaces o kind.SimplePacket b = packet_error interfaces 0 (option_map_or (λ i. simple_len i (number_at o b 8)) (slice_get interfaces 0) 0) (length b - 16)
+fields_error room interfaces o kind.SectionHeader b = option_or (version_error (short_number_at o b 12) (short_number_at o b 14)) (options_error o (slice_range b 24 (length b - 4)))
+fields_error room interfaces o kind.InterfaceDescription b = option_or (if nat_lt (length interfaces) room then None else Some (error.TooManyInterfaces room)) (options_error o (slice_range b 16 (length b - 4)))
+fields_error room interfaces o kind.ObsoletePacket b = timed_packet_error interfaces o (short_number_at o b 8) b
+fields_error room interfaces o kind.EnhancedPacket b = timed_packet_error interfaces o (number_at o b 8) b
+fields_error room interfaces o kind.InterfaceStatistics b = options_error o (slice_range b 20 (length b - 4))
+fields_error room interfaces o kind.SimplePacket b = simple_packet_error interfaces o b
 fields_error room interfaces o kind.Other b = None
 
 -- What is wrong with a whole block: its two total lengths differ (section 3.1), or one of its fields is wrong.
@@ -114,6 +138,7 @@ entered c o kind.SectionHeader b = record { order = o; interfaces = [] }
 entered c o kind.InterfaceDescription b = record c { interfaces = c.interfaces ++ interface_in o b ∷ [] }
 entered c o kind.ObsoletePacket b = c
 entered c o kind.SimplePacket b = c
+entered c o kind.InterfaceStatistics b = c
 entered c o kind.EnhancedPacket b = c
 entered c o kind.Other b = c
 
@@ -147,6 +172,7 @@ frame_of_kind interfaces o kind.SimplePacket b =
     Some (packet_in interfaces b 0 None (number_at o b 8) (slice_range b 12 (12 + len)))
 frame_of_kind interfaces o kind.EnhancedPacket b =
     Some (packet_in interfaces b (number_at o b 8) (Some (ticks_at o b 12)) (number_at o b 24) (slice_range b 28 (28 + number_at o b 20)))
+frame_of_kind interfaces o kind.InterfaceStatistics b = None
 frame_of_kind interfaces o kind.Other b = None
 
 -- the frame of a block, if it has one

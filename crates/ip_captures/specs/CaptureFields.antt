@@ -48,6 +48,7 @@ captured_in kind.SectionHeader = 28
 captured_in kind.InterfaceDescription = 28
 captured_in kind.ObsoletePacket = 28
 captured_in kind.SimplePacket = 12
+captured_in kind.InterfaceStatistics = 28
 captured_in kind.EnhancedPacket = 28
 captured_in kind.Other = 28
 

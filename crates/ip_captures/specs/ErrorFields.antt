@@ -20,10 +20,12 @@ block_fields offset block.UnknownByteOrder = fields_with offset 4 0 0
 block_fields offset (block.Length len) = fields_with offset 5 len 0
 block_fields offset (block.Long len limit) = fields_with offset 6 len limit
 block_fields offset (block.Lengths first last) = fields_with offset 7 first last
-block_fields offset (block.UnknownVersion major) = fields_with offset 8 major 0
+block_fields offset (block.UnknownVersion major minor) = fields_with offset 8 major minor
 block_fields offset (block.TooManyInterfaces room) = fields_with offset 9 room 0
 block_fields offset (block.UnknownInterface interface) = fields_with offset 10 interface 0
-block_fields offset (block.LongPacket captured_len) = fields_with offset 11 captured_len 0
+block_fields offset (block.LongPacket captured_len left) = fields_with offset 11 captured_len left
+block_fields offset (block.LongOption len left) = fields_with offset 12 len left
+block_fields offset (block.Surplus captured_len left) = fields_with offset 13 captured_len left
 
 -- the fields of an error
 abbrev pub error_fields : CaptureError → CaptureErrorFields
@@ -38,10 +40,12 @@ AreBlockNumbers block.UnknownByteOrder = ⊤
 AreBlockNumbers (block.Length len) = len < 2 ^ 32
 AreBlockNumbers (block.Long len limit) = (len < 2 ^ 32) × (limit < 2 ^ 32)
 AreBlockNumbers (block.Lengths first last) = (first < 2 ^ 32) × (last < 2 ^ 32)
-AreBlockNumbers (block.UnknownVersion major) = major < 2 ^ 16
+AreBlockNumbers (block.UnknownVersion major minor) = (major < 2 ^ 16) × (minor < 2 ^ 16)
 AreBlockNumbers (block.TooManyInterfaces room) = room < 2 ^ 64
 AreBlockNumbers (block.UnknownInterface interface) = interface < 2 ^ 32
-AreBlockNumbers (block.LongPacket captured_len) = captured_len < 2 ^ 32
+AreBlockNumbers (block.LongPacket captured_len left) = (captured_len < 2 ^ 32) × (left < 2 ^ 64)
+AreBlockNumbers (block.LongOption len left) = (len < 2 ^ 16) × (left < 2 ^ 64)
+AreBlockNumbers (block.Surplus captured_len left) = (captured_len < 2 ^ 32) × (left < 2 ^ 64)
 
 -- The numbers of an error are those that its fields hold.
 abbrev pub AreNumbers : CaptureError → Type 0

@@ -1,8 +1,11 @@
 -- The options of a block (draft-ietf-opsawg-pcapng, section 3.5).
-use Rattle.std.specs.Prelude.{◌≡◌, ◌≤◌, ℕ, ◌+◌, ◌*◌, ◌/◌, ◌==◌, List, [], ◌∷◌, length, slice_range, Option, Some, None, ◌&&◌, nat_le, if◌then◌else◌}
+use Rattle.std.specs.Prelude.{◌≡◌, ◌≤◌, ℕ, ◌+◌, ◌-◌, ◌*◌, ◌/◌, ◌==◌, List, [], ◌∷◌, length, drop, slice_range, Option, Some, None, ◌&&◌, nat_le, Bool, true, false, if◌then◌else◌}
+use Rattle.std.specs.List.{concat}
 use Rattle.ip_captures.specs.Numbers.{short_number_at}
 use Rattle.ip_captures.specs.Pieces.{pieces_in}
 use Rattle.ip_captures.specs.declared.byte_order.ByteOrder.{ByteOrder}
+use Rattle.ip_captures.specs.declared.err.BlockError.{BlockError}
+use Rattle.ip_captures.specs.declared.err.BlockError.TheVariants as error
 
 -- so many bytes, padded to a multiple of 4
 abbrev pub padded : ℕ → ℕ
@@ -36,3 +39,18 @@ value_among o code (p ∷ ps) = if option_code o p == 0 then None else if option
 -- that value in the longest list of options that begins the bytes
 abbrev pub option_value : ByteOrder → ℕ → List ℕ → Option (List ℕ)
 option_value o code s = value_among o code (pieces_in option_len same_order o s)
+
+-- one of the options is their end (code 0)
+abbrev pub has_end : ByteOrder → List (List ℕ) → Bool
+has_end o [] = false
+has_end o (p ∷ ps) = if option_code o p == 0 then true else has_end o ps
+
+-- the option that begins the bytes states more than they have: its code and length are there
+abbrev pub truncated_option : ByteOrder → List ℕ → Option BlockError
+truncated_option o s = if nat_le 4 (length s) then Some (error.LongOption (value_len o s) (length s - 4)) else None
+
+-- What is wrong with the options of a block: none of the whole ones is their end, and the bytes after them begin an option.
+abbrev pub options_error : ByteOrder → List ℕ → Option BlockError
+options_error o s =
+    let options = pieces_in option_len same_order o s in
+    if has_end o options then None else truncated_option o (drop (length (concat options)) s)

@@ -17,6 +17,8 @@ pub enum BlockKind {
     ObsoletePacket,
     /// A simple packet block (type 3; section 4.4).
     SimplePacket,
+    /// An interface statistics block (type 5; section 4.6).
+    InterfaceStatistics,
     /// An enhanced packet block (type 6; section 4.3).
     EnhancedPacket,
     /// A block of any other type.
@@ -34,6 +36,7 @@ impl BlockKind {
             1 => BlockKind::InterfaceDescription,
             2 => BlockKind::ObsoletePacket,
             3 => BlockKind::SimplePacket,
+            5 => BlockKind::InterfaceStatistics,
             6 => BlockKind::EnhancedPacket,
             _ => BlockKind::Other,
         }
@@ -49,6 +52,7 @@ impl BlockKind {
             BlockKind::InterfaceDescription => 20,
             BlockKind::ObsoletePacket | BlockKind::EnhancedPacket => 32,
             BlockKind::SimplePacket => 16,
+            BlockKind::InterfaceStatistics => 24,
             BlockKind::Other => 12,
         }
     }

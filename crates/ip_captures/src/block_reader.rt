@@ -1,5 +1,5 @@
 //! Reads the blocks of a pcapng capture one by one.
-ghost use Rattle.std.specs.Prelude.{◌≡◌, ◌<◌, ◌≤◌, ◌+◌, ◌-◌, ◌^◌, min, length, Some, None, IfOk, IfErr};
+ghost use Rattle.std.specs.Prelude.{◌≡◌, ◌<◌, ◌≤◌, ◌+◌, ◌-◌, ◌%◌, ◌^◌, min, length, Some, None, IfOk, IfErr};
 ghost use Rattle.ip_captures.specs.Block.{kind_of, block_type, total_len, least_len, whole_error, entered};
 ghost use Rattle.ip_captures.specs.BlockGiven.{IsGiven};
 ghost use Rattle.ip_captures.specs.PcapngNext.{IsNextBlock, offset_next, section_next};
@@ -46,6 +46,7 @@ impl BlockReader {
             }
             BlockKind::ObsoletePacket => {}
             BlockKind::SimplePacket => {}
+            BlockKind::InterfaceStatistics => {}
             BlockKind::EnhancedPacket => {}
             BlockKind::Other => {}
         }
@@ -62,6 +63,7 @@ impl BlockReader {
         requires kind { head.block_type ≡ block_type head.order block.now }
         requires len { head.len ≡ total_len head.order block.now }
         requires all { length block.now ≡ head.len }
+        requires whole { head.len % 4 ≡ 0 }
         requires least { least_len (kind_of head.block_type) ≤ head.len }
         requires within { self.now.count ≤ length interfaces.now }
         ensures right { IfOk result (λ x. whole_error (length interfaces.now) (section_at self.now interfaces.now).interfaces head.order block.now ≡ None) }

@@ -61,11 +61,13 @@ pub enum BlockError {
         /// The total length at the end.
         last: u32,
     },
-    /// The major version of a section isn't 1 (section 4.1).
-    #[error("states version {major}, not 1")]
+    /// The version of a section is neither 1.0 nor 1.2 (section 4.1).
+    #[error("states version {major}.{minor}, not 1.0 or 1.2")]
     UnknownVersion {
         /// The major version.
         major: u16,
+        /// The minor version.
+        minor: u16,
     },
     /// The caller has no memory for another interface of the section (section 4.2).
     #[error("describes one interface more than the {room} that there is memory for")]
@@ -80,9 +82,27 @@ pub enum BlockError {
         interface: u32,
     },
     /// The block has fewer captured bytes than it states (sections 4.3 and 4.4).
-    #[error("states {captured_len} captured bytes, more than it has")]
+    #[error("states {captured_len} captured bytes, {left} are left")]
     LongPacket {
         /// The number of captured bytes that it states.
         captured_len: u32,
+        /// The number of bytes after its fields.
+        left: usize,
+    },
+    /// An option has fewer bytes than it states (section 3.5).
+    #[error("has an option of {len} bytes, {left} are left")]
+    LongOption {
+        /// The length of its value.
+        len: u16,
+        /// The number of bytes after its code and its length.
+        left: usize,
+    },
+    /// A simple packet block has more bytes than its packet and the padding (section 4.4).
+    #[error("states {captured_len} captured bytes, and {left} are left")]
+    Surplus {
+        /// The number of captured bytes that it states.
+        captured_len: u32,
+        /// The number of bytes after its fields.
+        left: usize,
     },
 }

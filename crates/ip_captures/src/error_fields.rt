@@ -14,11 +14,12 @@ pub struct CaptureErrorFields {
     pub offset: u64,
     /// The number that the bytes state, or for too many interfaces how many there is memory for; 0 if the kind has none.
     pub value: u64,
-    /// The greatest number that is allowed, or the total length at the end; 0 if the kind has none.
+    /// The greatest number that is allowed, the total length at the end, the minor version of a section, or the number of bytes that
+    /// are left; 0 if the kind has none.
     pub other: u64,
     /// What is wrong: no error 0, the magic number 1, the version 2, a long record 3; the byte-order magic 4, the total
     /// length 5, a long block 6, two total lengths 7, the version of a section 8, too many interfaces 9, an unknown
-    /// interface 10, too few captured bytes 11.
+    /// interface 10, too few captured bytes 11, an option of too few bytes 12, more bytes than a simple packet has 13.
     pub kind: u8,
 }
 
@@ -65,13 +66,21 @@ impl CaptureErrorFields {
             BlockError::Lengths { first, last } => {
                 Self::at(offset, 7, u64::from(first), u64::from(last))
             }
-            BlockError::UnknownVersion { major } => Self::at(offset, 8, u64::from(major), 0),
+            BlockError::UnknownVersion { major, minor } => {
+                Self::at(offset, 8, u64::from(major), u64::from(minor))
+            }
             BlockError::TooManyInterfaces { room } => Self::at(offset, 9, room as u64, 0),
             BlockError::UnknownInterface { interface } => {
                 Self::at(offset, 10, u64::from(interface), 0)
             }
-            BlockError::LongPacket { captured_len } => {
-                Self::at(offset, 11, u64::from(captured_len), 0)
+            BlockError::LongPacket { captured_len, left } => {
+                Self::at(offset, 11, u64::from(captured_len), left as u64)
+            }
+            BlockError::LongOption { len, left } => {
+                Self::at(offset, 12, u64::from(len), left as u64)
+            }
+            BlockError::Surplus { captured_len, left } => {
+                Self::at(offset, 13, u64::from(captured_len), left as u64)
             }
         }
     }
@@ -128,6 +137,7 @@ impl CaptureErrorFields {
             },
             8 => BlockError::UnknownVersion {
                 major: low_16_bits(self.value),
+                minor: low_16_bits(self.other),
             },
             9 => BlockError::TooManyInterfaces {
                 room: self.value as usize,
@@ -135,6 +145,15 @@ impl CaptureErrorFields {
             10 => BlockError::UnknownInterface { interface: value },
             11 => BlockError::LongPacket {
                 captured_len: value,
+                left: self.other as usize,
+            },
+            12 => BlockError::LongOption {
+                len: low_16_bits(self.value),
+                left: self.other as usize,
+            },
+            13 => BlockError::Surplus {
+                captured_len: value,
+                left: self.other as usize,
             },
             _ => return None,
         };

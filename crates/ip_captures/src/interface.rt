@@ -1,5 +1,5 @@
 //! The interfaces of a pcapng capture.
-ghost use Rattle.std.specs.Prelude.{◌≡◌, ◌≤◌, ◌<◌, ◌^◌, length};
+ghost use Rattle.std.specs.Prelude.{◌≡◌, ◌≤◌, ◌<◌, ◌+◌, ◌*◌, ◌/◌, ◌^◌, length};
 ghost use Rattle.ip_captures.specs.Interface.{interface_in, resolution, shifted, ticks_in, offset_in, time_of};
 
 use crate::ByteOrder;
@@ -75,9 +75,61 @@ impl Interface {
         if self.ticks_per_second == 0 {
             return None;
         }
-        let time = u128::from(ticks) * 1_000_000_000 / u128::from(self.ticks_per_second);
+        let seconds = ticks / self.ticks_per_second;
+        let fraction = nanoseconds(ticks % self.ticks_per_second, self.ticks_per_second);
+        let time = u128::from(seconds) * 1_000_000_000 + u128::from(fraction);
         shifted(time, self.offset)
     }
+}
+
+/// Returns how many nanoseconds a part of a second is, rounded down. A product of 64 bits serves for all clocks of 10^10 ticks
+/// a second or fewer; no other division of 128 bits would be made without a library.
+#[inline]
+fn nanoseconds(ticks: u64, ticks_per_second: u64) -> u64
+    requires { ticks < ticks_per_second }
+    ensures value { result ≡ ticks * 1000000000 / ticks_per_second }
+    ensures few { result < 1000000000 }
+{
+    if ticks <= 18_446_744_073 {
+        ticks * 1_000_000_000 / ticks_per_second
+    } else {
+        nine_digits(ticks, ticks_per_second)
+    }
+}
+
+/// Returns the first nine digits after the point of a fraction less than 1.
+fn nine_digits(numerator: u64, denominator: u64) -> u64
+    requires { numerator < denominator }
+    ensures value { result ≡ numerator * 1000000000 / denominator }
+    ensures few { result < 1000000000 }
+{
+    let (a, rest_a) = next_digit(0, numerator, denominator);
+    let (b, rest_b) = next_digit(a, rest_a, denominator);
+    let (c, rest_c) = next_digit(b, rest_b, denominator);
+    let (d, rest_d) = next_digit(c, rest_c, denominator);
+    let (e, rest_e) = next_digit(d, rest_d, denominator);
+    let (f, rest_f) = next_digit(e, rest_e, denominator);
+    let (g, rest_g) = next_digit(f, rest_f, denominator);
+    let (h, rest_h) = next_digit(g, rest_g, denominator);
+    next_digit(h, rest_h, denominator).0
+}
+
+/// Returns a quotient with one more digit, and what is left: the next step of a long division.
+fn next_digit(quotient: u64, rest: u64, divisor: u64) -> (u64, u64)
+    requires less { rest < divisor }
+    requires few { quotient < 100000000 }
+    ensures divided { result.0 * divisor + result.1 ≡ (quotient * divisor + rest) * 10 }
+    ensures less { result.1 < divisor }
+    ensures few { result.0 ≤ quotient * 10 + 9 }
+{
+    let mut left = u128::from(rest) * 10;
+    'digits: for digit in 0..10u64 {
+        if left < u128::from(divisor) {
+            return (quotient * 10 + digit, left as u64);
+        }
+        left -= u128::from(divisor);
+    }
+    (quotient, rest)
 }
 
 /// Returns a time in nanoseconds so many seconds later, or earlier if they are negative in two's complement.

@@ -1,9 +1,9 @@
 //! The options of a block of pcapng (draft-ietf-opsawg-pcapng, section 3.5).
-ghost use Rattle.std.specs.Prelude.{◌≡◌, ◌≤◌, length, IfSome};
+ghost use Rattle.std.specs.Prelude.{◌≡◌, ◌≤◌, length, None, Some, IfSome, IfOk, IfErr};
 ghost use Rattle.std.specs.Option.{option_map};
-ghost use Rattle.ip_captures.specs.Options.{option_len, option_value};
+ghost use Rattle.ip_captures.specs.Options.{option_len, option_value, options_error};
 
-use crate::ByteOrder;
+use crate::{BlockError, ByteOrder};
 
 /// Returns the length of the option at the start of `bytes`, with its padding.
 fn option_len(order: ByteOrder, bytes: &[u8]) -> Option<usize>
@@ -38,4 +38,27 @@ pub(crate) fn option_value(order: ByteOrder, code: u16, options: &[u8]) -> Optio
         rest = rest.split_at(len).1;
     }
     None
+}
+
+/// Checks that each option of a block has the bytes that it states, up to the end of the options.
+#[tactic(auto, using(crate::proofs::OptionLemmas::error_after, crate::proofs::OptionLemmas::error_ended, crate::proofs::OptionLemmas::error_left))]
+pub(crate) fn check_options(order: ByteOrder, options: &[u8]) -> Result<(), BlockError>
+    ensures right { IfOk result (λ _. options_error order options.now ≡ None) }
+    ensures error { IfErr result (λ e. options_error order options.now ≡ Some e) }
+{
+    let mut rest = options;
+    'options: while let Some(len) = option_len(order, rest) {
+        let number = order.u16_at(rest, 0);
+        if number == 0 {
+            return Ok(());
+        }
+        rest = rest.split_at(len).1;
+    }
+    if rest.len() < 4 {
+        return Ok(());
+    }
+    Err(BlockError::LongOption {
+        len: order.u16_at(rest, 2),
+        left: rest.len() - 4,
+    })
 }

@@ -1,12 +1,13 @@
 //! The fields of the blocks of a pcapng capture.
-ghost use Rattle.std.specs.Prelude.{◌≡◌, ◌≤◌, ◌<◌, ◌+◌, ◌-◌, length, slice_range, slice_get, Some, None, IfOk, IfErr};
-ghost use Rattle.std.specs.Option.{option_map_or};
+ghost use Rattle.std.specs.Prelude.{◌≡◌, ◌≤◌, ◌<◌, ◌+◌, ◌-◌, ◌%◌, [], length, slice_range, slice_get, Some, None, IfOk, IfErr};
+ghost use Rattle.std.specs.Option.{option_map_or, option_or};
 ghost use Rattle.ip_captures.specs.Numbers.{number_at};
 ghost use Rattle.ip_captures.specs.Frame.{contents};
-ghost use Rattle.ip_captures.specs.Block.{kind_of, block_type, total_len, least_len, whole_error, packet_error, packet_in, simple_len, ticks_at};
+ghost use Rattle.ip_captures.specs.Block.{kind_of, block_type, total_len, least_len, whole_error, fields_error, timed_packet_error, simple_packet_error, packet_in, simple_len, ticks_at};
 ghost use Rattle.ip_captures.specs.BlockGiven.{IsGiven};
 
 use crate::block::BlockHead;
+use crate::options::check_options;
 use crate::{Block, BlockError, BlockKind, ByteOrder, Frame, Interface, Next};
 
 /// Returns the interface with a number, or that it isn't described.
@@ -30,17 +31,21 @@ fn packet<'a>(
     block: &'a [u8],
     interface: u32,
 ) -> Result<Frame<'a>, BlockError>
-    requires { 32 ≤ length block.now }
-    ensures right { IfOk result (λ f. packet_error interfaces.now interface (number_at order block.now 20) (length block.now - 32) ≡ None) }
+    requires least { 32 ≤ length block.now }
+    requires whole { length block.now % 4 ≡ 0 }
+    ensures right { IfOk result (λ f. timed_packet_error interfaces.now order interface block.now ≡ None) }
     ensures frame { IfOk result (λ f. contents f ≡ packet_in interfaces.now block.now interface (Some (ticks_at order block.now 12))
         (number_at order block.now 24) (slice_range block.now 28 (28 + number_at order block.now 20))) }
-    ensures error { IfErr result (λ e. packet_error interfaces.now interface (number_at order block.now 20) (length block.now - 32) ≡ Some e) }
+    ensures error { IfErr result (λ e. timed_packet_error interfaces.now order interface block.now ≡ Some e) }
 {
     let described = interface_at(interfaces, interface)?;
     let captured_len = order.u32_at(block, 20);
-    if captured_len as usize > block.len() - 32 {
-        return Err(BlockError::LongPacket { captured_len });
+    let left = block.len() - 32;
+    if captured_len as usize > left {
+        return Err(BlockError::LongPacket { captured_len, left });
     }
+    let options_at = 28 + (captured_len as usize + 3) / 4 * 4;
+    check_options(order, &block[options_at..block.len() - 4])?;
     let ticks = u64::from(order.u32_at(block, 12)) * 4_294_967_296
         + u64::from(order.u32_at(block, 16));
     Ok(Frame {
@@ -75,18 +80,20 @@ fn simple_packet<'a>(
     block: &'a [u8],
 ) -> Result<Frame<'a>, BlockError>
     requires { 16 ≤ length block.now }
-    ensures right { IfOk result (λ f. packet_error interfaces.now 0
-        (option_map_or (λ i. simple_len i (number_at order block.now 8)) (slice_get interfaces.now 0) 0) (length block.now - 16) ≡ None) }
+    ensures right { IfOk result (λ f. simple_packet_error interfaces.now order block.now ≡ None) }
     ensures frame { IfOk result (λ f. contents f ≡ packet_in interfaces.now block.now 0 None (number_at order block.now 8)
         (slice_range block.now 12 (12 + option_map_or (λ i. simple_len i (number_at order block.now 8)) (slice_get interfaces.now 0) 0))) }
-    ensures error { IfErr result (λ e. packet_error interfaces.now 0
-        (option_map_or (λ i. simple_len i (number_at order block.now 8)) (slice_get interfaces.now 0) 0) (length block.now - 16) ≡ Some e) }
+    ensures error { IfErr result (λ e. simple_packet_error interfaces.now order block.now ≡ Some e) }
 {
     let described = interface_at(interfaces, 0)?;
     let original_len = order.u32_at(block, 8);
     let captured_len = described.simple_len(original_len);
-    if captured_len as usize > block.len() - 16 {
-        return Err(BlockError::LongPacket { captured_len });
+    let left = block.len() - 16;
+    if captured_len as usize > left {
+        return Err(BlockError::LongPacket { captured_len, left });
+    }
+    if (captured_len as usize + 3) / 4 * 4 < left {
+        return Err(BlockError::Surplus { captured_len, left });
     }
     Ok(Frame {
         captured: &block[12..12 + captured_len as usize],
@@ -112,6 +119,37 @@ fn other(block_type: u32, block: &[u8]) -> Block<'_>
     }
 }
 
+/// Checks the version and the options of a section header block.
+fn check_section(order: ByteOrder, block: &[u8]) -> Result<(), BlockError>
+    requires { 28 ≤ length block.now }
+    ensures right { IfOk result (λ _. fields_error 0 [] order BlockKind.SectionHeader block.now ≡ None) }
+    ensures error { IfErr result (λ e. fields_error 0 [] order BlockKind.SectionHeader block.now ≡ Some e) }
+{
+    let major = order.u16_at(block, 12);
+    let minor = order.u16_at(block, 14);
+    if major != 1 || (minor != 0 && minor != 2) {
+        return Err(BlockError::UnknownVersion { major, minor });
+    }
+    check_options(order, &block[24..block.len() - 4])
+}
+
+/// Checks that there is memory for the interface of an interface description block, and its options.
+fn check_interface(
+    interfaces: &[Interface],
+    room: usize,
+    order: ByteOrder,
+    block: &[u8],
+) -> Result<(), BlockError>
+    requires { 20 ≤ length block.now }
+    ensures right { IfOk result (λ _. fields_error room interfaces.now order BlockKind.InterfaceDescription block.now ≡ None) }
+    ensures error { IfErr result (λ e. fields_error room interfaces.now order BlockKind.InterfaceDescription block.now ≡ Some e) }
+{
+    if interfaces.len() >= room {
+        return Err(BlockError::TooManyInterfaces { room });
+    }
+    check_options(order, &block[16..block.len() - 4])
+}
+
 /// Returns what a whole block gives, where there is memory for `room` interfaces, or what is wrong with it.
 #[inline]
 pub(crate) fn read_block<'a>(
@@ -123,6 +161,7 @@ pub(crate) fn read_block<'a>(
     requires kind { head.block_type ≡ block_type head.order block.now }
     requires len { head.len ≡ total_len head.order block.now }
     requires all { length block.now ≡ head.len }
+    requires whole { head.len % 4 ≡ 0 }
     requires least { least_len (kind_of head.block_type) ≤ head.len }
     ensures right { IfOk result (λ x. whole_error room interfaces.now head.order block.now ≡ None) }
     ensures given { IfOk result (IsGiven interfaces.now head.order block.now) }
@@ -137,16 +176,11 @@ pub(crate) fn read_block<'a>(
     }
     match BlockKind::of_type(head.block_type) {
         BlockKind::SectionHeader => {
-            let major = head.order.u16_at(block, 12);
-            if major != 1 {
-                return Err(BlockError::UnknownVersion { major });
-            }
+            check_section(head.order, block)?;
             Ok(Next::Block(other(head.block_type, block)))
         }
         BlockKind::InterfaceDescription => {
-            if interfaces.len() >= room {
-                return Err(BlockError::TooManyInterfaces { room });
-            }
+            check_interface(interfaces, room, head.order, block)?;
             Ok(Next::Block(other(head.block_type, block)))
         }
         BlockKind::ObsoletePacket => {
@@ -159,6 +193,10 @@ pub(crate) fn read_block<'a>(
         }
         BlockKind::SimplePacket => {
             Ok(Next::Frame(simple_packet(interfaces, head.order, block)?))
+        }
+        BlockKind::InterfaceStatistics => {
+            check_options(head.order, &block[20..block.len() - 4])?;
+            Ok(Next::Block(other(head.block_type, block)))
         }
         BlockKind::Other => Ok(Next::Block(other(head.block_type, block))),
     }

@@ -1,6 +1,9 @@
 //! Tests: a pcapng file of two sections, written out by the draft (draft-ietf-opsawg-pcapng). tshark 4.0.17 reads its four frames
 //! with these times, lengths, interfaces and link types.
-use ip_captures::{BlockError, Capture, CaptureError, Interface, Next};
+use ip_captures::{
+    BlockError, Capture, CaptureError, CaptureErrorFields, CaptureFields, Interface, Next,
+    RecordFields,
+};
 use std::process::Abort;
 
 /// A little-endian section with two interfaces, the second one of raw IP, with a name, in nanoseconds and an hour ahead, and two
@@ -180,7 +183,22 @@ fn errors_of_blocks(rt: HostRuntime) {
             last: 32,
         },
     );
-    assert_error(&rt, 12, 2, 2, 0, BlockError::UnknownVersion { major: 2 });
+    assert_error(
+        &rt,
+        12,
+        2,
+        2,
+        0,
+        BlockError::UnknownVersion { major: 2, minor: 0 },
+    );
+    assert_error(
+        &rt,
+        14,
+        1,
+        2,
+        0,
+        BlockError::UnknownVersion { major: 1, minor: 1 },
+    );
     assert_error(
         &rt,
         0,
@@ -203,6 +221,106 @@ fn errors_of_blocks(rt: HostRuntime) {
         21,
         2,
         100,
-        BlockError::LongPacket { captured_len: 21 },
+        BlockError::LongPacket {
+            captured_len: 21,
+            left: 20,
+        },
+    );
+    assert_error(
+        &rt,
+        66,
+        64,
+        2,
+        48,
+        BlockError::LongOption { len: 64, left: 28 },
+    );
+    assert_error(
+        &rt,
+        214,
+        64,
+        2,
+        176,
+        BlockError::LongOption { len: 64, left: 12 },
+    );
+}
+
+/// The fields of nothing.
+const NO_RECORD: RecordFields = RecordFields {
+    offset: 0,
+    len: 0,
+    record_len: 0,
+    needed: 0,
+    time: 0,
+    error: CaptureErrorFields {
+        offset: 0,
+        value: 0,
+        other: 0,
+        kind: 0,
+    },
+    original_len: 0,
+    interface: 0,
+    block_type: 0,
+    link_type: 0,
+    has_time: 0,
+    kind: 0,
+};
+
+/// Returns the row of a frame in plain numbers.
+fn row_of(record: &RecordFields) -> Row {
+    let time = if record.has_time == 1 {
+        Some(record.time)
+    } else {
+        None
+    };
+    (
+        time,
+        record.len,
+        record.original_len,
+        record.interface,
+        record.link_type,
+    )
+}
+
+/// The offset of each frame's captured bytes in its block.
+const OFFSETS: [usize; 4] = [28, 28, 12, 28];
+
+#[test]
+fn sections_in_plain_numbers(rt: HostRuntime) {
+    let mut memory = [NO_INTERFACE; 2];
+    let mut capture = CaptureFields {
+        interfaces: &mut memory,
+        interface_count: 9,
+        offset: 9,
+        limit: 56,
+        snap_len: 9,
+        link_type: 9,
+        form: 9,
+        byte_order: 9,
+    };
+    let mut error = NO_RECORD.error;
+    let has_begun = capture.begin(&SECTIONS, &mut error);
+    assert!(rt; has_begun && error == NO_RECORD.error, "{error:?}");
+    let mut frames = FRAMES.iter().zip(OFFSETS.iter());
+    let mut others = OTHERS.iter();
+    let mut rest: &[u8] = &SECTIONS;
+    let mut record = NO_RECORD;
+    for _ in 0..64 {
+        capture.next(rest, &mut record);
+        if record.kind == 0 {
+            let found = (row_of(&record), record.offset);
+            let wanted = frames.next().map(|(row, offset)| (*row, *offset));
+            assert!(rt; Some(found) == wanted, "{found:?} for {wanted:?}");
+        } else if record.kind == 1 {
+            let wanted = others.next().copied();
+            assert!(rt; Some(record.block_type) == wanted, "{record:?}");
+        } else {
+            break;
+        }
+        rest = rest.get(record.record_len..).unwrap_or(&[]);
+    }
+    assert!(rt; record.kind == 3 && rest.is_empty(), "{record:?}");
+    assert!(rt;
+        frames.next().is_none() && others.next().is_none(),
+        "{rest:?}"
     );
 }

@@ -12,9 +12,6 @@ uint32_t block_number(const uint8_t *place, bool is_little);
 /* Stores a number in 4 bytes. */
 void put_block_number(uint8_t *place, uint32_t number, bool is_little);
 
-/* Calls `take` with each of some blocks, of which the first is a section header, and with `taker`. */
-void visit_blocks(uint8_t *blocks, size_t len, void (*take)(uint8_t *block, size_t len, bool is_little, void *taker), void *taker);
-
 /* Returns a length with the padding that follows so many bytes of a block. */
 uint32_t padded_len(uint32_t len);
 

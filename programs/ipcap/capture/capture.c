@@ -8,7 +8,7 @@
 
 #include "capture/swap.h"
 
-/* How long the header of a classic file is, and the number at its start, or that at the start of a pcapng file. */
+/* How long the header of a classic file is, and the number that begins a file. */
 enum { FILE_HEADER = 24, MAGIC_LEN = 4 };
 
 /* Sets the text of the error, formatted as by printf, and returns false. */
@@ -42,7 +42,7 @@ static size_t write_refusal(int link_type, char *text, size_t room)
 static void set_form(struct capture *capture, const uint8_t *field)
 {
     enum { EXTENSION = 0xfc };
-    const struct wolfaren_capture *file = &capture->classic;
+    const struct wolfaren_capture *file = &capture->reader;
     capture->is_classic = true;
     capture->link_type = capture->form.link_type = link_type_of(file->link_type);
     capture->form.extension = (uint32_t)(field[file->byte_order ? 0 : 3] & EXTENSION) << 24;
@@ -50,37 +50,28 @@ static void set_form(struct capture *capture, const uint8_t *field)
     capture->form.is_fine = file->form == WOLFAREN_NANOSECONDS;
 }
 
-/* Reads the header of a classic file. */
-static bool open_classic(struct capture *capture)
+/* Begins to read a classic file, with this header. */
+static bool open_classic(struct capture *capture, const uint8_t header[FILE_HEADER])
 {
     enum { LINK_TYPE_AT = 20 };
-    struct source *source = &capture->source;
-    uint8_t header[FILE_HEADER] = {0};
-    size_t len = count_ahead(source);
-    struct wolfaren_capture_error error;
-    char text[WOLFAREN_TEXT_ROOM];
-    memcpy(header, bytes_ahead(source), len < FILE_HEADER ? len : FILE_HEADER);
-    capture->classic = (struct wolfaren_capture){.limit = MOST_CAPTURED};
-    bool is_begun = wolfaren_begin_capture(&capture->classic, header, sizeof header, &error);
-    bool is_other = len >= MAGIC_LEN && !is_begun && error.kind == WOLFAREN_UNKNOWN_MAGIC;
-    if (len < FILE_HEADER && !is_other) return fail(capture, "the file header is truncated");
-    if (!is_begun) {
-        wolfaren_capture_error_text(&error, text, sizeof text);
-        return fail(capture, "%s", text);
-    }
     set_form(capture, header + LINK_TYPE_AT);
-    skip_ahead(source, FILE_HEADER);
+    skip_ahead(&capture->source, FILE_HEADER);
     if (is_supported(capture->link_type)) return true;
     write_refusal(capture->link_type, capture->error, sizeof capture->error);
     return false;
 }
 
+/* The last interface that the section describes. */
+static const struct wolfaren_interface *last_interface(const struct capture *capture)
+{
+    return &capture->reader.interfaces[capture->reader.interface_count - 1];
+}
+
 /* Adds the last interface to the names of those left out, unless its link layer is among them. */
-static void name_left_out(struct capture *capture)
+static void name_left_out(struct capture *capture, int link_type)
 {
     struct capture_blocks *blocks = &capture->blocks;
-    size_t number = blocks->file.interface_count - 1, len = strlen(blocks->left_out_names);
-    int link_type = blocks->file.interfaces[number].link_type;
+    size_t number = capture->reader.interface_count - 1, len = strlen(blocks->left_out_names);
     char *text = blocks->left_out_names + len;
     size_t room = sizeof blocks->left_out_names - len;
     for (size_t i = 0; i < blocks->left_out_count; i++)
@@ -91,22 +82,23 @@ static void name_left_out(struct capture *capture)
     if (before >= room || before + write_refusal(link_type, text + before, room - before) >= room) *text = '\0';
 }
 
-/* Looks at the interface that the last block describes. */
+/* Looks at the interface that was described last. */
 static void take_interface(struct capture *capture)
 {
-    const struct interface *interface = &capture->blocks.file.interfaces[capture->blocks.file.interface_count - 1];
-    if (!interface->is_supported) name_left_out(capture);
-    else if (!capture->blocks.has_interface) capture->link_type = interface->link_type;
-    if (interface->is_supported) capture->blocks.has_interface = true;
+    const int link_type = link_type_of(last_interface(capture)->link_type);
+    const bool is_one = is_supported(link_type);
+    if (!is_one) name_left_out(capture, link_type);
+    else if (!capture->blocks.has_interface) capture->link_type = link_type;
+    if (is_one) capture->blocks.has_interface = true;
 }
 
-/* Makes room for the last block in the head. Returns false if memory or the budget runs out. */
-static bool make_head_room(struct capture *capture)
+/* Makes room for so many more bytes of the head. Returns false if memory or the budget runs out. */
+static bool make_head_room(struct capture *capture, size_t more)
 {
     enum { STEP = 1 << 20 }; /* the first one is part of what every file has */
     struct capture_blocks *blocks = &capture->blocks;
     const struct memory_source *memory = capture->memory;
-    size_t len = blocks->head_len + blocks->file.len, room = (len + STEP - 1) / STEP * STEP;
+    size_t len = blocks->head_len + more, room = (len + STEP - 1) / STEP * STEP;
     if (len <= blocks->head_room) return true;
     if (memory && !memory->ask(memory->account, room - (blocks->head ? blocks->head_room : STEP)))
         return fail(capture, "the blocks before the first packet can't be kept: " MEMORY_REFUSED);
@@ -117,24 +109,94 @@ static bool make_head_room(struct capture *capture)
     return true;
 }
 
-/* Counts the last block as one of the head, and adds it if that is kept. Returns false if memory or the budget runs out. */
-static bool add_to_head(struct capture *capture)
+/* Counts a block as one of the head, and adds it if that is kept. Returns false if memory or the budget runs out. */
+static bool add_to_head(struct capture *capture, const uint8_t *block, size_t len)
 {
     struct capture_blocks *blocks = &capture->blocks;
-    if (capture->keeps_head && !make_head_room(capture)) return false;
-    if (capture->keeps_head) memcpy(blocks->head + blocks->head_len, blocks->file.block, blocks->file.len);
-    blocks->head_len += blocks->file.len;
+    if (capture->keeps_head && !make_head_room(capture, len)) return false;
+    if (capture->keeps_head) memcpy(blocks->head + blocks->head_len, block, len);
+    blocks->head_len += len;
     return true;
 }
 
-/* Takes the last block, which is no packet. Returns false if nothing more may be read. */
-static bool take_other_block(struct capture *capture)
+/*
+ * Takes a block that is no packet, which is the first thing that is ahead. The length of a section is replaced by -1, which stands
+ * for an unknown one, since copies may have fewer blocks. Returns false if nothing more may be read.
+ */
+static bool take_other_block(struct capture *capture, const struct wolfaren_record *record)
 {
-    const struct pcapng *file = &capture->blocks.file;
-    if (file->kind == BLOCK_INTERFACE) take_interface(capture);
-    if (file->kind == BLOCK_PRIVATE) return true;
-    if (!capture->blocks.has_begun) return add_to_head(capture);
-    return !capture->copy || capture->copy(capture, file->block, file->len);
+    enum { SECTION_HEADER = 0x0a0d0d0a, SECTION_LENGTH_AT = 16, SECTION_LENGTH_LEN = 8, INTERFACE = 1, CUSTOM_NOT_COPIED = 0x40000bad };
+    uint8_t *block = bytes_ahead(&capture->source);
+    skip_ahead(&capture->source, record->record_len);
+    if (record->block_type == SECTION_HEADER) memset(block + SECTION_LENGTH_AT, 0xff, SECTION_LENGTH_LEN);
+    if (record->block_type == INTERFACE) take_interface(capture);
+    if (record->block_type == CUSTOM_NOT_COPIED) return true;
+    if (!capture->blocks.has_begun) return add_to_head(capture, block, record->record_len);
+    return !capture->copy || capture->copy(capture, block, record);
+}
+
+/* Makes room for more interfaces of a section. Returns false if it has the most, or if memory runs out. */
+static bool make_interface_room(struct wolfaren_capture *reader)
+{
+    size_t room = reader->room ? 2 * reader->room : 4;
+    if (room > MOST_INTERFACES) return false;
+    struct wolfaren_interface *interfaces = realloc(reader->interfaces, room * sizeof *interfaces);
+    if (!interfaces) return false;
+    reader->interfaces = interfaces;
+    reader->room = room;
+    return true;
+}
+
+/* Sets the error that the next packet can't be read, for a reason that the source may know better, and returns false. */
+static bool fail_on_packet(struct capture *capture, const char *reason)
+{
+    const char *words = *capture->source.error ? capture->source.error : reason;
+    capture->system_error = capture->source.system_error;
+    if (!capture->is_classic && !capture->blocks.has_begun) return fail(capture, "%s", words);
+    return fail(capture, "can't read packet %llu: %s", (unsigned long long)capture->number + 1, words);
+}
+
+/* Sets the error that the next record or block can't be read, and returns false. */
+static bool fail_on_record(struct capture *capture, const struct wolfaren_record *record)
+{
+    char text[WOLFAREN_TEXT_ROOM];
+    wolfaren_capture_error_text(&record->error, text, sizeof text);
+    if (record->kind == WOLFAREN_NEXT_NEEDS)
+        snprintf(text, sizeof text, "%s at offset %llu is truncated: %zu bytes needed, %zu there", capture->is_classic ? "record" : "block",
+                 (unsigned long long)capture->reader.offset, record->needed, count_ahead(&capture->source));
+    return fail_on_packet(capture, text);
+}
+
+/* Stores what comes next. */
+static void look_ahead(struct capture *capture, struct wolfaren_record *record)
+{
+    wolfaren_next_record(&capture->reader, bytes_ahead(&capture->source), count_ahead(&capture->source), record);
+}
+
+/* Reads more bytes for the next record. Returns false at the end of the file, and on failure, which sets the error. */
+static bool read_more(struct capture *capture, const struct wolfaren_record *record)
+{
+    size_t count = count_ahead(&capture->source);
+    if (!read_ahead(&capture->source, count + 1 > record->needed ? count + 1 : record->needed)) return fail_on_packet(capture, "read error");
+    return count_ahead(&capture->source) > count || (record->kind == WOLFAREN_NEXT_NEEDS && fail_on_record(capture, record));
+}
+
+/*
+ * Reads the next record or block, which is then the first thing that is ahead. Returns false at the end of the file, and on failure,
+ * which sets the error.
+ */
+static bool read_record(struct capture *capture, struct wolfaren_record *record)
+{
+    look_ahead(capture, record);
+    while (record->kind > WOLFAREN_NEXT_BLOCK) {
+        bool is_full = record->kind == WOLFAREN_NEXT_ERROR && record->error.kind == WOLFAREN_TOO_MANY_INTERFACES;
+        if (is_full && !make_interface_room(&capture->reader))
+            return capture->reader.room < MOST_INTERFACES ? fail(capture, "out of memory") : fail_on_record(capture, record);
+        if (record->kind == WOLFAREN_NEXT_ERROR && !is_full) return fail_on_record(capture, record);
+        if (!is_full && !read_more(capture, record)) return false;
+        look_ahead(capture, record);
+    }
+    return true;
 }
 
 /* Reads blocks up to the first packet, so that the interfaces are known. */
@@ -142,14 +204,13 @@ static bool open_blocks(struct capture *capture)
 {
     enum { MOST_HEAD = 1 << 24 };
     struct capture_blocks *blocks = &capture->blocks;
-    begin_pcapng(&blocks->file, &capture->source);
-    while (!blocks->is_ahead && blocks->head_len < MOST_HEAD && read_block(&blocks->file)) {
-        blocks->is_ahead = blocks->file.kind == BLOCK_PACKET;
-        if (!blocks->is_ahead && !take_other_block(capture)) return false;
+    capture->reader.limit = MOST_BLOCK;
+    while (!blocks->is_ahead && blocks->head_len < MOST_HEAD && read_record(capture, &blocks->first)) {
+        blocks->is_ahead = blocks->first.kind == WOLFAREN_NEXT_FRAME;
+        if (!blocks->is_ahead && !take_other_block(capture, &blocks->first)) return false;
     }
     blocks->has_begun = true;
-    if (*capture->source.error) return fail_as_source(capture);
-    if (*blocks->file.error) return fail(capture, "%s", blocks->file.error);
+    if (*capture->error) return false;
     if (!blocks->has_interface && blocks->left_out_count > 0) return fail(capture, "%s", blocks->left_out_names);
     if (blocks->has_interface || blocks->head_len < MOST_HEAD) return true;
     return fail(capture, "no interface is described in the first %d bytes", MOST_HEAD);
@@ -158,17 +219,29 @@ static bool open_blocks(struct capture *capture)
 static void close_file(struct capture *capture)
 {
     free(capture->blocks.head);
-    end_pcapng(&capture->blocks.file);
+    free(capture->reader.interfaces);
     close_source(&capture->source);
 }
 
+/* Reads the header of a file, which says of what form it is. */
 static bool open_opened(struct capture *capture)
 {
     struct source *source = &capture->source;
+    struct wolfaren_capture_error error;
+    uint8_t header[FILE_HEADER] = {0};
+    char text[WOLFAREN_TEXT_ROOM];
     if (!read_ahead(source, FILE_HEADER)) return fail_as_source(capture);
-    if (count_ahead(source) == 0) return fail(capture, "the file is empty");
-    bool is_pcapng = count_ahead(source) >= MAGIC_LEN && is_pcapng_magic(bytes_ahead(source));
-    return is_pcapng ? open_blocks(capture) : open_classic(capture);
+    size_t len = count_ahead(source);
+    if (len == 0) return fail(capture, "the file is empty");
+    memcpy(header, bytes_ahead(source), len < FILE_HEADER ? len : FILE_HEADER);
+    capture->reader = (struct wolfaren_capture){.limit = MOST_CAPTURED};
+    bool is_begun = wolfaren_begin_capture(&capture->reader, header, sizeof header, &error);
+    if (is_begun && capture->reader.form == WOLFAREN_PCAPNG) return open_blocks(capture);
+    bool is_other = len >= MAGIC_LEN && !is_begun && error.kind == WOLFAREN_UNKNOWN_MAGIC;
+    if (len < FILE_HEADER && !is_other) return fail(capture, "the file header is truncated");
+    if (is_begun) return open_classic(capture, header);
+    wolfaren_capture_error_text(&error, text, sizeof text);
+    return fail(capture, "%s", text);
 }
 
 /* Opens the capture that is in the source, if that was opened. */
@@ -196,14 +269,6 @@ bool open_capture_of(struct capture *capture, int descriptor, const char *name, 
     return open_bytes(capture, open_descriptor(&capture->source, descriptor, memory));
 }
 
-/* Sets the error that a packet can't be read, for a reason that the source may know better, and returns false. */
-static bool fail_on_packet(struct capture *capture, const char *reason)
-{
-    capture->system_error = capture->source.system_error;
-    return fail(capture, "can't read packet %llu: %s", (unsigned long long)capture->number + 1,
-                *capture->source.error ? capture->source.error : reason);
-}
-
 bool has_nanoseconds(const struct capture *capture)
 {
     return !capture->is_classic || capture->form.is_fine;
@@ -212,87 +277,61 @@ bool has_nanoseconds(const struct capture *capture)
 /* A second in nanoseconds. */
 enum { SECOND = 1000000000 };
 
-/* Takes the frame of a record, which is the first thing that is ahead. */
+/* Takes the packet of a record, which is the first thing that is ahead. */
 static void take_frame(struct capture *capture, const struct wolfaren_record *record, struct packet *packet)
 {
-    time_t seconds = (time_t)(record->time / SECOND);
-    long nanoseconds = (long)(record->time % SECOND);
-    packet->header.caplen = (bpf_u_int32)record->len;
-    packet->header.len = record->original_len;
-    packet->header.ts = (struct timeval){seconds, has_nanoseconds(capture) ? nanoseconds : nanoseconds / 1000};
-    packet->time = (struct timespec){seconds, nanoseconds};
+    packet->header = (struct pcap_pkthdr){.caplen = (bpf_u_int32)record->len, .len = record->original_len};
+    packet->time = (struct timespec){(time_t)(record->time / SECOND), (long)(record->time % SECOND)};
+    packet->has_time = record->has_time;
     packet->frame = bytes_ahead(&capture->source) + record->offset;
-    packet->link_type = capture->link_type;
+    packet->link_type = link_type_of(record->link_type);
     packet->block = NULL;
-    packet->is_left_out = false;
-    packet->has_time = true;
-}
-
-/* Sets the error that the next record can't be read, and returns false. */
-static bool fail_on_record(struct capture *capture, const struct wolfaren_record *record)
-{
-    char text[WOLFAREN_TEXT_ROOM];
-    wolfaren_capture_error_text(&record->error, text, sizeof text);
-    if (record->kind == WOLFAREN_NEXT_NEEDS)
-        snprintf(text, sizeof text, "record at offset %llu is truncated: %zu bytes needed, %zu there",
-                 (unsigned long long)capture->classic.offset, record->needed, count_ahead(&capture->source));
-    return fail_on_packet(capture, text);
+    skip_ahead(&capture->source, record->record_len);
 }
 
 /* Whether the numbers of a classic file are in the other byte order than those of this machine. */
 static bool is_swapped(const struct capture *capture)
 {
-    return capture->classic.byte_order != (__BYTE_ORDER__ == __ORDER_BIG_ENDIAN__);
+    return capture->reader.byte_order != (__BYTE_ORDER__ == __ORDER_BIG_ENDIAN__);
 }
 
 /* Reads the next packet of a classic file. */
 static bool read_from_classic(struct capture *capture, struct packet *packet)
 {
-    struct source *source = &capture->source;
     struct wolfaren_record record;
-    wolfaren_next_record(&capture->classic, bytes_ahead(source), count_ahead(source), &record);
-    while (record.kind == WOLFAREN_NEXT_NEEDS || record.kind == WOLFAREN_NEXT_ENDED) {
-        size_t count = count_ahead(source);
-        if (!read_ahead(source, count + 1 > record.needed ? count + 1 : record.needed)) return fail_on_packet(capture, "read error");
-        if (count_ahead(source) == count) return record.kind == WOLFAREN_NEXT_NEEDS && fail_on_record(capture, &record);
-        wolfaren_next_record(&capture->classic, bytes_ahead(source), count_ahead(source), &record);
-    }
-    if (record.kind == WOLFAREN_NEXT_ERROR) return fail_on_record(capture, &record);
-    if (is_swapped(capture)) swap_header(capture->link_type, bytes_ahead(source) + record.offset, record.len);
+    if (!read_record(capture, &record)) return false;
+    if (is_swapped(capture)) swap_header(capture->link_type, bytes_ahead(&capture->source) + record.offset, record.len);
     take_frame(capture, &record, packet);
-    skip_ahead(source, record.record_len);
+    long fraction = has_nanoseconds(capture) ? packet->time.tv_nsec : packet->time.tv_nsec / 1000;
+    packet->header.ts = (struct timeval){packet->time.tv_sec, fraction};
     return true;
 }
 
-/* Reads up to the next block with a packet. */
-static bool find_packet_block(struct capture *capture)
+/* Reads up to the next block with a packet, which is then the first thing that is ahead. */
+static bool find_packet_block(struct capture *capture, struct wolfaren_record *record)
 {
-    struct capture_blocks *blocks = &capture->blocks;
-    bool is_found = blocks->is_ahead;
-    blocks->is_ahead = false;
-    while (!is_found && read_block(&blocks->file)) {
-        is_found = blocks->file.kind == BLOCK_PACKET;
-        if (!is_found && !take_other_block(capture)) return false;
+    if (capture->blocks.is_ahead) {
+        *record = capture->blocks.first;
+        capture->blocks.is_ahead = false;
+        return true;
     }
-    return is_found;
+    while (read_record(capture, record)) {
+        if (record->kind == WOLFAREN_NEXT_FRAME) return true;
+        if (!take_other_block(capture, record)) return false;
+    }
+    return false;
 }
 
 /* Reads the next packet of a pcapng file. */
 static bool read_from_blocks(struct capture *capture, struct packet *packet)
 {
-    struct pcapng *file = &capture->blocks.file;
-    struct block_packet found;
-    if (!find_packet_block(capture) || !read_block_packet(file, &found))
-        return *file->error ? fail_on_packet(capture, file->error) : false;
-    packet->header = (struct pcap_pkthdr){.caplen = found.captured_len, .len = found.len};
-    packet->time = found.time;
-    packet->frame = found.frame;
-    packet->link_type = found.interface->link_type;
-    packet->block = file->block;
-    packet->block_len = file->len;
-    packet->is_big_endian = file->is_big_endian;
-    packet->is_left_out = !found.interface->is_supported;
-    packet->has_time = found.has_time;
+    struct wolfaren_record record;
+    if (!find_packet_block(capture, &record)) return false;
+    capture->blocks.block = bytes_ahead(&capture->source);
+    take_frame(capture, &record, packet);
+    packet->block = capture->blocks.block;
+    packet->block_len = record.record_len;
+    packet->is_big_endian = capture->reader.byte_order;
     return true;
 }
 
@@ -300,8 +339,9 @@ static bool read_from_blocks(struct capture *capture, struct packet *packet)
 static void find_in_frame(struct packet *packet)
 {
     struct wolfaren_frame frame;
+    packet->is_left_out = !wolfaren_find_ip((uint32_t)packet->link_type, packet->frame, packet->header.caplen, &frame);
     packet->is_ip = false;
-    if (packet->is_left_out || !wolfaren_find_ip((uint32_t)packet->link_type, packet->frame, packet->header.caplen, &frame)) return;
+    if (packet->is_left_out) return;
     packet->is_ip = frame.end == WOLFAREN_FRAME_IP;
     packet->ip_offset = frame.offset;
     packet->protocol = protocol_of(&frame);

@@ -9,7 +9,7 @@
 #include <stdint.h>
 #include <time.h>
 
-#include "capture/pcapng.h"
+#include "capture/link_type.h"
 #include "capture/protocol.h"
 #include "capture/source.h"
 #include "wolfaren.h"
@@ -23,15 +23,19 @@ enum { CAPTURE_ERROR_ROOM = PCAP_ERRBUF_SIZE + 64 };
 /* The greatest number of captured bytes of a record in a classic file, as in libpcap. */
 enum { MOST_CAPTURED = 1 << 18 };
 
+/* The length of the longest block of a pcapng file, as in libpcap, and the most interfaces of one of its sections. */
+enum { MOST_BLOCK = 1 << 24, MOST_INTERFACES = 1 << 16 };
+
 /* How many link layers that aren't supported are named. */
 enum { MOST_LEFT_OUT = 8 };
 
 /* What only captures in a pcapng file have. */
 struct capture_blocks {
-    struct pcapng file;
-    bool is_ahead;      /* the last block is a packet that wasn't read yet */
+    struct wolfaren_record first; /* the first packet, if it is ahead */
+    bool is_ahead;      /* the first packet wasn't taken yet */
     bool has_begun;     /* the first packet was found, or there are too many blocks before it */
     bool has_interface; /* there is one with a supported link layer */
+    uint8_t *block;     /* that of the last packet, which may be changed until more is read */
     uint8_t *head;      /* the blocks before the first packet, except those that must not be copied, or null if it isn't kept */
     size_t head_len;
     size_t head_room;   /* allocated for the head */
@@ -49,12 +53,16 @@ struct classic_form {
 };
 
 struct packet;
+struct capture;
+
+/* Takes a block of a pcapng file that is no packet, and what the library returned of it. Returns false if nothing more is to be read. */
+typedef bool block_call(struct capture *capture, uint8_t *block, const struct wolfaren_record *record);
 
 struct capture {
     const char *name; /* for messages */
     bool is_classic;  /* it is a classic file, otherwise a pcapng file */
     struct classic_form form; /* of a classic file */
-    struct wolfaren_capture classic; /* reads a classic file */
+    struct wolfaren_capture reader;
     const struct memory_source *memory; /* for the head */
     bool keeps_head;  /* of a pcapng file, for an output */
     struct capture_blocks blocks;
@@ -66,11 +74,8 @@ struct capture {
     /* Called with each packet that was read, unless it is null. May change it. If it returns false, the packet is skipped. */
     bool (*pass)(struct capture *capture, struct packet *packet);
     void *passer; /* for `pass` */
-    /*
-     * Called with each block of a pcapng file that follows those in `head` and is no packet, unless it is null. If it
-     * returns false, nothing more is read.
-     */
-    bool (*copy)(struct capture *capture, const uint8_t *block, size_t len);
+    /* Called with each block of a pcapng file that follows those in `head` and is no packet, unless it is null. May change it. */
+    block_call *copy;
     void *copier; /* for `copy` */
     char error[CAPTURE_ERROR_ROOM];          /* why opening or reading failed, otherwise empty */
     int system_error;                        /* the `errno` of that if the system refused it, otherwise 0 */

@@ -71,7 +71,7 @@ static bool write_in_place(struct output *output, const struct request *request,
                            struct input *input, struct again *again)
 {
     struct capture *capture = &input->capture;
-    bool (*copy)(struct capture *, const uint8_t *, size_t) = capture->copy;
+    block_call *copy = capture->copy;
     bool is_read;
     capture->copy = NULL;
     defragment_packets(NULL, defragmenter, capture);

@@ -68,9 +68,9 @@ bool write_blocks(struct output *output, const struct capture *capture, const ui
 }
 
 /* Writes a block that is no packet, as it is. */
-static bool copy_block(struct capture *capture, const uint8_t *block, size_t len)
+static bool copy_block(struct capture *capture, uint8_t *block, const struct wolfaren_record *record)
 {
-    return write_blocks(capture->copier, capture, block, len);
+    return write_blocks(capture->copier, capture, block, record->record_len);
 }
 
 /* Begins an output with the blocks of a pcapng file. */

@@ -513,7 +513,7 @@ static void state_captured_len(struct capture *capture, struct packet *packet)
 {
     enum { SIMPLE_LEN_AT = 8 };
     if (!capture->copy || !packet->is_short || block_type(packet) != SIMPLE_PACKET) return;
-    put_block_number(capture->blocks.file.block + SIMPLE_LEN_AT, packet->header.caplen, !packet->is_big_endian);
+    put_block_number(capture->blocks.block + SIMPLE_LEN_AT, packet->header.caplen, !packet->is_big_endian);
     packet->header.len = packet->header.caplen;
 }
 

@@ -1,10 +1,23 @@
-use Rattle.std.proofs.Common.{arith, length, sym, subst, ap, ◌∙◌}
+use Rattle.std.proofs.Common.{arith, length, take, sym, subst, ap, ◌∙◌, ◌≡◌}
+use Rattle.std.proofs.lemmas.List.{length-take-le}
 use Rattle.ip_captures.specs.PcapngCapture.{section_at}
 use Rattle.ip_captures.specs.PcapngNext.{IsNextBlock}
 use Rattle.ip_captures.specs.Block.{entered, kind_of, block_type}
 use Rattle.ip_captures.specs.declared.next.Next.{Next}
-use Rattle.ip_captures.proofs.BlockLemmas.{HasHead, read_of, wrong_of}
+use Rattle.ip_captures.proofs.BlockLemmas.{HasHead, says_head, room_left, read_of, wrong_of}
 use Rattle.ip_captures.proofs.block_reader.BlockReader.next.Goals as goal
+
+pub enter-requires-clause-room : goal.enter-requires-clause-room
+enter-requires-clause-room c = λ i.
+    let it = c.args.self.now in
+    let said = c.in-Ok.ensures in
+    let head : HasHead it.limit it.byte_order c.args.bytes.now c.in-Ok.head.order c.in-Ok.head.len =
+    record { right = said.right; ordered = said.order; len = said.fields.1; fits = omega arith } in
+    let says = says_head it.limit it.byte_order c.args.bytes.now c.in-Ok.head.order c.in-Ok.head.len head in
+    let type : block_type c.in-Ok.head.order c.split_at.result.0.now ≡ c.in-Ok.head.block_type =
+    ap (block_type c.in-Ok.head.order) c.split_at.ensures.front ∙ says.type ∙ sym said.fields.0 in
+    let less = room_left (length c.args.interfaces.now) (take it.count c.args.interfaces.now) c.in-Ok.head.order c.split_at.result.0.now c.in-Ok-read.ensures.right (ap kind_of type ∙ i) in
+    omega (arith, less, length-take-le it.count c.args.interfaces.now c.requires)
 
 pub returns-in-Err-read-clause-next : goal.returns-in-Err-read-clause-next
 returns-in-Err-read-clause-next c =

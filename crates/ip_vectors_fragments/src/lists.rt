@@ -1,113 +1,185 @@
-//! Tests: arrays and lists worked out by hand.
-use ip_lists::Links;
-use std::process::Abort;
+//! Lists and tables through arrays.
+use crate::arrays::Arrays;
+use crate::case::Case;
+use crate::report::Report;
+use crate::text::{Words, yes};
+use anyhow::{Result, bail, ensure};
+use ip_lists::{Links, Members, Table};
+use std::alloc::{AllocError, Global};
 
-/// Checks what the arrays have.
-pub(crate) fn assert_links(rt: &impl Abort, links: &Links<'_>, next: &[u32], previous: &[u32]) {
-    assert!(rt; *links.next == *next, "{:?} for {next:?}", links.next);
-    assert!(rt;
-        *links.previous == *previous,
-        "{:?} for {previous:?}",
-        links.previous
+/// Appends numbers, each before a space.
+fn push_numbers(text: &mut String, numbers: &[u32]) -> Result<(), AllocError> {
+    for number in numbers {
+        write!(text, "{number} ")?;
+    }
+    Ok(())
+}
+
+/// Returns the links of all places: `NEXT .. / PREVIOUS ..`.
+fn links_text(alloc: Global, links: &Links<'_>) -> Result<String, AllocError> {
+    let mut text = String::new(alloc);
+    push_numbers(&mut text, links.next)?;
+    text.push_str("/")?;
+    for number in links.previous.iter() {
+        write!(text, " {number}")?;
+    }
+    Ok(text)
+}
+
+/// Returns the members of a list, one after another.
+fn members_text(alloc: Global, members: Members<'_>) -> Result<String, AllocError> {
+    let mut text = String::from_str(alloc, "list")?;
+    for member in members {
+        write!(text, " {member}")?;
+    }
+    Ok(text)
+}
+
+/// Returns the members of the list of a head, found one from another.
+fn walk_text(alloc: Global, links: &Links<'_>, head: u32) -> Result<String, AllocError> {
+    let mut text = String::from_str(alloc, "list")?;
+    let mut place = head;
+    for _ in 0..links.next.len() {
+        match links.after(head, place) {
+            Some(next) => place = next,
+            None => break,
+        }
+        write!(text, " {place}")?;
+    }
+    Ok(text)
+}
+
+/// Returns a place, if there is one.
+fn place_text(alloc: Global, place: Option<u32>) -> Result<String, AllocError> {
+    match place {
+        Some(place) => format!(in alloc; "{place}"),
+        None => String::from_str(alloc, "none"),
+    }
+}
+
+/// Takes all places out of their lists.
+fn clear(links: &mut Links<'_>) -> Result<()> {
+    let len = links.next.len();
+    ensure!(
+        links.previous.len() == len && len < 65536,
+        "arrays of different lengths"
     );
-}
-
-/// Checks the members of the list of a head, by each way to walk them.
-fn assert_list(rt: &impl Abort, links: &Links<'_>, head: u32, wanted: &[u32]) {
-    let mut members = links.members(head);
-    let mut last = head;
-    for place in wanted {
-        let after = links.after(head, last);
-        assert!(rt; after == Some(*place), "{after:?} for {place} of {head}");
-        let member = members.next();
-        assert!(rt; member == Some(*place), "{member:?} for {place} of {head}");
-        last = *place;
-    }
-    let after = links.after(head, last);
-    assert!(rt; after.is_none(), "{after:?} after the last of {head}");
-    let member = members.next();
-    assert!(rt; member.is_none(), "{member:?} after the last of {head}");
-    let first = links.first(head);
-    assert!(rt; first == wanted.first().copied(), "{first:?} of {head}");
-}
-
-// Places 0 and 1 are heads, 2 to 5 members.
-#[test]
-fn two_lists(rt: HostRuntime) {
-    let mut next = [9; 6];
-    let mut previous = [7; 6];
-    let mut links = Links {
-        next: &mut next,
-        previous: &mut previous,
-    };
     links.clear();
-    assert_links(&rt, &links, &[0, 1, 2, 3, 4, 5], &[0, 1, 2, 3, 4, 5]);
-    for (head, place) in [(0, 2), (0, 3), (1, 4), (0, 5)] {
-        assert!(rt; links.is_alone(place), "{place}");
-        assert!(rt; links.push_back(head, place), "{place} to {head}");
-        assert!(rt; !links.is_alone(place), "{place}");
-    }
-    assert_links(&rt, &links, &[2, 4, 3, 5, 1, 0], &[5, 4, 0, 2, 1, 3]);
-    assert_list(&rt, &links, 0, &[2, 3, 5]);
-    assert_list(&rt, &links, 1, &[4]);
-
-    assert!(rt; links.remove(3));
-    assert_links(&rt, &links, &[2, 4, 5, 3, 1, 0], &[5, 4, 0, 3, 1, 2]);
-    assert!(rt; links.push_back(1, 3));
-    assert_links(&rt, &links, &[2, 4, 5, 1, 3, 0], &[5, 3, 0, 4, 1, 2]);
-    assert_list(&rt, &links, 0, &[2, 5]);
-    assert_list(&rt, &links, 1, &[4, 3]);
-
-    for place in [2, 5] {
-        assert!(rt; links.remove(place), "{place}");
-    }
-    assert_list(&rt, &links, 0, &[]);
-    assert_links(&rt, &links, &[0, 4, 2, 1, 3, 5], &[0, 3, 2, 4, 1, 5]);
+    Ok(())
 }
 
-#[test]
-fn refusals(rt: HostRuntime) {
-    let mut next = [1, 0, 2, 3];
-    let mut previous = [1, 0, 2];
-    let mut links = Links {
-        next: &mut next,
-        previous: &mut previous,
+/// Does a step of a case `links`. Returns its answer.
+fn links_step(alloc: Global, links: &mut Links<'_>, words: &mut Words<'_>) -> Result<String> {
+    let holds = match words.word()? {
+        "clear" => {
+            clear(links)?;
+            return Ok(links_text(alloc, links)?);
+        }
+        "links" => return Ok(links_text(alloc, links)?),
+        "members" => return Ok(members_text(alloc, links.members(words.number()?))?),
+        "walk" => return Ok(walk_text(alloc, links, words.number()?)?),
+        "first" => return Ok(place_text(alloc, links.first(words.number()?))?),
+        "is-alone" => links.is_alone(words.number()?),
+        "push-back" => {
+            let head = words.number()?;
+            links.push_back(head, words.number()?)
+        }
+        "remove" => links.remove(words.number()?),
+        other => bail!("there is no step '{other}'"),
     };
-    for (head, place, reason) in [
-        (0, 0, "its own head"),
-        (0, 1, "in a list"),
-        (0, 3, "beyond one array"),
-        (3, 2, "a head beyond one array"),
-        (0, 4, "beyond both"),
-        (4, 2, "a head beyond both"),
-    ] {
-        assert!(rt; !links.push_back(head, place), "{reason}");
-    }
-    for place in [3, 4, u32::MAX] {
-        assert!(rt; !links.remove(place), "{place}");
-    }
-    assert_links(&rt, &links, &[1, 0, 2, 3], &[1, 0, 2]);
+    Ok(String::from_str(alloc, yes(holds))?)
 }
 
-// The arrays don't agree: nothing leads back to 0, 1 and 2, and a link of 3 leads beyond the arrays.
-#[test]
-fn arrays_that_do_not_agree(rt: HostRuntime) {
-    let mut next = [1, 2, 1, 8];
-    let mut previous = [3, 3, 3, 8];
-    let mut links = Links {
-        next: &mut next,
-        previous: &mut previous,
+/// Runs a case: `links NEXT .. / PREVIOUS ..`, with these arrays.
+pub(crate) fn run_links(
+    case: &Case<'_>,
+    words: &mut Words<'_>,
+    report: &mut Report<'_>,
+) -> Result<()> {
+    let mut arrays = Arrays::parse(case.alloc, words)?;
+    words.end()?;
+    let mut links = arrays.links();
+    for line in case.steps {
+        let mut words = Words::new(line.text);
+        let answer = links_step(case.alloc, &mut links, &mut words);
+        report.add(case, line, words, answer)?;
+    }
+    Ok(())
+}
+
+/// Frees all places of a table.
+fn clear_table(table: &mut Table<'_>) -> Result<()> {
+    let (ages, chains) = (table.ages.next.len(), table.chains.next.len());
+    let places = table.places as usize;
+    ensure!(places + 1 < ages && ages < 65536, "too few links of ages");
+    ensure!(
+        places <= chains && chains < 65536,
+        "too few links of chains"
+    );
+    ensure!(
+        table.ages.previous.len() == ages,
+        "ages of different lengths"
+    );
+    ensure!(
+        table.chains.previous.len() == chains,
+        "chains of different lengths"
+    );
+    table.clear();
+    Ok(())
+}
+
+/// Takes a place. Returns which one, and whether it was in use.
+fn take(alloc: Global, table: &mut Table<'_>, bucket: u32) -> Result<String, AllocError> {
+    match table.take(bucket) {
+        Some(taken) => {
+            let was = if taken.was_used { "used" } else { "free" };
+            format!(in alloc; "{} {was}", taken.place)
+        }
+        None => String::from_str(alloc, "none"),
+    }
+}
+
+/// Does a step of a case `table`. Returns its answer.
+fn table_step(alloc: Global, table: &mut Table<'_>, words: &mut Words<'_>) -> Result<String> {
+    let answer = match words.word()? {
+        "clear" => {
+            clear_table(table)?;
+            ""
+        }
+        "ages" => return Ok(links_text(alloc, &table.ages)?),
+        "chains" => return Ok(links_text(alloc, &table.chains)?),
+        "chain" => return Ok(members_text(alloc, table.chain(words.number()?))?),
+        "take" => return Ok(take(alloc, table, words.number()?)?),
+        "release" => yes(table.release(words.number()?)),
+        "renew" => {
+            let place = words.number()?;
+            yes(table.renew(place, words.number()?))
+        }
+        other => bail!("there is no step '{other}'"),
     };
-    for place in 0..4 {
-        assert!(rt; !links.remove(place), "{place}");
+    Ok(String::from_str(alloc, answer)?)
+}
+
+/// Runs a case: `table PLACES / NEXT .. / PREVIOUS .. / NEXT .. / PREVIOUS ..`, with these arrays.
+pub(crate) fn run_table(
+    case: &Case<'_>,
+    words: &mut Words<'_>,
+    report: &mut Report<'_>,
+) -> Result<()> {
+    let places = words.number()?;
+    ensure!(words.next() == Some("/"), "a '/' is expected");
+    let mut ages = Arrays::parse(case.alloc, words)?;
+    let mut chains = Arrays::parse(case.alloc, words)?;
+    words.end()?;
+    let mut table = Table {
+        places,
+        ages: ages.links(),
+        chains: chains.links(),
+    };
+    for line in case.steps {
+        let mut words = Words::new(line.text);
+        let answer = table_step(case.alloc, &mut table, &mut words);
+        report.add(case, line, words, answer)?;
     }
-    assert_list(&rt, &links, 3, &[]);
-    assert!(rt; links.first(0) == Some(1));
-    let mut members = links.members(0);
-    for place in [1, 2, 1, 2] {
-        let member = members.next();
-        assert!(rt; member == Some(place), "{member:?} for {place}");
-    }
-    assert!(rt; members.next().is_none());
-    assert_links(&rt, &links, &[1, 2, 1, 8], &[3, 3, 3, 8]);
+    Ok(())
 }

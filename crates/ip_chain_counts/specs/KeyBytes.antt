@@ -1,4 +1,4 @@
--- Bytes that are put together to a key.
+-- The bytes of a key, as they are appended.
 use Rattle.std.specs.Prelude.{◌≡◌, ℕ, ◌+◌, ◌≤◌, List, length, take, min}
 use Rattle.ip_key_counts.specs.declared.counted_key.TheConstants.{MAX_KEY_LEN}
 use Rattle.ip_chain_counts.specs.declared.key_bytes.KeyBytes.{KeyBytes}

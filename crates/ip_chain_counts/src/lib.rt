@@ -14,8 +14,8 @@
 //! - A packet without a base header has no chain, and isn't counted.
 //! - For a packet in tunnels, the caller passes the path of the packets that carry it, which is put before the key. If no
 //!   path begins with the bytes 4 or 6, no two of the keys are confused.
-//! - Counts of many packets are those that the laws of `ip_key_counts` are about: `chains_of_packets` says which keys a list
-//!   of packets has.
+//! - Counts of many packets are those that the laws of `ip_key_counts` are about: `keys_of_all` has the keys of a list of
+//!   packets.
 #![tactic(auto)]
 
 mod count;

@@ -94,9 +94,7 @@ pub fn sip_hash(key: &[u64; 2], words: &[u64]) -> u64
 pub fn sip_hash_bytes(key: &[u64; 2], bytes: &[u8]) -> u64
     ensures { result ≡ sip_hash key.now bytes.now }
 {
-    let state = bytes
-        .iter()
-        .fold(keyed(key), |state, byte| with_word(state, u64::from(*byte)));
+    let state = bytes.iter().fold(keyed(key), |state, byte| with_word(state, u64::from(*byte)));
     let len = 8 * (bytes.len() % 32) as u64;
     finished(with_word(state, len * 0x100_0000_0000_0000))
 }

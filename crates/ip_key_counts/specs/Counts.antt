@@ -22,6 +22,7 @@ pub record Counts : Type 0 where
 abbrev pub nothing : Counts
 nothing = record { listed = []; other = 0 }
 
+-- Two keys are the same.
 abbrev pub has_bytes : List ℕ → List ℕ → Bool
 has_bytes a b = bytes_eq a b
 

@@ -1,11 +1,14 @@
 -- Entries as numbers, and the links between them.
-use Rattle.std.specs.Prelude.{◌≡◌, ◌≢◌, ℕ, ◌-◌, ◌<◌, ◌≤◌, List, [], take, slice_index_or}
+use Rattle.std.specs.Prelude.{replicate, ◌≡◌, ◌≢◌, ℕ, ◌-◌, ◌<◌, ◌≤◌, List, [], take, slice_index_or}
 use Rattle.ip_key_counts.specs.Counts.{Counted, added}
 use Rattle.ip_key_counts.specs.declared.counted_key.CountedKey.{CountedKey}
+use Rattle.ip_key_counts.specs.declared.counted_key.TheConstants.{MAX_KEY_LEN}
 
+-- the key of an entry
 abbrev pub key_in : CountedKey → List ℕ
 key_in e = take e.len e.bytes
 
+-- the key of an entry, and its count
 abbrev pub counted_in : CountedKey → Counted
 counted_in e = record { key = key_in e; count = e.count }
 
@@ -17,6 +20,11 @@ raised_entry e n = record e { count = added e.count n }
 abbrev pub blank : CountedKey
 blank = record { count = 0; older = 0; len = 0; bytes = [] }
 
+-- an entry of no use yet
+abbrev pub unused_entry : CountedKey
+unused_entry = record { count = 0; older = 0; len = 0; bytes = replicate MAX_KEY_LEN 0 }
+
+-- the entry with an index, and its key
 abbrev pub entry_at : List CountedKey → ℕ → CountedKey
 entry_at entries p = slice_index_or entries p blank
 

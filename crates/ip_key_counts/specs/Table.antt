@@ -18,6 +18,7 @@ room_of t = length t.entries.now
 abbrev pub bucket_among : List ℕ → ℕ → List ℕ → ℕ
 bucket_among seed n k = sip_hash seed k % n
 
+-- the bucket of a key in a table
 abbrev pub bucket_of : KeyCounts → List ℕ → ℕ
 bucket_of t k = bucket_among t.seed (length t.newest.now) k
 

@@ -1,7 +1,7 @@
 //! A key with its count.
 ghost use Rattle.std.specs.Prelude.{◌≡◌, ◌≤◌, length};
 ghost use Rattle.ip_key_counts.specs.Counts.{has_bytes};
-ghost use Rattle.ip_key_counts.specs.Entry.{key_in};
+ghost use Rattle.ip_key_counts.specs.Entry.{key_in, unused_entry};
 
 /// The maximum number of bytes in a key.
 pub const MAX_KEY_LEN: usize = 67;
@@ -23,6 +23,18 @@ pub struct CountedKey {
 }
 
 impl CountedKey {
+    /// Returns an entry of no use yet, for the memory of a table.
+    pub fn unused() -> CountedKey
+        ensures { result ≡ unused_entry }
+    {
+        CountedKey {
+            count: 0,
+            older: 0,
+            len: 0,
+            bytes: [0; MAX_KEY_LEN],
+        }
+    }
+
     /// Returns the key.
     #[inline(always)]
     pub fn key(&self) -> &[u8]

@@ -5,7 +5,7 @@ use crate::links::{find_from, hold, raise};
 use crate::{CountedKey, MAX_KEY_LEN};
 use ip_hash::sip_hash_bytes;
 
-/// The number of entries that are remembered, so that keys which come often are found without a hash.
+/// The number of entries that are remembered, so that frequent keys are found without a hash.
 const RECENT: usize = 64;
 
 /// Counts by key, in memory of the caller's.
@@ -51,7 +51,7 @@ fn clear_all(newest: &mut [u32])
 }
 
 impl<'m> KeyCounts<'m> {
-    ghost use Rattle.std.specs.Prelude.{◌≡◌, ◌≢◌, ◌↔◌, ℕ, ◌<◌, ◌≤◌, List, length, IfSome, IsTrue, true, false, None, map};
+    ghost use Rattle.std.specs.Prelude.{◌^◌, ◌≡◌, ◌≢◌, ◌↔◌, ℕ, ◌<◌, ◌≤◌, List, length, IfSome, IsTrue, true, false, None, map};
     ghost use Rattle.ip_key_counts.specs.Counts.{all_counted, counted, merged, nothing};
     ghost use Rattle.ip_key_counts.specs.Entry.{key_at, counted_in, IsLast};
     ghost use Rattle.ip_key_counts.specs.Table.{counts_in, room_of, bucket_of, HasBuckets, IsTable, IsNew};
@@ -96,6 +96,29 @@ impl<'m> KeyCounts<'m> {
         ensures none { result ≡ None → IsTable self.now → bucket ≡ bucket_of self.now key.now → IsNew self.now key.now }
     {
         find_from(self.entries, self.newest[bucket], key)
+    }
+
+    /// Makes a table in this memory, which counts nothing yet: with as many entries, and with a bucket for each of the numbers
+    /// `newest`.
+    pub fn new(
+        entries: &'m mut [CountedKey],
+        newest: &'m mut [u32],
+        seed: [u64; 2],
+    ) -> KeyCounts<'m>
+        ensures table { 0 < length newest.old → length entries.old < 2 ^ 32 → IsTable result }
+        ensures counts { counts_in result ≡ nothing }
+        ensures room { room_of result ≡ length entries.old }
+        ensures seed { result.seed ≡ seed }
+    {
+        clear_all(newest);
+        KeyCounts {
+            entries,
+            newest,
+            len: 0,
+            other: 0,
+            seed,
+            recent: [0; RECENT],
+        }
     }
 
     /// Counts nothing yet, whatever the memory contains. Returns false, and changes nothing, if there is no bucket, or if there
@@ -187,7 +210,7 @@ impl<'m> KeyCounts<'m> {
 
     /// Adds the counts of another table: those of its entries in order, and then what it counts as other.
     pub fn merge(&mut self, more: &KeyCounts<'_>)
-        ensures counts { IsTable self.old → IsTable more.now → counts_in self.new ≡ merged (room_of self.old) (counts_in self.old) (counts_in more.now) }
+        ensures counts { IsTable self.old → counts_in self.new ≡ merged (room_of self.old) (counts_in self.old) (counts_in more.now) }
         ensures table { IsTable self.old → IsTable self.new }
         ensures room { room_of self.new ≡ room_of self.old }
         ensures seed { self.new.seed ≡ self.old.seed }

@@ -4,7 +4,7 @@
 //!
 //! | To | Call |
 //! |---|---|
-//! | begin, whatever the memory contains | `KeyCounts::clear` |
+//! | begin | `KeyCounts::new`, with entries from `CountedKey::unused`; whatever the memory contains, `KeyCounts::clear` |
 //! | count a key | `KeyCounts::count` |
 //! | add what was counted apart | `KeyCounts::merge` |
 //! | read the counts | `KeyCounts::listed`, and the field `other` |

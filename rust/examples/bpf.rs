@@ -1,5 +1,5 @@
 //! Runs the program that `tcpdump -ddd` prints, such as of `tcpdump -y RAW -ddd ip6`, on the packets of standard input:
-//! bpf PROGRAM. Prints how many bytes of each packet it accepts.
+//! `bpf PROGRAM`. Prints how many bytes of each packet it accepts.
 mod packets;
 
 use wolfaren::bpf::{Instruction, Program};

@@ -20,7 +20,10 @@
 //! | `Error` | stop |
 //!
 //! The laws say that more bytes change no frame, block or error, and that calls return the longest list of blocks one by
-//! one; `ClassicCapture::frames` does so for records. `next_captured` in `check_uses/src/captures.rt` is a caller.
+//! one; `ClassicCapture::frames` does so for records. `next_captured` and `next_captured_in_numbers` in
+//! `check_uses/src/captures.rt` are callers.
+//!
+//! Blocks that the reader knows are checked with the lengths of their options; of other blocks only the two total lengths are.
 #![tactic(auto)]
 
 mod block;

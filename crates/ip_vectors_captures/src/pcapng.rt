@@ -228,6 +228,17 @@ fn errors_of_blocks(rt: HostRuntime) {
     );
     assert_error(
         &rt,
+        275,
+        2,
+        2,
+        292,
+        BlockError::Surplus {
+            captured_len: 2,
+            left: 8,
+        },
+    );
+    assert_error(
+        &rt,
         66,
         64,
         2,

@@ -284,6 +284,7 @@ static void take_frame(struct capture *capture, const struct wolfaren_record *re
     packet->time = (struct timespec){(time_t)(record->time / SECOND), (long)(record->time % SECOND)};
     packet->has_time = record->has_time;
     packet->frame = bytes_ahead(&capture->source) + record->offset;
+    packet->interface = record->interface;
     packet->link_type = link_type_of(record->link_type);
     packet->block = NULL;
     skip_ahead(&capture->source, record->record_len);

@@ -87,6 +87,7 @@ struct packet {
     struct pcap_pkthdr header; /* its time is only set in classic files, as they have it */
     struct timespec time;      /* if it has one */
     const uint8_t *frame;
+    uint32_t interface;   /* its number in the section, 0 in a classic file */
     int link_type;        /* one of libpcap's DLT_ values */
     const uint8_t *block; /* of a pcapng file, the block with the packet, otherwise null */
     size_t block_len;

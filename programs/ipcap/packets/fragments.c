@@ -284,21 +284,11 @@ static uint32_t block_type(const struct packet *packet)
     return block_number(packet->block, !packet->is_big_endian);
 }
 
-/* Returns the number of the interface of a packet, which is 0 in a simple packet block and in other files than pcapng. */
-static uint32_t interface_of(const struct packet *packet)
-{
-    if (!packet->block || block_type(packet) == SIMPLE_PACKET) return 0;
-    bool little = !packet->is_big_endian;
-    uint32_t number = block_number(packet->block + 8, little);
-    if (block_type(packet) == ENHANCED_PACKET) return number;
-    return little ? number & 0xffff : number >> 16;
-}
-
 /* Returns the context of a packet: its interface, of which only the last 8 bits count, and its first two VLANs. */
 static uint32_t context_of(const struct packet *packet)
 {
     enum { VLAN_BITS = 24 };
-    return interface_of(packet) << VLAN_BITS | packet->vlans;
+    return packet->interface << VLAN_BITS | packet->vlans;
 }
 
 /*
@@ -314,9 +304,8 @@ static void make_block(struct defragmenter *defragmenter, struct packet *packet)
     put_block_number(block, is_simple ? SIMPLE_PACKET : ENHANCED_PACKET, little);
     put_block_number(block + 4, block_len, little);
     if (!is_simple) {
-        const uint32_t interface = interface_of(packet);
         memmove(block + 8, packet->block + 8, 12);
-        put_block_number(block + 8, interface, little);
+        put_block_number(block + 8, packet->interface, little);
         put_block_number(block + 20, len, little);
     }
     put_block_number(defragmenter->block + BLOCK_HEAD - 4, len, little);

@@ -2,8 +2,11 @@
 //! files expect. Prints each answer that differs, and how many there are in each file. Fails if one differs.
 //!
 //! A line without a space at its start names bytes (`bytes NAME BYTES`, continued by `+ BYTES`) or begins a case. The steps of
-//! a case follow it, each on a line that begins with spaces: a call with its arguments, `->`, and the expected answer. What
-//! follows `#` is a comment.
+//! a case follow it, each on a line that begins with spaces: a call with its arguments, `->`, and the expected answer, in which
+//! bytes follow the word `packet`. What follows `#` is a comment.
+//!
+//! Of the words that say bytes, a name and hexadecimal digits append bytes, `HEXxN` appends a byte N times, `N=HEX` replaces
+//! the bytes from offset N on, and `..N` leaves the first N bytes.
 #![tactic(auto)]
 
 mod arrays;

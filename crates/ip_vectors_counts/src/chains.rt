@@ -75,15 +75,19 @@ fn errors_and_paths_are_part_of_a_key(rt: HostRuntime) -> Result<(), Fail> {
 const LONG: usize = 40 + 8 * 65;
 
 /// Counts a packet of `count` destination options headers in a table of one entry.
-fn count_long(rt: &impl Abort, count: usize, listed: usize, other: u64) {
+fn count_long(rt: &impl Abort, count: u8, listed: usize, other: u64) {
     let mut packet = [0u8; LONG];
     packet[0] = 0x60;
     packet[6] = 60;
-    let len = 8 * count;
+    let len = 8 * usize::from(count);
     packet[4] = (len / 256 % 256) as u8;
     packet[5] = (len % 256) as u8;
     for index in 0..65 {
-        packet[40 + 8 * index] = if index + 1 < count { 60 } else { 59 };
+        packet[40 + 8 * index] = if index + 1 < usize::from(count) {
+            60
+        } else {
+            59
+        };
         packet[42 + 8 * index] = 1;
         packet[43 + 8 * index] = 4;
     }

@@ -16,8 +16,10 @@
 //! No crate here calls it; the plain Rust package has it as the module `bpf`.
 #![tactic(auto)]
 
+mod assembler;
 mod checks;
 mod decode;
+mod encode;
 mod err;
 mod instruction;
 mod laws;
@@ -26,6 +28,7 @@ mod memory;
 mod program;
 mod run;
 
+pub use assembler::Assembler;
 pub use checks::{MAX_INSTRUCTIONS, check};
 pub use err::{InstructionError, ProgramError};
 pub use instruction::{Arithmetic, Comparison, Instruction, Operand, Operation, Register, Width};

@@ -4,4 +4,6 @@
 #[cfg(test)]
 mod assembled;
 #[cfg(test)]
+mod compiled;
+#[cfg(test)]
 mod programs;

@@ -30,10 +30,12 @@ abbrev pub operand_bit : Operand → ℕ
 operand_bit (operand.Constant k) = 0
 operand_bit operand.X = 0x08
 
+-- the constant of an operand, 0 for the index register
 abbrev pub constant_in : Operand → ℕ
 constant_in (operand.Constant k) = k
 constant_in operand.X = 0
 
+-- the bits from 4 on of an operation
 abbrev pub arithmetic_bits : Arithmetic → ℕ
 arithmetic_bits arithmetic.Add = 0x00
 arithmetic_bits arithmetic.Subtract = 0x10
@@ -46,15 +48,18 @@ arithmetic_bits arithmetic.ShiftRight = 0x70
 arithmetic_bits arithmetic.Modulo = 0x90
 arithmetic_bits arithmetic.Xor = 0xa0
 
+-- the bits from 4 on of a conditional jump
 abbrev pub comparison_bits : Comparison → ℕ
 comparison_bits comparison.Equal = 0x10
 comparison_bits comparison.Greater = 0x20
 comparison_bits comparison.GreaterOrEqual = 0x30
 comparison_bits comparison.AnyBit = 0x40
 
+-- an instruction that isn't a conditional jump
 abbrev pub with_constant : ℕ → ℕ → Instruction
 with_constant code k = record { code = code; jt = 0; jf = 0; k = k }
 
+-- the instruction of an operation
 abbrev pub instruction_of : Operation → Instruction
 instruction_of (operation.LoadConstant r k) = with_constant (register_bit r) k
 instruction_of (operation.LoadMemory r k) = with_constant (0x60 + register_bit r) k

@@ -6,7 +6,7 @@ use std::process::Abort;
 /// A TCP packet from 10.0.0.1 to 192.0.2.7, with 4 bytes of IPv4 options.
 const IPV4: &[u8; 24] = b"\x46\0\0\x18\0\0\0\0\x40\x06\0\0\x0a\0\0\x01\xc0\0\x02\x07\x01\x01\x01\0";
 
-/// A packet from 2001:db8:0:1::2 to 2001:db8:ffff::1, without a payload.
+/// A packet from `2001:db8:0:1::2` to `2001:db8:ffff::1`, without a payload.
 const IPV6: &[u8; 40] =
     b"\x60\0\0\0\0\0\x3b\x40\x20\x01\x0d\xb8\0\0\0\x01\0\0\0\0\0\0\0\x02\x20\x01\x0d\xb8\xff\xff\0\0\0\0\0\0\0\0\0\x01";
 

@@ -4,3 +4,5 @@ pub mod MemoryLemmas
 pub mod CheckLemmas
 pub mod StepLemmas
 pub mod ReturnLemmas
+pub mod EncodingLemmas
+pub mod AssemblyLemmas

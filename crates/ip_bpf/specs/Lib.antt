@@ -2,3 +2,5 @@ pub mod Codes
 pub mod Machine
 pub mod Joined
 pub mod Programs
+pub mod Encoding
+pub mod Assembly

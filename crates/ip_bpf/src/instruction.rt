@@ -1,8 +1,10 @@
 //! Instructions, as the kernel has them and decoded.
-ghost use Rattle.std.specs.Prelude.{◌≡◌};
+ghost use Rattle.std.specs.Prelude.{◌≡◌, Some};
 ghost use Rattle.ip_bpf.specs.Codes.{operation_of};
+ghost use Rattle.ip_bpf.specs.Encoding.{instruction_of};
 
 use crate::decode::operation_of;
+use crate::encode::instruction_of;
 
 /// One instruction of a program, in the layout of the kernel's `struct sock_filter`.
 #[repr(C)]
@@ -128,4 +130,14 @@ pub enum Operation {
     CopyToIndex,
     /// Copies the index register to the accumulator.
     CopyToAccumulator,
+}
+
+impl Operation {
+    /// Encodes this operation as an instruction. Fields that it doesn't use are 0.
+    pub fn instruction(self) -> Instruction
+        ensures encoded { result ≡ instruction_of self }
+        ensures decoded { operation_of result ≡ Some self }
+    {
+        instruction_of(self)
+    }
 }

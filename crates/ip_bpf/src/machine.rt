@@ -7,13 +7,15 @@ use crate::{Arithmetic, Comparison, Operand, Operation, Register, Width};
 /// The number of words of the memory.
 pub const MEMORY_WORDS: usize = 16;
 
-/// The registers and the memory of the machine.
+/// The registers and the memory of the machine, of which the contracts of the assembler speak.
 #[derive(Clone, Copy)]
-pub(crate) struct Machine {
-    pub(crate) a: u32,
-    pub(crate) x: u32,
+pub struct Machine {
+    /// The accumulator.
+    pub a: u32,
+    /// The index register.
+    pub x: u32,
     /// The words of the memory, `None` until they are written.
-    pub(crate) memory: [Option<u32>; MEMORY_WORDS],
+    pub memory: [Option<u32>; MEMORY_WORDS],
 }
 
 /// Where an instruction leads.

@@ -1,0 +1,6 @@
+mod BlockLemmas
+mod PacketLemmas
+mod TestLemmas
+mod StartLemmas
+mod LeadLemmas
+mod VerdictLemmas

@@ -1,0 +1,8 @@
+use Rattle.ip_bpf.proofs.AssemblyLemmas.{extends-put, extends-trans}
+use Rattle.ip_filter_bpf.proofs.start.put_whole_ipv4.Goals as goal
+
+pub returns-clause-front : goal.returns-clause-front
+returns-clause-front c =
+    extends-trans c.put-2.new.self c.put.new.self c.args.code.now
+    (extends-put c.put-2.new.self c.put.new.self _ c.put-2.ensures)
+    (extends-trans c.put.new.self c.branch-code.new.self c.args.code.now (extends-put c.put.new.self c.branch-code.new.self _ c.put.ensures) c.branch-code.ensures.front)

@@ -96,7 +96,7 @@ fn step(case: &Case<'_>, room: Room, words: &mut Words<'_>) -> Result<String> {
         call => {
             let mut buffer = vec![in alloc; UNUSED; room.len]?;
             let out = buffer.as_mut_slice();
-            let written = rewrite(case, call, room.authentication, words, out)?;
+            let written = write(case, call, room.authentication, words, out)?;
             rewritten_text(alloc, written, &buffer)
         }
     }
@@ -106,7 +106,7 @@ fn step(case: &Case<'_>, room: Room, words: &mut Words<'_>) -> Result<String> {
 ///
 /// - `without WHICH`, `cleared` or `in-order` and the packet;
 /// - `with-header NUMBER INDEX` or `with-payload NUMBER`, the bytes of header or payload, `/`, and the packet.
-fn rewrite(
+fn write(
     case: &Case<'_>,
     call: &str,
     authentication: Authentication,

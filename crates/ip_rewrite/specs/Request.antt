@@ -62,12 +62,14 @@ change_fault r p room =
 abbrev pub request_fault : Request → DissectedParts → ℕ → Option RewriteError
 request_fault r p room = if concerns r p.headers then change_fault r p room else None
 
--- the packet with these changes, its length and its parts
+-- the packet with these changes
 abbrev pub requested : Request → DissectedParts → List ℕ
 requested r p = rewritten p (changed_headers r p.headers) p.number p.payload
 
+-- its length in bytes
 abbrev pub requested_len : Request → DissectedParts → ℕ
 requested_len r p = rewritten_len p (changed_headers r p.headers) p.payload
 
+-- and its parts
 abbrev pub requested_parts : Request → DissectedParts → DissectedParts
 requested_parts r p = rewritten_parts p (changed_headers r p.headers) p.number p.payload

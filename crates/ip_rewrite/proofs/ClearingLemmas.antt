@@ -1,24 +1,23 @@
 -- A packet with cleared reserved bits.
-use Rattle.ip_spec.proofs.Common.{◌≡◌, ℕ, ◌≤◌, List, [], ◌∷◌, ◌++◌, length, inl, inr, refl, sym, ◌∙◌, ap, arith, and_assoc, Bool, cases_Bool, eqb-true, or-false, or_assoc, ◌&&◌, ◌||◌, ◌==◌, list_any, slice_set, slice_index, length-append, length-set, get_or-set_other, get_or-set_same, get_or_append_left, append_assoc, append-nil, AllByRecursion, bit_and, Option, None, Some, IsHeader, cleared_header, cleared_chain, unreserved_bits, ExtHeader, bytes_of}
+use Rattle.ip_spec.proofs.Common.{◌≡◌, ℕ, ◌≤◌, List, [], ◌∷◌, ◌++◌, length, drop, inl, inr, refl, sym, ◌∙◌, ap, arith, and_assoc, Bool, cases_Bool, eqb-true, or-false, or_assoc, ◌&&◌, ◌||◌, ◌==◌, list_any, slice_set, slice_index, length-append, length-set, get_or-set_other, get_or-set_same, get_or_append_left, append_assoc, append-nil, AllByRecursion, bit_and, Option, None, Some, IsHeader, cleared_header, cleared_chain, unreserved_bits, ExtHeader, bytes_of}
 use Rattle.std.proofs.lemmas.List.{set-append_left}
-use Rattle.ip_spec.proofs.ClearedLemmas.{cleared_is_chain}
+use Rattle.ip_spec.proofs.ClearedLemmas.{cleared_same}
 use Rattle.ip_spec.proofs.HeaderLemmas.{header-least}
 use Rattle.ip_spec.proofs.StepLemmas.{bytes_of-more}
 use Rattle.ip_dissect.specs.LaterDemand.{is_later, has_later, NothingAfterLater}
 use Rattle.ip_dissect.specs.Fragment.{fragments}
 use Rattle.ip_dissect.specs.Dissection.{DissectedParts, dissected}
-use Rattle.ip_dissect.specs.Outline.{IsBaseOf}
+use Rattle.ip_dissect.specs.Outline.{IsBaseOf, is_later_end}
 use Rattle.ip_dissect.specs.declared.dissection.BaseHeader.{BaseHeader}
-use Rattle.ip_rewrite.specs.Base.{number_offset}
 use Rattle.ip_rewrite.specs.Jumbogram.{jumbo_offset}
 use Rattle.ip_rewrite.specs.Rewritten.{rewritten, rewritten_parts}
 use Rattle.ip_rewrite.specs.Without.{is_authentication, packet_fault}
 use Rattle.ip_rewrite.specs.Clearing.{has_reserved, reserved_fragmented, reserved_covered, reserved_fault, clearing_fault}
 use Rattle.ip_rewrite.specs.Writing.{HasOption, link_of}
 use Rattle.ip_rewrite.specs.declared.which.Authentication.{Authentication}
-use Rattle.ip_rewrite.proofs.ChainLemmas.{AreHeaders}
+use Rattle.ip_rewrite.proofs.ChainLemmas.{AreHeaders, NoZero}
 use Rattle.ip_rewrite.proofs.JumbogramLemmas.{has_option}
-use Rattle.ip_rewrite.proofs.DissectLemmas.{none_first, IsWholeChain, whole_chain, changed}
+use Rattle.ip_rewrite.proofs.DissectLemmas.{none_first, whole_chain, CanFollow, as_is, changed}
 
 -- one more header
 pub reserved_more : (after : Bool) (c : List ExtHeader) (h : ExtHeader) → reserved_fragmented after (c ++ h ∷ []) ≡ (reserved_fragmented after c || (after || list_any fragments c) && has_reserved h)
@@ -89,7 +88,7 @@ copy_cleared f r c h = ap (λ x. x ++ r) (append_assoc f (bytes_of (cleared_chai
 high_bits : (x : ℕ) → bit_and (unreserved_bits x) 0xf8 ≡ bit_and x 0xf8
 high_bits x = and_assoc 0xf8 x 0xf9
 
-later_same : (h : ExtHeader) → IsHeader h.number h.bytes → is_later (record { number = h.number; bytes = cleared_header h.number h.bytes }) ≡ is_later h
+pub later_same : (h : ExtHeader) → IsHeader h.number h.bytes → is_later (record { number = h.number; bytes = cleared_header h.number h.bytes }) ≡ is_later h
 later_same h x = elim (cases_Bool (h.number == 44)) [
   | inl s ↦ rw s (fields h.bytes (header-least h.number h.bytes x))
   | inr s ↦ rw s refl
@@ -110,7 +109,7 @@ demand_cleared : (c : List ExtHeader) → AreHeaders c → NothingAfterLater c �
 demand_cleared [] a q = tt
 demand_cleared (h ∷ c) a q = (λ t. ap cleared_chain (q.0 (sym (later_same h a.0) ∙ t)), demand_cleared c a.1 q.1)
 
-cleared_count : (c : List ExtHeader) → length (cleared_chain c) ≡ length c
+pub cleared_count : (c : List ExtHeader) → length (cleared_chain c) ≡ length c
 cleared_count [] = refl
 cleared_count (h ∷ c) = omega (arith, cleared_count c)
 
@@ -123,20 +122,33 @@ has_cleared None c a = tt
 has_cleared (Some k) [] a = a
 has_cleared (Some k) (h ∷ c) a = (a.0, a.1, rw (eqb-true h.number 0 a.0) a.2)
 
+headers_cleared : (c : List ExtHeader) → AreHeaders c → AreHeaders (cleared_chain c)
+headers_cleared [] a = tt
+headers_cleared (h ∷ c) a = ((cleared_same h.bytes h.number a.0).header, headers_cleared c a.1)
+
+no_zero_cleared : (c : List ExtHeader) → NoZero c → NoZero (cleared_chain c)
+no_zero_cleared [] a = tt
+no_zero_cleared (h ∷ c) a = (a.0, no_zero_cleared c a.1)
+
+zero_cleared : (c : List ExtHeader) → NoZero (drop 1 c) → NoZero (drop 1 (cleared_chain c))
+zero_cleared [] a = tt
+zero_cleared (h ∷ c) a = no_zero_cleared c a
+
+pub follow_cleared : (v : ℕ) (l : Bool) (c : List ExtHeader) (m : ℕ) → CanFollow v l c m → CanFollow v l (cleared_chain c) m
+follow_cleared v l c m f = record {
+  headers = headers_cleared c f.headers;
+  zero = zero_cleared c f.zero;
+  later = later_cleared c f.headers ∙ f.later;
+  demand = demand_cleared c f.headers f.demand;
+  ipv6 = f.ipv6;
+  ipv4 = λ four. record { one = omega (arith, (f.ipv4 four).one, cleared_count c); number = cleared_numbers 51 c (f.ipv4 four).number };
+  last = λ four n. omega (arith, f.last four n, cleared_count c);
+}
+
 pub clearing_dissects : (a : Authentication) (room : ℕ) (s : List ℕ) (o : Option BaseHeader) → IsBaseOf s o → clearing_fault a (dissected s) room ≡ None
     → dissected (rewritten (dissected s) (cleared_chain (dissected s).headers) (dissected s).number (dissected s).payload) ≡ rewritten_parts (dissected s) (cleared_chain (dissected s).headers) (dissected s).number (dissected s).payload
 clearing_dissects a room s o is e =
     let p : DissectedParts = dissected s in
     let first = none_first (packet_fault p) _ e in
     let second = none_first (reserved_fault a p) _ first.1 in
-    let chain : IsWholeChain p = whole_chain s o is first.0 in
-    let d = cleared_is_chain (slice_index p.base (number_offset p.version)) p.headers chain.chain in
-    changed (cleared_chain p.headers) p.number p.payload room s o is first.0 (record {
-      headers = d.headers;
-      zero = d.zero_only_first;
-      later = later_cleared p.headers chain.chain.headers ∙ chain.later;
-      demand = demand_cleared p.headers chain.chain.headers chain.demand;
-      ipv6 = chain.ipv6;
-      ipv4 = λ v. record { one = omega (arith, (chain.ipv4 v).one, cleared_count p.headers); number = cleared_numbers 51 p.headers (chain.ipv4 v).number };
-      last = λ v n. omega (arith, chain.last v n, cleared_count p.headers);
-    }) (has_cleared (jumbo_offset p) p.headers (has_option p)) second.1
+    changed (cleared_chain p.headers) p.number p.payload room s o is first.0 (follow_cleared p.version (is_later_end p.end) p.headers p.number (as_is p (whole_chain s o is first.0))) (has_cleared (jumbo_offset p) p.headers (has_option p)) second.1

@@ -302,7 +302,7 @@ kept_option true None h c d e a = tt
 kept_option true (Some k) h c d e a = absurd (cc)
 kept_option false o h c d e a = has_others o h c d a
 
-has_kept : (w : Which) (o : Option ℕ) (c : List ExtHeader) → (let x : Option RewriteError = if selects_first w c && is_some o then Some NotAJumbogram else None in x) ≡ None → HasOption o c → HasOption o (kept w c)
+pub has_kept : (w : Which) (o : Option ℕ) (c : List ExtHeader) → (let x : Option RewriteError = if selects_first w c && is_some o then Some NotAJumbogram else None in x) ≡ None → HasOption o c → HasOption o (kept w c)
 has_kept w o [] e a = a
 has_kept w o (h ∷ c) e a = kept_option (selects w 0 h) o h c (kept_from w (0 + 1) c) e a
 
@@ -314,15 +314,10 @@ without_option w a p room e =
     has_kept w (jumbo_offset p) p.headers third.0 (has_option p)
 
 -- without some headers
-pub dissects : (w : Which) (a : Authentication) (room : ℕ) (s : List ℕ) (o : Option BaseHeader) → IsBaseOf s o → without_fault w a (dissected s) room ≡ None → dissected (without w (dissected s)) ≡ parts_without w (dissected s)
-dissects w a room s o is e =
-    let p : DissectedParts = dissected s in
-    let first = none_first (packet_fault p) _ e in
-    let second = none_first (selection_fault w a p) _ first.1 in
-    let third = none_first (jumbo_fault (selects_first w p.headers) p) _ second.1 in
-    let chain : IsWholeChain p = whole_chain s o is first.0 in
-    let here : IsSelected w p = selected w a p second.0 in
-    changed (kept w p.headers) p.number p.payload room s o is first.0 (record {
+pub follow_kept : (w : Which) (a : Authentication) (p : DissectedParts) → IsWholeChain p → selection_fault w a p ≡ None → CanFollow p.version (is_later_end p.end) (kept w p.headers) p.number
+follow_kept w a p chain e =
+    let here : IsSelected w p = selected w a p e in
+    record {
       headers = all_kept _ w 0 p.headers chain.chain.headers;
       zero = zero_kept w 0 p.headers chain.chain.zero_only_first;
       later = later_kept w 0 p.headers here.alone ∙ chain.later;
@@ -330,10 +325,18 @@ dissects w a room s o is e =
       ipv6 = chain.ipv6;
       ipv4 = λ v. subst (λ (c : List ExtHeader). AtMostOneOf 51 c) (sym (one_kept w p.headers (chain.ipv4 v).one here.some)) (record { one = omega arith; number = tt });
       last = λ v n. absurd (false≢true (sym here.no_header ∙ both (p.version == 4) (p.number == 51) (eq-eqb p.version 4 v) (eq-eqb p.number 51 n)));
-    }) (without_option w a p room e) third.1
+    }
   where
     both : (x y : Bool) → x ≡ true → y ≡ true → (x && y) ≡ true
     both x y first second = rw (first, second) refl
+
+pub dissects : (w : Which) (a : Authentication) (room : ℕ) (s : List ℕ) (o : Option BaseHeader) → IsBaseOf s o → without_fault w a (dissected s) room ≡ None → dissected (without w (dissected s)) ≡ parts_without w (dissected s)
+dissects w a room s o is e =
+    let p : DissectedParts = dissected s in
+    let first = none_first (packet_fault p) _ e in
+    let second = none_first (selection_fault w a p) _ first.1 in
+    let third = none_first (jumbo_fault (selects_first w p.headers) p) _ second.1 in
+    changed (kept w p.headers) p.number p.payload room s o is first.0 (follow_kept w a p (whole_chain s o is first.0) second.0) (without_option w a p room e) third.1
 
 -- the bytes that are written
 pub stating_size : (v : ℕ) (b : List ℕ) (t : ℕ) → length (base_stating v b t) ≡ length b

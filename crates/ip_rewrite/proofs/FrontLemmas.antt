@@ -45,7 +45,7 @@ front_set l b (h ∷ c) m n r less a =
     ∙ (ap (λ x. first ++ x) (front_set 0 h.bytes c m n r least a.1) ∙ sym (append_assoc first (front_with 0 h.bytes c n) r))))
 
 -- one more header
-front_more : (l : ℕ) (b : List ℕ) (c : List ExtHeader) (h : ExtHeader) → front_with l b (c ++ h ∷ []) (next_header h.bytes) ≡ front_with l b c h.number ++ h.bytes
+pub front_more : (l : ℕ) (b : List ℕ) (c : List ExtHeader) (h : ExtHeader) → front_with l b (c ++ h ∷ []) (next_header h.bytes) ≡ front_with l b c h.number ++ h.bytes
 front_more l b [] h =
     let same : slice_set h.bytes 0 (slice_index h.bytes 0) ≡ h.bytes = set-get_or h.bytes 0 0 in
     ap (λ x. slice_set b l h.number ++ x) (append-nil (slice_set h.bytes 0 (slice_index h.bytes 0)) ∙ same) ∙ ap (λ x. x ++ h.bytes) (sym (append-nil (slice_set b l h.number)))

@@ -23,3 +23,5 @@ pub mod AcceptedLemmas
 pub mod OrderLemmas
 pub mod OrderLawLemmas
 pub mod OrderingLemmas
+pub mod RequestLemmas
+pub mod RequestedLemmas

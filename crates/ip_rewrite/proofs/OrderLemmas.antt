@@ -229,7 +229,7 @@ zero_first (h ∷ c) a = subst (λ x. NoZero (drop 1 x)) (sym (split (h ∷ c)))
 ])
 
 -- The headers of the ranks below k are no longer than all.
-bytes_joined : (c d : List ExtHeader) → length (bytes_of (c ++ d)) ≡ length (bytes_of c) + length (bytes_of d)
+pub bytes_joined : (c d : List ExtHeader) → length (bytes_of (c ++ d)) ≡ length (bytes_of c) + length (bytes_of d)
 bytes_joined [] d = omega arith
 bytes_joined (h ∷ c) d = omega (arith, bytes_joined c d, length-append h.bytes (bytes_of (c ++ d)), length-append h.bytes (bytes_of c))
 

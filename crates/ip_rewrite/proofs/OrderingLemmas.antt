@@ -1,5 +1,5 @@
 -- A packet whose headers are put in order dissects as the old one with this order.
-use Rattle.ip_spec.proofs.Common.{◌≡◌, ℕ, List, [], ◌∷◌, inl, inr, subst, refl, sym, ◌∙◌, arith, common_steps, Bool, true, false, false≢true, cases_Bool, ◌||◌, list_any, AllByRecursion, None, IsHeader, ExtHeader}
+use Rattle.ip_spec.proofs.Common.{◌≡◌, ℕ, ◌⊎◌, List, [], ◌∷◌, inl, inr, subst, refl, sym, ◌∙◌, arith, common_steps, Bool, true, false, false≢true, cases_Bool, ◌||◌, list_any, AllByRecursion, None, IsHeader, ExtHeader}
 use Rattle.ip_dissect.specs.LaterDemand.{is_later, has_later}
 use Rattle.ip_dissect.specs.Fragment.{fragments}
 use Rattle.ip_dissect.specs.Dissection.{DissectedParts, dissected}
@@ -14,7 +14,7 @@ use Rattle.ip_rewrite.specs.declared.which.Authentication.{Authentication}
 use Rattle.ip_rewrite.proofs.ChainLemmas.{not_later}
 use Rattle.ip_rewrite.specs.Jumbogram.{jumbo_offset}
 use Rattle.ip_rewrite.proofs.JumbogramLemmas.{has_option}
-use Rattle.ip_rewrite.proofs.DissectLemmas.{none_first, IsWholeChain, whole_chain, CanFollow, as_is, changed}
+use Rattle.ip_rewrite.proofs.DissectLemmas.{none_first, whole_chain, CanFollow, as_is, changed}
 use Rattle.ip_rewrite.proofs.OrderLemmas.{all_ordered, ordered_count, has_ordered, zero_first}
 use Rattle.ip_rewrite.proofs.OrderLawLemmas.{in_order_same}
 
@@ -38,24 +38,26 @@ later_none (h ∷ c) a = rw (a.0, later_none c a.1) refl
 unfragmented : (a : Authentication) (p : DissectedParts) → is_in_order p.headers ≡ false → order_fault a p ≡ None → list_any fragments p.headers ≡ false
 unfragmented a p s e = grind (arith, common_steps)
 
-follows : (a : Authentication) (p : DissectedParts) → IsWholeChain p → order_fault a p ≡ None → CanFollow p.version (is_later_end p.end) (in_order p.headers) p.number
-follows a p chain e =
-    let c : List ExtHeader = p.headers in
-    elim (cases_Bool (is_in_order c)) [
-      | inl s ↦ subst (λ d. CanFollow p.version (is_later_end p.end) d p.number) (sym (in_order_same 0 c s)) (as_is p chain)
-      | inr s ↦
-          let none : AllByRecursion (λ h. is_later h ≡ false) c = none_later c (unfragmented a p s e) in
-          let still : has_later (in_order c) ≡ false = later_none (in_order c) (all_ordered (λ h. is_later h ≡ false) c none) in
-          record {
-            headers = all_ordered (λ g. IsHeader g.number g.bytes) c chain.chain.headers;
-            zero = zero_first c chain.chain.zero_only_first;
-            later = still ∙ (sym (later_none c none) ∙ chain.later);
-            demand = met (in_order c) still;
-            ipv6 = chain.ipv6;
-            ipv4 = λ v. record { one = omega (arith, (chain.ipv4 v).one, ordered_count c); number = all_ordered (λ g. g.number ≡ 51) c (chain.ipv4 v).number };
-            last = λ v n. omega (arith, chain.last v n, ordered_count c);
-          }
-    ]
+-- Headers that are in order, or of which none is that of a later fragment, can be put in order.
+abbrev pub CanOrder : List ExtHeader → Type 0
+CanOrder c = (is_in_order c ≡ true) ⊎ AllByRecursion (λ h. is_later h ≡ false) c
+
+pub can_order : (a : Authentication) (p : DissectedParts) → order_fault a p ≡ None → CanOrder p.headers
+can_order a p e = elim (cases_Bool (is_in_order p.headers)) [ inl s ↦ inl s | inr s ↦ inr (none_later p.headers (unfragmented a p s e)) ]
+
+pub follow_ordered : (v : ℕ) (l : Bool) (c : List ExtHeader) (m : ℕ) → CanOrder c → CanFollow v l c m → CanFollow v l (in_order c) m
+follow_ordered v l c m (inl s) f = subst (λ d. CanFollow v l d m) (sym (in_order_same 0 c s)) f
+follow_ordered v l c m (inr none) f =
+    let still : has_later (in_order c) ≡ false = later_none (in_order c) (all_ordered (λ h. is_later h ≡ false) c none) in
+    record {
+      headers = all_ordered (λ g. IsHeader g.number g.bytes) c f.headers;
+      zero = zero_first c f.zero;
+      later = still ∙ (sym (later_none c none) ∙ f.later);
+      demand = met (in_order c) still;
+      ipv6 = f.ipv6;
+      ipv4 = λ four. record { one = omega (arith, (f.ipv4 four).one, ordered_count c); number = all_ordered (λ g. g.number ≡ 51) c (f.ipv4 four).number };
+      last = λ four n. omega (arith, f.last four n, ordered_count c);
+    }
 
 pub ordering_dissects : (a : Authentication) (room : ℕ) (s : List ℕ) (o : Option BaseHeader) → IsBaseOf s o → ordering_fault a (dissected s) room ≡ None
     → dissected (rewritten (dissected s) (in_order (dissected s).headers) (dissected s).number (dissected s).payload) ≡ rewritten_parts (dissected s) (in_order (dissected s).headers) (dissected s).number (dissected s).payload
@@ -63,4 +65,4 @@ ordering_dissects a room s o is e =
     let p : DissectedParts = dissected s in
     let first = none_first (packet_fault p) _ e in
     let rest = none_first (order_fault a p) _ first.1 in
-    changed (in_order p.headers) p.number p.payload room s o is first.0 (follows a p (whole_chain s o is first.0) rest.0) (has_ordered (jumbo_offset p) p.headers (has_option p)) rest.1
+    changed (in_order p.headers) p.number p.payload room s o is first.0 (follow_ordered p.version (is_later_end p.end) p.headers p.number (can_order a p rest.0) (as_is p (whole_chain s o is first.0))) (has_ordered (jumbo_offset p) p.headers (has_option p)) rest.1

@@ -9,3 +9,5 @@ pub mod Payload
 pub mod Clearing
 pub mod Insertion
 pub mod Order
+pub mod Request
+pub mod Planning

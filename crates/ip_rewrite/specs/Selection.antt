@@ -2,13 +2,22 @@
 use Rattle.std.specs.Prelude.{ℕ, ◌+◌, Bool, false, List, [], ◌∷◌, ◌==◌, ◌||◌, ◌&&◌, if◌then◌else◌}
 use Rattle.ip_spec.specs.Chain.{ExtHeader}
 use Rattle.ip_dissect.specs.Fragment.{fragments}
+use Rattle.ip_spec.specs.Numbers.{HOP_BY_HOP, ROUTING, FRAGMENT, AUTHENTICATION, DESTINATION_OPTIONS}
+use Rattle.ip_rewrite.specs.declared.which.HeaderSet.{HeaderSet}
 use Rattle.ip_rewrite.specs.declared.which.Which.{Which}
-use Rattle.ip_rewrite.specs.declared.which.Which.TheVariants.{Index, Number}
+use Rattle.ip_rewrite.specs.declared.which.Which.TheVariants.{Index, Number, Headers}
+
+-- the headers of the number n are in the set
+abbrev pub has_number : HeaderSet → ℕ → Bool
+has_number s n =
+    (n == HOP_BY_HOP) && s.hop_by_hop || (n == ROUTING) && s.routing || (n == FRAGMENT) && s.fragment || (n == AUTHENTICATION) && s.authentication
+    || (n == DESTINATION_OPTIONS) && s.destination_options
 
 -- the header h with the index i is selected
 abbrev pub selects : Which → ℕ → ExtHeader → Bool
 selects (Index j) i h = i == j
 selects (Number n) i h = h.number == n.0
+selects (Headers s) i h = has_number s h.number
 
 -- of headers whose first has the index i, those that are not selected
 abbrev pub kept_from : Which → ℕ → List ExtHeader → List ExtHeader

@@ -8,28 +8,27 @@ ghost use Rattle.ip_spec.specs.Chain.{ExtHeader, bytes_of};
 ghost use Rattle.ip_spec.specs.Encoding.{cleared_header, cleared_chain};
 ghost use Rattle.ip_dissect.specs.Dissection.{DissectedParts, dissected};
 ghost use Rattle.ip_dissect.specs.Fragment.{fragments};
-ghost use Rattle.ip_dissect.specs.Outline.{outline_of};
 ghost use Rattle.ip_rewrite.specs.Rewritten.{rewritten, rewritten_len, rewritten_field, rewritten_parts};
-ghost use Rattle.ip_rewrite.specs.Without.{is_authentication, packet_fault};
+ghost use Rattle.ip_rewrite.specs.Without.{is_authentication, packet_fault, is_ipv4_fragment};
 ghost use Rattle.ip_rewrite.specs.Clearing.{has_reserved, reserved_fragmented, reserved_covered, reserved_fault, clearing_fault};
 ghost use Rattle.ip_rewrite.specs.Writing.{link_of};
 
-use crate::removal::test_packet;
+use crate::removal::{is_ipv4_fragment, test_packet};
 use crate::survey::fragments;
 use crate::write::{copy_headers, finish, link_after, test_room};
 use crate::{Authentication, RewriteError, Rewritten};
 use ip_base::{IpNumber, ip_number};
-use ip_dissect::{HeaderVisitor, Outline, Packet};
+use ip_dissect::{HeaderVisitor, Packet};
 
 /// What was seen of the reserved bits of a packet's headers.
 #[derive(Clone, Copy, Debug, Default)]
-struct Reserved {
+pub(crate) struct Reserved {
     /// There is an authentication header.
     has_authentication: bool,
     /// What follows is fragmented.
     is_fragmented: bool,
     /// Some bit is 1.
-    is_set: bool,
+    pub(crate) is_set: bool,
     /// Some bit is 1 in a header that is fragmented.
     is_set_fragmented: bool,
     /// Some bit is 1 in a header that an authentication header covers.
@@ -91,7 +90,7 @@ fn clear(number: IpNumber, bytes: &mut [u8])
 
 /// Clears the reserved bits of the header of this number at an offset of a buffer.
 #[inline(always)]
-fn clear_at(number: IpNumber, offset: usize, out: &mut [u8])
+pub(crate) fn clear_at(number: IpNumber, offset: usize, out: &mut [u8])
     ensures { (f b r : List ℕ) → IsHeader number.0 b → offset ≡ length f → out.old ≡ f ++ b ++ r
         → out.new ≡ f ++ cleared_header number.0 b ++ r }
 {
@@ -123,18 +122,17 @@ impl HeaderVisitor for Clearer<'_> {
 
 /// Returns why the reserved bits can't be cleared.
 #[inline(always)]
-fn test_reserved(
-    outline: &Outline,
+pub(crate) fn test_reserved(
+    is_fragment: bool,
     reserved: &Reserved,
     authentication: Authentication,
 ) -> Result<(), RewriteError>
-    ensures { (p : DissectedParts) → outline.now ≡ outline_of p
+    ensures { (p : DissectedParts) → is_fragment ≡ is_ipv4_fragment p
         → reserved.now.is_set ≡ list_any has_reserved p.headers
         → reserved.now.is_set_fragmented ≡ reserved_fragmented false p.headers
         → reserved.now.is_set_covered ≡ reserved_covered false p.headers
         → result_err result ≡ reserved_fault authentication p }
 {
-    let is_fragment = outline.version == 4 && outline.fragment.is_some();
     if is_fragment & reserved.is_set | reserved.is_set_fragmented {
         return Err(RewriteError::Fragmented);
     }
@@ -168,7 +166,8 @@ fn test(
 {
     let outline = &packet.outline;
     test_packet(outline)?;
-    test_reserved(outline, reserved, authentication)?;
+    let is_fragment = is_ipv4_fragment(outline);
+    test_reserved(is_fragment, reserved, authentication)?;
     test_room(packet, outline.extensions_len, outline.payload_len, room)
 }
 

@@ -2,12 +2,13 @@
 //!
 //! | To | Call |
 //! |---|---|
-//! | leave out headers: the one with an index, or all with a number | `without`, with `Which::Index` or `Which::Number` |
+//! | leave out headers: the one with an index, or all with a number or several | `without`, with a `Which` |
 //! | insert a header before the one with an index | `with_header`; `recommended_index` returns the index in the recommended order |
 //! | write another payload after the same headers | `with_payload` |
 //! | set the reserved bits of fragment and authentication headers to zero | `cleared` |
 //! | put the headers in the order that RFC 8200, section 4.1, recommends | `in_order` |
 //! | ask whether these two would change headers | `has_reserved_bits`, `is_in_order` |
+//! | leave out headers of several numbers, clear bits and put in order at once, where there is something to change | `rewrite` |
 //!
 //! What is written dissects as the old packet with this change. Nothing else changes but the base header's length,
 //! IPv4's checksum, which is computed anew (RFC 1071), next headers, and a jumbogram's length in its option (RFC
@@ -28,6 +29,7 @@
 #![tactic(auto)]
 
 mod base;
+mod both;
 mod checksum_laws;
 mod clearing;
 mod err;
@@ -37,14 +39,19 @@ mod insertion;
 mod insertion_laws;
 mod jumbogram;
 mod keeper;
+mod kept;
 mod order;
 mod order_laws;
 mod payload;
 mod place;
+mod plan;
 mod removal;
+mod request;
+mod rewriting;
 mod survey;
 mod which;
 mod write;
+mod writer;
 
 pub use checksum_laws::written_checksums_are_right;
 pub use clearing::{cleared, has_reserved_bits};
@@ -56,4 +63,6 @@ pub use order_laws::headers_are_put_in_order;
 pub use payload::with_payload;
 pub use place::recommended_index;
 pub use removal::{Rewritten, without};
-pub use which::{Authentication, Which};
+pub use request::Request;
+pub use rewriting::rewrite;
+pub use which::{Authentication, HeaderSet, Which};

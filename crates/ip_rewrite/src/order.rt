@@ -22,7 +22,7 @@ use ip_base::{IpNumber, ip_number};
 use ip_dissect::{HeaderVisitor, Outline, Packet};
 
 /// How many ranks there are.
-const RANKS: u8 = 5;
+pub(crate) const RANKS: u8 = 5;
 
 /// What was seen of a packet's headers.
 #[derive(Clone, Copy, Debug, Default)]
@@ -74,13 +74,13 @@ pub(crate) fn rank(number: IpNumber, index: usize, last_routing: usize) -> u8
 
 /// What was seen of the order of a packet's headers.
 #[derive(Clone, Copy, Debug)]
-struct Order {
+pub(crate) struct Order {
     /// The index of the last routing header, or 0 without one.
-    last_routing: usize,
+    pub(crate) last_routing: usize,
     /// The rank of the last header.
-    last: u8,
+    pub(crate) last: u8,
     /// No rank is lower than the one before it.
-    rises: bool,
+    pub(crate) rises: bool,
 }
 
 impl HeaderVisitor for Order {
@@ -209,7 +209,7 @@ fn write_headers(packet: &Packet<'_>, last_routing: usize, offset: usize, out: &
 
 /// Returns why the order of the headers can't change.
 #[inline(always)]
-fn test_order(
+pub(crate) fn test_order(
     contents: &Contents,
     ordered: bool,
     authentication: Authentication,

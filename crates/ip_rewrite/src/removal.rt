@@ -6,7 +6,7 @@ ghost use Rattle.ip_spec.specs.Numbers.{AUTHENTICATION};
 ghost use Rattle.ip_dissect.specs.Outline.{is_later_end, outline_of};
 ghost use Rattle.ip_rewrite.specs.Rewritten.{rewritten_field};
 ghost use Rattle.ip_rewrite.specs.Selection.{kept};
-ghost use Rattle.ip_rewrite.specs.Without.{packet_fault, selection_fault, without, len_without, parts_without, without_fault, keeps_checksums};
+ghost use Rattle.ip_rewrite.specs.Without.{packet_fault, is_ipv4_fragment, selection_fault, without, len_without, parts_without, without_fault, keeps_checksums};
 ghost use Rattle.ip_rewrite.specs.Writing.{SelectsFirst, no_survey, surveyed};
 ghost use Rattle.ip_rewrite.specs.declared.which.Which.TheVariants.{Index};
 
@@ -55,9 +55,17 @@ pub(crate) fn authentication_follows(outline: &Outline) -> bool
     outline.is_later_fragment && outline.next_header == ip_number::AUTH
 }
 
+/// Returns whether the packet is an IPv4 fragment, by its base header.
+#[inline(always)]
+pub(crate) fn is_ipv4_fragment(outline: &Outline) -> bool
+    ensures { (p : DissectedParts) → outline.now ≡ outline_of p → result ≡ is_ipv4_fragment p }
+{
+    outline.version == 4 && outline.fragment.is_some()
+}
+
 /// Returns why the headers that are selected can't be left out.
 #[inline(always)]
-fn test_selection(
+pub(crate) fn test_selection(
     outline: &Outline,
     survey: &Survey,
     authentication: Authentication,

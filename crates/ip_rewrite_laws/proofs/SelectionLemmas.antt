@@ -9,7 +9,7 @@ use Rattle.ip_rewrite.specs.Selection.{selects, kept_from, any_selected, selects
 use Rattle.ip_rewrite.specs.Without.{packet_fault, selection_fault, without_fault}
 use Rattle.ip_rewrite.specs.declared.which.Authentication.{Authentication}
 use Rattle.ip_rewrite.specs.declared.which.Which.{Which}
-use Rattle.ip_rewrite.specs.declared.which.Which.TheVariants.{Index, Number}
+use Rattle.ip_rewrite.specs.declared.which.Which.TheVariants.{Index, Number, Headers}
 use Rattle.ip_rewrite.proofs.DissectLemmas.{none_first}
 use Rattle.ip_rewrite.proofs.FrontLemmas.{joined_len}
 
@@ -49,6 +49,7 @@ kept_before w i after (h ∷ c) x rest own none free =
 selects_same : (w : Which) (i : ℕ) (h : ExtHeader) (b : List ℕ) → selects w i (record { number = h.number; bytes = b }) ≡ selects w i h
 selects_same (Index j) i h b = refl
 selects_same (Number n) i h b = refl
+selects_same (Headers s) i h b = refl
 
 pub first_kept : (w : Which) (i k m : ℕ) (c : List ExtHeader) → number_of_first (kept_from w i (linked_headers k c)) m ≡ number_of_first (kept_from w i c) m
 first_kept w i k m [] = refl

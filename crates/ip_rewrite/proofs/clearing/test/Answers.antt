@@ -26,7 +26,7 @@ returns-clause-fault c =
     let p : DissectedParts = dissected c.args.packet.now.bytes.now in
     let d : List ExtHeader = cleared_chain p.headers in
     let packet : packet_fault p ≡ None = sym (c.in_ok-test_packet.ensures.fault p c.args.packet.now.outline_is) in
-    let reserved : reserved_fault c.args.authentication p ≡ None = sym (c.in_ok-test_reserved.ensures p c.args.packet.now.outline_is c.requires.set c.requires.fragmented c.requires.covered) in
+    let reserved : reserved_fault c.args.authentication p ≡ None = sym (c.in_ok-test_reserved.ensures p (c.is_ipv4_fragment-is_fragment.ensures p c.args.packet.now.outline_is) c.requires.set c.requires.fragmented c.requires.covered) in
     let size : c.args.packet.now.outline.extensions_len ≡ length (bytes_of d) = ap (λ (o : Outline). o.extensions_len) c.args.packet.now.outline_is ∙ sym (cleared_len p.headers) in
     let payload : c.args.packet.now.outline.payload_len ≡ length p.payload = ap (λ (o : Outline). o.payload_len) c.args.packet.now.outline_is in
     c.test_room.ensures.fault d p.payload size payload ∙ sym (both_none (packet_fault p) (reserved_fault c.args.authentication p) (room_fault p d p.payload c.args.room) packet reserved)

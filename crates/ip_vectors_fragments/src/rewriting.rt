@@ -8,8 +8,8 @@ use crate::packets::{
 };
 use ip_base::{IpNumber, ip_number};
 use ip_rewrite::{
-    Authentication, RewriteError, Rewritten, Which, cleared, has_reserved_bits, in_order,
-    is_in_order, recommended_index, with_header, with_payload, without,
+    Authentication, HeaderSet, Request, RewriteError, Rewritten, Which, cleared, has_reserved_bits,
+    in_order, is_in_order, recommended_index, rewrite, with_header, with_payload, without,
 };
 use std::process::Abort;
 use std::test::Fail;
@@ -118,6 +118,56 @@ fn assert_rows(rt: &impl Abort, rows: &[Row<'_>]) -> Result<(), Fail> {
     for row in rows {
         assert_row(rt, row)?;
     }
+    Ok(())
+}
+
+/// Returns what a request makes of a packet: its length, or `None` if it changes nothing, and the bytes.
+fn requested(
+    packet: &[u8],
+    request: Request,
+    room: usize,
+) -> (Result<Option<usize>, RewriteError>, [u8; 128]) {
+    let mut buffer = [0x5au8; 128];
+    let out = buffer.get_mut(..room).unwrap_or_default();
+    let result = rewrite(packet, request, out);
+    (result.map(|done| done.map(|it| it.len)), buffer)
+}
+
+#[test]
+fn several_changes(rt: HostRuntime) -> Result<(), Fail> {
+    let routing = HeaderSet {
+        routing: true,
+        ..HeaderSet::default()
+    };
+    let options = HeaderSet {
+        hop_by_hop: true,
+        ..HeaderSet::default()
+    };
+    let request = |numbers: HeaderSet| Request {
+        without: Which::Headers(numbers),
+        clears: true,
+        orders: true,
+        authentication: Authentication::Valid,
+    };
+    let (no_routing, bytes) = requested(&CHAIN, request(routing), 128);
+    assert!(rt;
+        no_routing == Ok(Some(CHAIN_NO_ROUTING.len())),
+        "{no_routing:?}"
+    );
+    assert!(rt; bytes.starts_with(&CHAIN_NO_ROUTING), "{bytes:?}");
+    let (no_options, bytes) = requested(&CHAIN, request(options), 128);
+    assert!(rt;
+        no_options == Ok(Some(CHAIN_NO_OPTIONS.len())),
+        "{no_options:?}"
+    );
+    assert!(rt; bytes.starts_with(&CHAIN_NO_OPTIONS), "{bytes:?}");
+    let (same, bytes) = requested(&CHAIN_NO_OPTIONS, request(options), 128);
+    assert!(rt; same == Ok(None) && bytes == [0x5a; 128], "{same:?}");
+    let (no_room, bytes) = requested(&CHAIN, request(options), 0);
+    assert!(rt;
+        no_room == Err(RewriteError::NoRoom) && bytes == [0x5a; 128],
+        "{no_room:?}"
+    );
     Ok(())
 }
 

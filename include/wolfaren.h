@@ -64,10 +64,10 @@
 #define WOLFAREN_VERSION (10000 * WOLFAREN_VERSION_MAJOR + 100 * WOLFAREN_VERSION_MINOR + WOLFAREN_VERSION_PATCH)
 
 /* A checksum of the structs, numbers and calls in this header, made by scripts/abi of the repository. */
-#define WOLFAREN_ABI 0x4ac7c4abu
+#define WOLFAREN_ABI 0xe4bd7329u
 
 /* The symbol that is named after the checksum. */
-#define WOLFAREN_ABI_SYMBOL wolfaren_abi_4ac7c4ab
+#define WOLFAREN_ABI_SYMBOL wolfaren_abi_e4bd7329
 
 /* The machines for which the library is built. That of `make rust-c` is for any machine, and its users define WOLFAREN_PLAIN. */
 #ifdef WOLFAREN_PLAIN
@@ -1114,6 +1114,31 @@ WOLFAREN_USE_RESULT
 bool wolfaren_in_order(const uint8_t *bytes, size_t len, bool may_be_invalid, uint8_t *out, size_t room,
                        struct wolfaren_rewritten *rewritten) WOLFAREN_NONNULL(6);
 
+/* What wolfaren_rewrite changes in a packet. Each field is 0 for no, otherwise 1. */
+struct wolfaren_request {
+    uint8_t without_hop_by_hop;          /* leaves out hop-by-hop options */
+    uint8_t without_routing;             /* leaves out routing headers */
+    uint8_t without_fragment;            /* leaves out fragment headers */
+    uint8_t without_authentication;      /* leaves out authentication headers */
+    uint8_t without_destination_options; /* leaves out destination options */
+    uint8_t clears;                      /* sets the reserved bits of the other headers to zero, as wolfaren_cleared does */
+    uint8_t orders;                      /* puts the other headers in the recommended order, as wolfaren_in_order does */
+    uint8_t may_be_invalid;              /* changes packets that keep an authentication header, too */
+};
+
+/*
+ * Writes a packet as wolfaren_without_number does, with all changes of a request: headers are left out, the reserved bits of
+ * the others are set to zero, and these are put in order. If `room` is `len`, it is enough.
+ *
+ * Returns false and writes nothing to `out` if the request changes no header; then `refusal` is WOLFAREN_NOT_REFUSED. Also if
+ * one of the changes can't be made; then `refusal` is that of the first such change, in the order above. What is wrong with the
+ * length of the whole comes after them, and WOLFAREN_REFUSED_NO_ROOM last. So a call with `room` 0 says whether a packet is
+ * changed before there is memory for it.
+ */
+WOLFAREN_USE_RESULT
+bool wolfaren_rewrite(const uint8_t *bytes, size_t len, const struct wolfaren_request *request, uint8_t *out, size_t room,
+                      struct wolfaren_rewritten *rewritten) WOLFAREN_NONNULL(3, 6);
+
 /* A buffer size, in bytes, that is large enough for any text of wolfaren_fault_text and its terminating null byte. */
 #define WOLFAREN_TEXT_ROOM 256
 
@@ -1499,6 +1524,7 @@ WOLFAREN_LAYOUT(wolfaren_links, 32, previous_count, 24);
 WOLFAREN_LAYOUT(wolfaren_defragmenter, 136, settings, 112);
 WOLFAREN_LAYOUT(wolfaren_added, 16, loss, 9);
 WOLFAREN_LAYOUT(wolfaren_rewritten, 16, keeps_checksums, 9);
+WOLFAREN_LAYOUT(wolfaren_request, 8, may_be_invalid, 7);
 WOLFAREN_LAYOUT(wolfaren_filter_test, 32, if_not, 29);
 WOLFAREN_LAYOUT(wolfaren_filter, 2056, tests, 8);
 WOLFAREN_LAYOUT(wolfaren_filter_error, 16, expected, 8);

@@ -1,4 +1,4 @@
-"""Tests of `without`, `with_header`, `with_payload`, `cleared`, `has_reserved_bits`, `in_order` and `is_in_order`. Packets with the change are made here, and by scapy."""
+"""Tests of `without`, `with_header`, `with_payload`, `cleared`, `has_reserved_bits`, `in_order`, `is_in_order` and `rewrite`. Packets with the change are made here, and by scapy."""
 
 import copy
 import itertools
@@ -7,7 +7,8 @@ import unittest
 
 from support import LATER_FRAGMENT, TCP, UDP, authentication, fragment, header, ipv4, ipv6, ipv6_chain, options
 
-from wolfaren import Refusal, RewriteError, cleared, has_reserved_bits, in_order, is_in_order, with_header, with_payload, without
+from wolfaren import (Refusal, RewriteError, Rewritten, cleared, has_reserved_bits, in_order, is_in_order, rewrite, with_header,
+                      with_payload, without)
 
 
 class Rewrites(unittest.TestCase):
@@ -54,6 +55,25 @@ class Rewrites(unittest.TestCase):
             self.assertEqual(with_payload(ipv6_chain(numbers) + b"padding", number, payload), (wanted, False))
         self.assertEqual(with_payload(ipv4(6, TCP), 17, UDP), (ipv4(17, UDP), False))
         self.assertEqual(with_payload(ipv6_chain([51]), 6, TCP, may_be_invalid=True).packet, ipv6_chain([51], final=6, payload=TCP))
+
+    def test_several_changes(self):
+        packet = bytearray(ipv6_chain([60, 44, 51, 60, 44]))
+        packet[40 + len(options(0)) + 1] = 0x80
+        wanted = ipv6_chain([44, 60, 60, 44])
+        self.assertEqual(rewrite(bytes(packet) + b"padding", without=[51], clears=True).packet, ipv6_chain([60, 44, 60, 44]))
+        ordered = in_order(rewrite(bytes(packet), without=[51], clears=True).packet)
+        self.assertEqual(rewrite(packet, without={51}, clears=True, orders=True), ordered)
+        self.assertEqual(len(ordered.packet), len(wanted))
+        self.assertEqual(rewrite(ipv6_chain([0, 60, 43, 60]), without=[0, 43, 60]), Rewritten(ipv6_chain([]), True))
+        for change in ({}, {"without": [0, 43]}, {"without": [0], "may_be_invalid": True}):
+            self.assertIsNone(rewrite(packet, **change))
+        self.assertIsNone(rewrite(ipv6_chain([0, 44, 51, 60]), clears=True, orders=True))
+        self.assertIsNone(rewrite(b"", without=[0], clears=True, orders=True))
+        self.assert_refused(Refusal.AUTHENTICATED, ipv6_chain([51, 60]), call=rewrite, without=[60])
+        self.assertEqual(rewrite(ipv6_chain([51, 60]), without=[60], may_be_invalid=True).packet, ipv6_chain([51]))
+        self.assert_refused(Refusal.MISSING, packet[:-1], call=rewrite, clears=True)
+        with self.assertRaises(ValueError):
+            rewrite(packet, without=[50])
 
     def test_cleared(self):
         packet = bytearray(ipv6_chain([60, 44, 60, 44]))

@@ -1,13 +1,13 @@
 //! Callers of the calls that write packets with other extension headers.
-ghost use Rattle.std.specs.Prelude.{◌≡◌, ◌↔◌, take, IfSome, IfNone, IsTrue};
+ghost use Rattle.std.specs.Prelude.{◌≡◌, ◌↔◌, take, IfOk, IfSome, IfNone, IsTrue, OnErr, None};
 ghost use Rattle.ip_spec.specs.Encoding.{cleared_chain};
 ghost use Rattle.ip_dissect.specs.Dissection.{dissected};
 ghost use Rattle.ip_rewrite.specs.Order.{in_order};
 
 use ip_base::ip_number;
 use ip_rewrite::{
-    Authentication, Which, cleared, has_reserved_bits, in_order, is_in_order, recommended_index,
-    with_header, without,
+    Authentication, HeaderSet, Request, RewriteError, Which, cleared, has_reserved_bits, in_order,
+    is_in_order, recommended_index, rewrite, with_header, without,
 };
 
 /// Writes the packet without its first extension header to `out`, unless an authentication header covers it, and returns its
@@ -66,4 +66,29 @@ pub fn is_normal(packet: &[u8]) -> bool
         IsTrue result ↔ ((cleared_chain c ≡ c) × (in_order c ≡ c)) }
 {
     !has_reserved_bits(packet) && is_in_order(packet)
+}
+
+/// Writes the packet without hop-by-hop options and routing headers, and with the others cleared and in order, to `out`, and
+/// returns its length in bytes, or `None` if it is so already. Its payload is the same.
+pub fn normalized(packet: &[u8], out: &mut [u8]) -> Result<Option<usize>, RewriteError>
+    ensures payload { IfOk result (λ o. IfSome o (λ len.
+        (dissected (take len out.new)).payload ≡ (dissected packet.now).payload)) }
+    ensures unchanged { IfOk result (λ o. o ≡ None → out.new ≡ out.old) }
+    ensures stays { OnErr result (out.new ≡ out.old) }
+{
+    let without = HeaderSet {
+        hop_by_hop: true,
+        routing: true,
+        ..HeaderSet::default()
+    };
+    let request = Request {
+        without: Which::Headers(without),
+        clears: true,
+        orders: true,
+        authentication: Authentication::Valid,
+    };
+    match rewrite(packet, request, out)? {
+        Some(written) => Ok(Some(written.len)),
+        None => Ok(None),
+    }
 }

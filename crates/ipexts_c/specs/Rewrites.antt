@@ -1,13 +1,15 @@
 -- What is stored of a packet that was rewritten, as numbers.
-use Rattle.std.specs.Prelude.{ℕ, Bool, if◌then◌else◌}
+use Rattle.std.specs.Prelude.{ℕ, Bool, not, ◌==◌, Option, None, Some, if◌then◌else◌}
 use Rattle.ip_dissect.specs.Dissection.{DissectedParts}
 use Rattle.ip_rewrite.specs.Without.{len_without, keeps_checksums}
 use Rattle.ip_rewrite.specs.declared.which.Which.{Which}
-use Rattle.ip_rewrite.specs.declared.which.Which.TheVariants.{Number}
+use Rattle.ip_rewrite.specs.declared.which.Which.TheVariants.{Number, Headers}
+use Rattle.ip_rewrite.specs.declared.request.Request.{Request}
 use Rattle.ip_rewrite.specs.declared.which.Authentication.{Authentication}
 use Rattle.ip_rewrite.specs.declared.which.Authentication.TheVariants.{Valid, Invalid}
 use Rattle.ip_rewrite.specs.declared.err.RewriteError.{RewriteError}
 use Rattle.ip_rewrite.specs.declared.err.RewriteError.TheVariants as err
+use Rattle.ipexts_c.specs.declared.rewrites.RequestFields.{RequestFields}
 use Rattle.ipexts_c.specs.declared.rewrites.RewrittenFields.{RewrittenFields}
 
 -- all headers with this number
@@ -46,3 +48,27 @@ fields_without w p = rewritten_fields (len_without w p) (keeps_checksums w p)
 -- what is stored if nothing was written, for this reason
 abbrev pub refused_fields : RewriteError → RewrittenFields
 refused_fields e = record { len = 0; refusal = refusal_code e; keeps_checksums = 0 }
+
+-- what is stored if nothing was written: for this reason, or because the request changes no header
+abbrev pub unwritten_fields : Option RewriteError → RewrittenFields
+unwritten_fields None = record { len = 0; refusal = 0; keeps_checksums = 0 }
+unwritten_fields (Some e) = refused_fields e
+
+-- a number that says yes
+abbrev pub is_set : ℕ → Bool
+is_set n = not (n == 0)
+
+-- the request that is meant by numbers
+abbrev pub request_of : RequestFields → Request
+request_of f = record {
+  without = Headers (record {
+    hop_by_hop = is_set f.without_hop_by_hop;
+    routing = is_set f.without_routing;
+    fragment = is_set f.without_fragment;
+    authentication = is_set f.without_authentication;
+    destination_options = is_set f.without_destination_options;
+  });
+  clears = is_set f.clears;
+  orders = is_set f.orders;
+  authentication = authentication (is_set f.may_be_invalid);
+}

@@ -6,20 +6,22 @@ ghost use Rattle.ip_spec.specs.Chain.{ExtHeader};
 ghost use Rattle.ip_spec.specs.Encoding.{cleared_chain};
 ghost use Rattle.ip_dissect.specs.Dissection.{dissected};
 ghost use Rattle.ip_rewrite.specs.Rewritten.{rewritten as packet_with, rewritten_len, rewritten_parts};
-ghost use Rattle.ip_rewrite.specs.Without.{without, parts_without, without_fault, has_segments};
+ghost use Rattle.ip_rewrite.specs.Without.{without, parts_without, without_fault, has_segments, keeps_checksums};
+ghost use Rattle.ip_rewrite.specs.Request.{concerns, request_fault, requested, requested_len, requested_parts};
 ghost use Rattle.ip_rewrite.specs.Clearing.{clearing_fault, has_reserved};
 ghost use Rattle.ip_rewrite.specs.Payload.{payload_fault};
 ghost use Rattle.ip_rewrite.specs.Insertion.{inserted, insertion_fault};
 ghost use Rattle.ip_rewrite.specs.Order.{in_order, is_in_order, ordering_fault, recommended_index};
 ghost use Rattle.ip_rewrite.specs.declared.err.RewriteError.{RewriteError as Refusal};
 ghost use Rattle.ip_rewrite.specs.declared.which.Which.TheVariants.{Index};
-ghost use Rattle.ipexts_c.specs.Rewrites.{with_number, authentication, refusal_code, rewritten_fields, fields_without, refused_fields};
+ghost use Rattle.ipexts_c.specs.Rewrites.{with_number, authentication, refusal_code, rewritten_fields, fields_without, refused_fields, unwritten_fields, request_of};
 
 use crate::bytes::Bytes;
 use ip_base::IpNumber;
 use ip_rewrite::{
-    Authentication, RewriteError, Rewritten, Which, cleared, has_reserved_bits, in_order,
-    is_in_order, recommended_index, with_header, with_payload, without,
+    Authentication, HeaderSet, Request, RewriteError, Rewritten, Which, cleared,
+    has_reserved_bits, in_order, is_in_order, recommended_index, rewrite, with_header,
+    with_payload, without,
 };
 
 /// A packet that was written, or why none was, as numbers.
@@ -32,6 +34,50 @@ pub struct RewrittenFields {
     pub refusal: u8,
     /// 1 if a packet was written and transport checksums hold as before, otherwise 0.
     pub keeps_checksums: u8,
+}
+
+/// Changes of a packet's extension headers, each of them 0 for no.
+#[repr(C)]
+#[derive(Clone, Copy, Debug, PartialEq, Eq)]
+pub struct RequestFields {
+    /// Hop-by-hop options are left out.
+    pub without_hop_by_hop: u8,
+    /// Routing headers are left out.
+    pub without_routing: u8,
+    /// Fragment headers are left out.
+    pub without_fragment: u8,
+    /// Authentication headers are left out.
+    pub without_authentication: u8,
+    /// Destination options are left out.
+    pub without_destination_options: u8,
+    /// The reserved bits of the other headers are set to zero.
+    pub clears: u8,
+    /// The other headers are put in the recommended order.
+    pub orders: u8,
+    /// The check value of an authentication header that is kept may become wrong.
+    pub may_be_invalid: u8,
+}
+
+impl RequestFields {
+    /// Returns the request that is meant.
+    #[inline(always)]
+    fn request(&self) -> Request
+        ensures { result ≡ request_of self.now }
+    {
+        let without = HeaderSet {
+            hop_by_hop: self.without_hop_by_hop != 0,
+            routing: self.without_routing != 0,
+            fragment: self.without_fragment != 0,
+            authentication: self.without_authentication != 0,
+            destination_options: self.without_destination_options != 0,
+        };
+        Request {
+            without: Which::Headers(without),
+            clears: self.clears != 0,
+            orders: self.orders != 0,
+            authentication: authentication(self.may_be_invalid != 0),
+        }
+    }
 }
 
 /// Returns the code of why a packet isn't rewritten.
@@ -101,6 +147,20 @@ impl RewrittenFields {
         RewrittenFields {
             len: 0,
             refusal: refusal_code(error),
+            keeps_checksums: 0,
+        }
+    }
+}
+
+impl RewrittenFields {
+    /// Returns the numbers of a packet that the request doesn't change.
+    #[inline(always)]
+    fn unchanged() -> RewrittenFields
+        ensures { result ≡ unwritten_fields None }
+    {
+        RewrittenFields {
+            len: 0,
+            refusal: 0,
             keeps_checksums: 0,
         }
     }
@@ -363,4 +423,48 @@ pub extern "C" fn wolfaren_in_order(
 {
     let outcome = in_order(bytes.slice(), authentication(may_be_invalid), out);
     stored(outcome, rewritten)
+}
+
+/// Calls `rewrite`, as `wolfaren_without_number` calls `without`. If the request changes no header, the refusal is 0.
+#[unsafe(no_mangle)]
+pub extern "C" fn wolfaren_rewrite(
+    bytes: Bytes<'_>,
+    request: &RequestFields,
+    out: &mut [u8],
+    rewritten: &mut RewrittenFields,
+) -> bool
+    ensures accepted { IsTrue result → request_fault (request_of request.now)
+        (dissected bytes.entry.slice.now) (length out.old) ≡ None }
+    ensures changes { IsTrue result
+        → concerns (request_of request.now) (dissected bytes.entry.slice.now).headers ≡ true }
+    ensures fields { IsTrue result
+        → let r = request_of request.now in let p = dissected bytes.entry.slice.now in rewritten.new
+        ≡ rewritten_fields (requested_len r p) (keeps_checksums r.without p) }
+    ensures written { IsTrue result
+        → let r = request_of request.now in let p = dissected bytes.entry.slice.now in out.new
+        ≡ requested r p ++ drop rewritten.new.len out.old }
+    ensures dissects { IsTrue result
+        → let r = request_of request.now in let p = dissected bytes.entry.slice.now in
+        dissected (take rewritten.new.len out.new) ≡ requested_parts r p }
+    ensures refused { result ≡ false → rewritten.new ≡ unwritten_fields (request_fault
+        (request_of request.now) (dissected bytes.entry.slice.now) (length out.old)) }
+    ensures unchanged { result ≡ false
+        → let r = request_of request.now in let p = dissected bytes.entry.slice.now in
+        request_fault r p (length out.old) ≡ None → concerns r p.headers ≡ false }
+    ensures same { result ≡ false → out.new ≡ out.old }
+{
+    match rewrite(bytes.slice(), request.request(), out) {
+        Ok(Some(written)) => {
+            *rewritten = RewrittenFields::of(written);
+            true
+        }
+        Ok(None) => {
+            *rewritten = RewrittenFields::unchanged();
+            false
+        }
+        Err(error) => {
+            *rewritten = RewrittenFields::refused(error);
+            false
+        }
+    }
 }

@@ -60,14 +60,26 @@ static bool write_packets(struct output *output, const struct request *request, 
     return finish_copy(output, request->output) && is_done;
 }
 
+/* Returns the changes that the options ask for. */
+static struct wolfaren_request request_of(const struct request *request)
+{
+    return (struct wolfaren_request){
+        .without_hop_by_hop = request->without >> WOLFAREN_HOP_BY_HOP & 1,
+        .without_routing = request->without >> WOLFAREN_ROUTING & 1,
+        .without_fragment = request->without >> WOLFAREN_FRAGMENT & 1,
+        .without_authentication = request->without >> WOLFAREN_AUTHENTICATION & 1,
+        .without_destination_options = request->without >> WOLFAREN_DESTINATION_OPTIONS & 1,
+        .clears = request->clears,
+        .orders = request->orders,
+    };
+}
+
 static bool rewrite_file(const struct request *request, const char *path)
 {
     struct input input;
     struct output output = {0};
     struct rewriter rewriter = {
-        .without = request->without,
-        .clears = request->clears,
-        .orders = request->orders,
+        .request = request_of(request),
         .breaks_authentication = request->breaks_authentication,
         .has_tunnels = request->has_tunnels,
     };

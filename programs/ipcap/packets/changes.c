@@ -11,107 +11,27 @@
 /* Where the captured length, the length and the frame of a packet are in its block, and in a simple packet block. */
 enum { CAPTURED_LEN_AT = 20, LEN_AT = 24, FRAME_AT = 28, SIMPLE_LEN_AT = 8, SIMPLE_FRAME_AT = 12, TRAILER_LEN = 4 };
 
-/* The headers in the order in which they are left out: an authentication header covers all others. */
-static const uint8_t order[] = {WOLFAREN_AUTHENTICATION, WOLFAREN_HOP_BY_HOP, WOLFAREN_ROUTING, WOLFAREN_FRAGMENT,
-                                WOLFAREN_DESTINATION_OPTIONS};
-
 /* Bytes of an IP packet. */
 struct span {
     const uint8_t *bytes;
     size_t len;
 };
 
-/* A packet that is being changed. Each result is written to one of two places of `room` bytes, which follow each other. */
+/* What became of a packet. */
 struct change {
-    struct span packet;
-    uint8_t *places;
-    size_t room;
-    bool keeps_checksums;
+    struct wolfaren_rewritten written;
     bool keeps_check_values;
 };
 
-/* Whether a packet has one of some headers: a bit for each number. */
-static bool has_header(uint64_t headers, struct span packet)
+/* Writes a packet with all changes, if there are any, to `room` bytes. An authentication header becomes invalid only if it has to. */
+static void change_packet(const struct rewriter *rewriter, struct span packet, uint8_t *out, size_t room, struct change *change)
 {
-    const struct wolfaren_filter filter = {
-        1, {{.kind = WOLFAREN_TEST_FLAGS, .number = headers, .if_met = WOLFAREN_FILTER_PASSED}}};
-    return wolfaren_filter_matches(&filter, packet.bytes, packet.len);
-}
-
-/* Whether reserved bits of a packet are to be cleared. */
-static bool is_to_be_cleared(const struct rewriter *rewriter, struct span packet)
-{
-    return rewriter->clears && wolfaren_has_reserved_bits(packet.bytes, packet.len);
-}
-
-/* Whether headers of a packet are to be put in order. */
-static bool is_to_be_ordered(const struct rewriter *rewriter, struct span packet)
-{
-    return rewriter->orders && !wolfaren_is_in_order(packet.bytes, packet.len);
-}
-
-/* Whether there is something to change in a packet. */
-static bool is_concerned(const struct rewriter *rewriter, struct span packet)
-{
-    return has_header(rewriter->without, packet) || is_to_be_cleared(rewriter, packet) || is_to_be_ordered(rewriter, packet);
-}
-
-/* Returns the place for the next result. */
-static uint8_t *place_for(const struct change *change)
-{
-    return change->packet.bytes == change->places ? change->places + change->room : change->places;
-}
-
-/* Goes on with the packet that was written there. */
-static void take_result(struct change *change, const struct wolfaren_rewritten *done)
-{
-    change->packet = (struct span){place_for(change), done->len};
-    change->keeps_checksums &= done->keeps_checksums;
-}
-
-/* Leaves out the headers of a number. Returns WOLFAREN_NOT_REFUSED, or why the packet is refused. */
-static uint8_t leave_out_number(const struct rewriter *rewriter, struct change *change, uint8_t number, bool may_be_invalid)
-{
-    struct wolfaren_rewritten done;
-    if (wolfaren_without_number(change->packet.bytes, change->packet.len, number, may_be_invalid, place_for(change), change->room,
-                                &done)) {
-        take_result(change, &done);
-        change->keeps_check_values &= !may_be_invalid;
-    } else if (done.refusal == WOLFAREN_REFUSED_AUTHENTICATED && rewriter->breaks_authentication && !may_be_invalid) {
-        return leave_out_number(rewriter, change, number, true);
-    } else if (done.refusal != WOLFAREN_REFUSED_NO_HEADER) {
-        return done.refusal;
-    }
-    return WOLFAREN_NOT_REFUSED;
-}
-
-/* Leaves out the headers, one number after another. Returns WOLFAREN_NOT_REFUSED, or why the packet is refused. */
-static uint8_t leave_out(const struct rewriter *rewriter, struct change *change)
-{
-    uint8_t refusal = WOLFAREN_NOT_REFUSED;
-    for (size_t i = 0; i < sizeof order && refusal == WOLFAREN_NOT_REFUSED; i++)
-        if (rewriter->without >> order[i] & 1) refusal = leave_out_number(rewriter, change, order[i], false);
-    return refusal;
-}
-
-/* A call of the library that changes all headers of a packet. */
-typedef bool change_call(const uint8_t *bytes, size_t len, bool may_be_invalid, uint8_t *out, size_t room,
-                         struct wolfaren_rewritten *rewritten);
-
-/* Makes such a change. Returns WOLFAREN_NOT_REFUSED, or why the packet is refused. */
-static uint8_t make_change(const struct rewriter *rewriter, struct change *change, change_call *call)
-{
-    struct wolfaren_rewritten done;
-    bool may_be_invalid = false;
-    bool is_done = call(change->packet.bytes, change->packet.len, may_be_invalid, place_for(change), change->room, &done);
-    if (!is_done && done.refusal == WOLFAREN_REFUSED_AUTHENTICATED && rewriter->breaks_authentication) {
-        may_be_invalid = true;
-        is_done = call(change->packet.bytes, change->packet.len, may_be_invalid, place_for(change), change->room, &done);
-    }
-    if (!is_done) return done.refusal;
-    take_result(change, &done);
-    change->keeps_check_values &= !may_be_invalid;
-    return WOLFAREN_NOT_REFUSED;
+    struct wolfaren_request request = rewriter->request;
+    change->keeps_check_values = true;
+    if (wolfaren_rewrite(packet.bytes, packet.len, &request, out, room, &change->written)) return;
+    if (change->written.refusal != WOLFAREN_REFUSED_AUTHENTICATED || !rewriter->breaks_authentication) return;
+    request.may_be_invalid = 1;
+    change->keeps_check_values = !wolfaren_rewrite(packet.bytes, packet.len, &request, out, room, &change->written);
 }
 
 /* Makes the block of a frame that is at its place in the new block already, from the old one: its options and all else stay. */
@@ -156,14 +76,14 @@ static void replace(const struct rewriter *rewriter, struct packet *packet, cons
     packet->header.len = packet->header.len > removed ? packet->header.len - removed : 0;
 }
 
-/* Makes room for the changes of a packet, unless there is as much. If memory or the budget runs out, reports that and returns false. */
+/* Makes room for a changed packet, unless there is as much. If memory or the budget runs out, reports that and returns false. */
 static bool reserve(struct rewriter *rewriter, const struct packet *packet)
 {
     const size_t len = packet->block ? packet->block_len : packet->header.caplen;
     if (rewriter->room >= len) return true;
-    const bool is_enough = len <= SIZE_MAX / 3 && ask_for_memory(rewriter->account, 3 * (uint64_t)(len - rewriter->room));
+    const bool is_enough = len <= SIZE_MAX / 2 && ask_for_memory(rewriter->account, 2 * (uint64_t)(len - rewriter->room));
     free(rewriter->buffer);
-    rewriter->buffer = is_enough ? malloc(3 * len) : NULL;
+    rewriter->buffer = is_enough ? malloc(2 * len) : NULL;
     rewriter->room = rewriter->buffer ? len : 0;
     if (!rewriter->buffer) complain_of_memory();
     return rewriter->buffer;
@@ -175,18 +95,6 @@ static bool has_captured_len(const struct packet *packet)
     return !packet->block || packet->frame - packet->block == FRAME_AT || !packet->is_short;
 }
 
-/* Makes all changes of a packet. Returns WOLFAREN_NOT_REFUSED, or why the packet is refused. */
-static uint8_t make_changes(const struct rewriter *rewriter, const struct packet *packet, struct change *change)
-{
-    if (!has_captured_len(packet)) return WOLFAREN_REFUSED_MISSING;
-    uint8_t refusal = leave_out(rewriter, change);
-    if (refusal == WOLFAREN_NOT_REFUSED && is_to_be_cleared(rewriter, change->packet))
-        refusal = make_change(rewriter, change, wolfaren_cleared);
-    if (refusal == WOLFAREN_NOT_REFUSED && is_to_be_ordered(rewriter, change->packet))
-        refusal = make_change(rewriter, change, wolfaren_in_order);
-    return refusal;
-}
-
 /*
  * Changes the packet with this index in a frame, if there is something to change. If memory or the budget runs out, reports that
  * and returns false.
@@ -196,24 +104,31 @@ static bool rewrite_level(struct rewriter *rewriter, struct packet *packet, cons
 {
     const struct span span = {packet->frame + levels->of[index].offset, levels->of[index].len};
     struct wolfaren_dissection dissection;
+    struct change change;
     /* authentication headers of outer packets, after this packet was changed: nothing refuses that before a tunnel */
-    const bool are_left_out = rewriter->without >> WOLFAREN_AUTHENTICATION & 1;
-    if (!is_concerned(rewriter, span)) return true;
-    if (!reserve(rewriter, old)) return false;
-    struct change change = {span, rewriter->buffer + rewriter->room, rewriter->room, true, true};
-    uint8_t refusal = make_changes(rewriter, old, &change);
+    const bool are_left_out = rewriter->request.without_authentication;
+    change_packet(rewriter, span, NULL, 0, &change);
+    uint8_t refusal = change.written.refusal;
+    if (refusal == WOLFAREN_NOT_REFUSED) return true;
+    if (!has_captured_len(old)) refusal = WOLFAREN_REFUSED_MISSING;
+    if (refusal == WOLFAREN_REFUSED_NO_ROOM) {
+        if (!reserve(rewriter, old)) return false;
+        change_packet(rewriter, span, rewriter->buffer + rewriter->room, rewriter->room, &change);
+        refusal = change.written.refusal;
+    }
     wolfaren_dissect(span.bytes, span.len, NULL, 0, &dissection);
+    const struct span new = {rewriter->buffer + rewriter->room, change.written.len};
     const size_t old_len = span.len - dissection.padding;
     if (refusal == WOLFAREN_NOT_REFUSED)
-        refusal = refuse_growth(levels, index, (ptrdiff_t)change.packet.len - (ptrdiff_t)old_len,
+        refusal = refuse_growth(levels, index, (ptrdiff_t)new.len - (ptrdiff_t)old_len,
                                 rewriter->breaks_authentication || are_left_out);
     if (refusal != WOLFAREN_NOT_REFUSED) {
         rewriter->refused[refusal < REFUSALS ? refusal : WOLFAREN_REFUSED_HEADERS]++;
         return true;
     }
-    rewriter->without_checksums += !change.keeps_checksums;
+    rewriter->without_checksums += !change.written.keeps_checksums;
     rewriter->without_check_values += !change.keeps_check_values || (is_covered(levels, index) && !are_left_out);
-    replace(rewriter, packet, old, levels, index, old_len, change.packet);
+    replace(rewriter, packet, old, levels, index, old_len, new);
     return true;
 }
 

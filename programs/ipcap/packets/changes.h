@@ -14,9 +14,7 @@
 
 /* All zeros are one that changes nothing. */
 struct rewriter {
-    uint64_t without;                /* the extension headers that are left out: a bit for each number */
-    bool clears;                     /* reserved bits are set to zero */
-    bool orders;                     /* headers are put in the recommended order */
+    struct wolfaren_request request; /* what is changed; whether headers may be invalid is the next field */
     bool breaks_authentication;      /* packets that keep an authentication header are changed, too */
     bool has_tunnels;                /* packets in tunnels are changed, too */
     uint64_t refused[REFUSALS];      /* number of packets that weren't changed, by the library's refusal */
@@ -24,7 +22,7 @@ struct rewriter {
     uint64_t without_check_values;   /* number of those whose authentication headers have a wrong integrity check value */
     struct parts parts;              /* of the packet that is looked at */
     struct account *account;         /* from which memory is taken */
-    uint8_t *buffer;                 /* of the last packet that was changed: three times `room` bytes */
+    uint8_t *buffer;                 /* of the last packet that was changed: twice `room` bytes */
     size_t room;
 };
 

@@ -3,6 +3,7 @@
 from __future__ import annotations
 
 import enum
+from collections.abc import Iterable
 from typing import Any, NamedTuple
 
 from ._library import Buffer, ffi, lib, text_of
@@ -156,3 +157,38 @@ def in_order(packet: Buffer, *, may_be_invalid: bool = False) -> Rewritten:
     `may_be_invalid` is true.
     """
     return _rewritten(lib.wolfaren_in_order, packet, may_be_invalid=may_be_invalid)
+
+
+_WITHOUT = {
+    lib.WOLFAREN_HOP_BY_HOP: "without_hop_by_hop",
+    lib.WOLFAREN_ROUTING: "without_routing",
+    lib.WOLFAREN_FRAGMENT: "without_fragment",
+    lib.WOLFAREN_AUTHENTICATION: "without_authentication",
+    lib.WOLFAREN_DESTINATION_OPTIONS: "without_destination_options",
+}
+
+
+def rewrite(packet: Buffer, *, without: Iterable[int] = (), clears: bool = False, orders: bool = False,
+            may_be_invalid: bool = False) -> Rewritten | None:
+    """Returns the packet at the start of the bytes with several changes at once, or `None` if they change no extension header.
+
+    Headers with the numbers in `without` are left out. Then, if `clears` is true, the reserved bits of the others are set to zero,
+    as by `cleared`, and if `orders` is true, these are put in order, as by `in_order`. All else stays as it is, as with `without`.
+
+    Raises `RewriteError` if one of the changes can't be made, with the refusal of the first, also for an authentication header as
+    `without` does; and `ValueError` for a number of no extension header.
+    """
+    data = ffi.from_buffer("uint8_t[]", packet)
+    request = ffi.new("struct wolfaren_request *", {"clears": clears, "orders": orders, "may_be_invalid": may_be_invalid})
+    for number in without:
+        if number not in _WITHOUT:
+            raise ValueError(f"{number} is no extension header's number")
+        setattr(request, _WITHOUT[number], 1)
+    done = ffi.new("struct wolfaren_rewritten *")
+    lib.wolfaren_rewrite(data, len(data), request, ffi.NULL, 0, done)
+    if done.refusal == lib.WOLFAREN_NOT_REFUSED:
+        return None
+    out = ffi.new("uint8_t[]", len(data))
+    if not lib.wolfaren_rewrite(data, len(data), request, out, len(out), done):
+        raise RewriteError(Refusal(done.refusal))
+    return Rewritten(bytes(ffi.buffer(out, done.len)), bool(done.keeps_checksums))

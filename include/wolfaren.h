@@ -64,10 +64,10 @@
 #define WOLFAREN_VERSION (10000 * WOLFAREN_VERSION_MAJOR + 100 * WOLFAREN_VERSION_MINOR + WOLFAREN_VERSION_PATCH)
 
 /* A checksum of the structs, numbers and calls in this header, made by scripts/abi of the repository. */
-#define WOLFAREN_ABI 0xe4bd7329u
+#define WOLFAREN_ABI 0x53543fd7u
 
 /* The symbol that is named after the checksum. */
-#define WOLFAREN_ABI_SYMBOL wolfaren_abi_e4bd7329
+#define WOLFAREN_ABI_SYMBOL wolfaren_abi_53543fd7
 
 /* The machines for which the library is built. That of `make rust-c` is for any machine, and its users define WOLFAREN_PLAIN. */
 #ifdef WOLFAREN_PLAIN
@@ -1196,7 +1196,9 @@ enum wolfaren_test {
     WOLFAREN_TEST_VERSION_LEADS_TO = 27,   /* the packet has the IP version `version`, and `number` follows the headers */
     WOLFAREN_TEST_ICMP6_TYPE = 28,         /* the type of the ICMPv6 message of an IPv6 packet is `number` */
     WOLFAREN_TEST_ICMP6_CODE = 29,         /* its code is `number` */
-    WOLFAREN_TEST_NO_LENGTH = 30           /* the base header states length 0, although bytes follow it */
+    WOLFAREN_TEST_NO_LENGTH = 30,          /* the base header states length 0, although bytes follow it */
+    WOLFAREN_TEST_BASE_ACCESS = 31,        /* bits of the bytes at an offset from the base header compare so with `number` */
+    WOLFAREN_TEST_TRANSPORT_ACCESS = 32    /* those of bytes at an offset from the transport header do */
 };
 
 /*
@@ -1230,12 +1232,12 @@ enum wolfaren_comparison {
 /* A test of a filter. Fields that its kind doesn't use are ignored. */
 struct wolfaren_filter_test {
     uint64_t number;       /* flags, the number of a term, what a quantity is compared with, the lowest port, or a layer */
-    uint64_t address_high; /* bytes 0 to 7 of an IPv6 network's address, as a big-endian number; ignored for IPv4 */
-    uint64_t address_low;  /* bytes 8 to 15 of it, an IPv4 network's address, the highest port, flags of TCP, or flags */
+    uint64_t address_high; /* bytes 0 to 7 of an IPv6 network's address, as a big-endian number, or the offset of an access */
+    uint64_t address_low;  /* bytes 8 to 15 of it, an IPv4 network's address, the highest port, flags, or bits of an access */
     uint8_t kind;          /* WOLFAREN_TEST_FLAGS .. */
     uint8_t comparison;    /* WOLFAREN_EQUAL .. */
-    uint8_t version;       /* IP version of a packet or a network's address: 4 or 6 */
-    uint8_t prefix_len;    /* how many bits of a network's address count */
+    uint8_t version;       /* IP version of a packet or a network's address, 4 or 6; for kind 32, the number of a protocol */
+    uint8_t prefix_len;    /* how many bits of a network's address count, or how many bytes an access reads: 1, 2 or 4 */
     uint8_t if_met;        /* index of the next test if the packet meets this one */
     uint8_t if_not;        /* index of the next test if it doesn't */
 };
@@ -1281,7 +1283,11 @@ enum wolfaren_expected {
     WOLFAREN_EXPECTED_ICMP6_TYPE = 19,        /* the number or name of a type of ICMPv6 */
     WOLFAREN_EXPECTED_SOURCE = 20,            /* `src` */
     WOLFAREN_EXPECTED_DESTINATION = 21,       /* `dst` */
-    WOLFAREN_EXPECTED_MASK = 22               /* a mask without holes, as an address */
+    WOLFAREN_EXPECTED_MASK = 22,              /* a mask without holes, as an address */
+    WOLFAREN_EXPECTED_MASK_OR_COMPARISON = 23, /* `&` or a comparison, in an access */
+    WOLFAREN_EXPECTED_BITS = 24,              /* in an access, a number of 32 bits, a name, or several in parentheses */
+    WOLFAREN_EXPECTED_JOINED_BITS = 25,       /* one of several */
+    WOLFAREN_EXPECTED_JOINED_BITS_END = 26    /* `|` or `)`, after one of several */
 };
 
 /* Where the text of a filter is wrong. */
@@ -1310,7 +1316,7 @@ struct wolfaren_filter_error {
  *   fault, fault KIND, fault KIND LAYER  KIND LAYER is too-short HEADER, too-short IPv4-packet, not-at-start hop-by-hop,
  *                                        zero-length authentication, unsupported-version IP-header or header-length
  *                                        IPv4-header; IPv6-extension after not-at-start and zero-length too
- *   headers OP N, chain-bytes OP N, payload OP N       OP is =, !=, <, <=, > or >=
+ *   headers OP N, chain-bytes OP N, payload OP N       OP is =, ==, !=, <, <=, > or >=
  *   length OP N                          the length that the IP header states, or the bytes that are there if it states none
  *   no-length                            the IP header states length 0, although bytes follow it; a jumbo payload option
  *                                        doesn't count
@@ -1341,6 +1347,14 @@ struct wolfaren_filter_error {
  * a protocol may precede `src`, `dst` and these: `tcp src port 80` is `( tcp and src port 80 )`, of two terms. `src or dst` is
  * either one, and `src and dst port 53` is `( src port 53 and dst port 53 )`. An address, prefix, port or protocol alone takes
  * the words of the term before it: `tcp port 80 or 443` is `tcp port 80 or tcp port 443`.
+ *
+ * An access compares bytes of the packet, as in tcpdump's expressions: `tcp[13] & 2 != 0`, `ip[6:2] & 0x1fff = 0`. `NAME[I]`,
+ * `NAME[I:2]` and `NAME[I:4]` are the number in 1, 2 or 4 bytes at offset I, in network byte order. NAME is `ip` or `ip6`, with
+ * offsets from the IP header of this version, or the name of a protocol, with offsets from its header, which extension headers
+ * may precede. `& BITS` may follow, and then OP and BITS: a number of 32 bits, a name, or several in parentheses with `|`
+ * between them, as in `tcp[tcpflags] & (tcp-syn|tcp-ack) != 0`. The names are tcp-fin, tcp-syn, tcp-rst, tcp-push, tcp-ack,
+ * tcp-urg, tcp-ece, tcp-cwr and those of types; icmptype, icmpcode, icmp6type, icmp6code and tcpflags are offsets. An access is
+ * false, also with `!=`, if not all of its bytes are in the packet, or if the protocol's header is in an earlier fragment.
  *
  * TCP, UDP, UDP-Lite, SCTP and DCCP have ports. Ports, types, codes and flags of TCP are read from the payload, so extension
  * headers may precede them. A later fragment has none, nor has a packet with an error or a truncated header. The terms about

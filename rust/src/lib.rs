@@ -103,7 +103,7 @@ pub mod codes {
 /// | `fault` | a header is faulty |
 /// | `fault KIND` | it is faulty like this: `too-short`, `not-at-start`, `zero-length`, `unsupported-version` or `header-length` |
 /// | `fault KIND LAYER` | it is, and of this layer, which can have the fault: `IPv4-packet`, an extension header or `IPv6-extension` after `too-short`, `hop-by-hop` after `not-at-start`, `authentication` after `zero-length`, `IP-header` after `unsupported-version`, `IPv4-header` after `header-length`; `IPv6-extension` after the second and the third too |
-/// | `headers OP N`, `chain-bytes OP N`, `payload OP N` | the number of extension headers, their length in bytes or the number of payload bytes compares so; `OP` is `=`, `!=`, `<`, `<=`, `>` or `>=` |
+/// | `headers OP N`, `chain-bytes OP N`, `payload OP N` | the number of extension headers, their length in bytes or the number of payload bytes compares so; `OP` is `=`, `==`, `!=`, `<`, `<=`, `>` or `>=` |
 /// | `length OP N` | the length that the IP header states compares so, or the number of bytes there if it states none |
 /// | `no-length` | the IP header states length 0, although bytes follow it; a jumbo payload option doesn't count |
 /// | `hop-limit OP N`, `ttl OP N` | the hop limit, or IPv4's time to live, compares so |
@@ -130,6 +130,15 @@ pub mod codes {
 /// `src or dst` is either one, and `src and dst port 53` is `( src port 53 and dst port 53 )`. An address, prefix,
 /// port or protocol alone takes the words of the term before it: `tcp port 80 or 443` is
 /// `tcp port 80 or tcp port 443`.
+///
+/// An access compares bytes of the packet, as in tcpdump's expressions: `tcp[13] & 2 != 0`, `ip[6:2] & 0x1fff = 0`.
+/// `NAME[I]`, `NAME[I:2]` and `NAME[I:4]` are the number in 1, 2 or 4 bytes at offset I, in network byte order. NAME is
+/// `ip` or `ip6`, with offsets from the IP header of this version, or the name of a protocol, with offsets from its
+/// header, which extension headers may precede. `& BITS` may follow, and then OP and BITS: a number of 32 bits, a name,
+/// or several in parentheses with `|` between them, as in `tcp[tcpflags] & (tcp-syn|tcp-ack) != 0`. The names are
+/// tcp-fin, tcp-syn, tcp-rst, tcp-push, tcp-ack, tcp-urg, tcp-ece, tcp-cwr and those of types; icmptype, icmpcode,
+/// icmp6type, icmp6code and tcpflags are offsets. An access is false, also with `!=`, if not all of its bytes are in
+/// the packet, or if the protocol's header is in an earlier fragment.
 ///
 /// TCP, UDP, UDP-Lite, SCTP and DCCP have ports. Ports, types, codes and flags of TCP are read from the payload, so
 /// extension headers may precede them. A later fragment has none, nor has a packet with an error or a truncated

@@ -59,6 +59,7 @@ static void texts(void)
     check_matches("option 0 or option 1", false, false);
     check_matches("routing-type 0 or segments-left >= 0", false, false);
     check_matches("tcp-flags fin or not tcp-flags syn,ack/syn,ack,rst", true, true);
+    check_matches("ip6[0] & 0xf0 = 0x60 and ip6[7] <= 255 and not ip[0] >= 0", true, false);
 }
 
 static void check_refused(const char *text, size_t offset, uint8_t expected, const char *words)
@@ -94,6 +95,12 @@ static void refused(void)
     check_refused("dst or ::1", 7, WOLFAREN_EXPECTED_SOURCE, "`src`");
     check_refused("src and ::1", 8, WOLFAREN_EXPECTED_DESTINATION, "`dst`");
     check_refused("net 10 mask", 11, WOLFAREN_EXPECTED_MASK, "a mask that begins with its ones, as 255.255.255.0");
+    check_refused("tcp[13] tcp-syn", 8, WOLFAREN_EXPECTED_MASK_OR_COMPARISON, "`&` and a mask, or `=`, `!=`, `<`, `<=`, `>` or `>=`");
+    check_refused("tcp[13] & psh", 10, WOLFAREN_EXPECTED_BITS,
+                  "a number from 0 to 4294967295, a name as tcp-syn or icmp-echo, or `(` and several with `|` between them");
+    check_refused("tcp[13] = (2|)", 13, WOLFAREN_EXPECTED_JOINED_BITS, "a number from 0 to 4294967295 or a name as tcp-syn or icmp-echo");
+    check_refused("tcp[13] = (2,4)", 11, WOLFAREN_EXPECTED_JOINED_BITS, "a number from 0 to 4294967295 or a name as tcp-syn or icmp-echo");
+    check_refused("tcp[13] = (2 4)", 13, WOLFAREN_EXPECTED_JOINED_BITS_END, "`|` or `)`");
     check_refused("src x", 4, WOLFAREN_EXPECTED_NETWORK_OR_PORT, "an address, a prefix or `port`");
     check_refused("net x", 4, WOLFAREN_EXPECTED_NETWORK, "an address or a prefix");
     check_refused("host ::1/64", 5, WOLFAREN_EXPECTED_ADDRESS, "an address");
@@ -103,7 +110,7 @@ static void refused(void)
     struct wolfaren_filter filter;
     struct wolfaren_filter_error error;
     check(!wolfaren_parse_filter(NULL, 0, &filter, &error) && error.offset == 0, "no text");
-    check(wolfaren_expected_text(0, NULL, 0) == 0 && wolfaren_expected_text(23, NULL, 0) == 0, "an unknown code");
+    check(wolfaren_expected_text(0, NULL, 0) == 0 && wolfaren_expected_text(27, NULL, 0) == 0, "an unknown code");
 }
 
 static uint8_t next_byte(void)
@@ -146,7 +153,7 @@ static void any_contents(void)
         for (size_t i = 0; i < sizeof filter; i++) ((uint8_t *)&filter)[i] = next_byte();
         for (size_t i = 0; i < WOLFAREN_FILTER_TESTS; i++) {
             struct wolfaren_filter_test *test = &filter.tests[i];
-            test->kind %= WOLFAREN_TEST_NO_LENGTH + 2;
+            test->kind %= WOLFAREN_TEST_TRANSPORT_ACCESS + 2;
             if (round % 3 == 0) continue;
             test->if_met = (uint8_t)(i + test->if_met % 16);
             test->if_not = (uint8_t)(i + test->if_not % 16);
@@ -285,6 +292,8 @@ static void parsed_tests(void)
         {"port 0-1", WOLFAREN_TEST_PORT, 0, 1},
         {"no-transport", WOLFAREN_TEST_NO_TRANSPORT, 0, 0},
         {"no-length", WOLFAREN_TEST_NO_LENGTH, 0, 0},
+        {"ip[6:2] & 0x1fff = 5", WOLFAREN_TEST_BASE_ACCESS, 5, 0x1fff},
+        {"tcp[tcpflags] & (tcp-syn|tcp-ack) = 2", WOLFAREN_TEST_TRANSPORT_ACCESS, 2, 0x12},
         {"icmp-type 128", WOLFAREN_TEST_ICMP_TYPE, 128, 0},
         {"icmp-code 255", WOLFAREN_TEST_ICMP_CODE, 255, 0},
         {"icmp6-type 128", WOLFAREN_TEST_ICMP6_TYPE, 128, 0},

@@ -1,12 +1,15 @@
 -- What follows the packet changes no formula.
 use Rattle.ip_spec.proofs.Common.{◌≡◌, ℕ, ◌≤◌, List, length, take, refl, sym, ap, ◌∙◌, arith, common_steps, get_or, get_or-take, take-take, length-take-le, eqb_tells, eq-eqb, ◌%◌, ◌/◌, ◌*◌, inl, inr, Bool, false, not, ◌&&◌, ◌||◌, Option, None, Some, none-some, option_map_or, slice_index}
-use Rattle.std.proofs.Common.{max}
+use Rattle.std.proofs.Common.{max, bit_and}
 use Rattle.ip_base.specs.Ipv4Header.{version, ihl, ipv4_header_len}
 use Rattle.ip_dissect.specs.Extent.{packet_bytes, missing_of, ipv4_stated, ipv6_stated}
 use Rattle.ip_dissect.specs.End.{base_end}
 use Rattle.ip_dissect.specs.Dissection.{DissectedParts, without_base, ipv4_dissected, ipv6_dissected, dissected}
 use Rattle.ip_dissect.specs.declared.end.End.{End}
 use Rattle.ip_filter.specs.Truth.{compares, quantity_of, holds}
+use Rattle.ip_filter.specs.Access.{number_at, bytes_from}
+use Rattle.ip_filter.specs.declared.term.AccessedHeader.{AccessedHeader}
+use Rattle.ip_filter.specs.declared.term.AccessedHeader.TheVariants as from
 use Rattle.ip_filter.specs.declared.term.Quantity.{Quantity}
 use Rattle.ip_filter.specs.declared.term.Quantity.TheVariants as quantity
 use Rattle.ip_filter.specs.Formula.{Formula, truth, single, negation, both, either}
@@ -18,8 +21,13 @@ quantity_unread : (q : Quantity) (p : DissectedParts) (z : List ℕ) → quantit
 quantity_unread quantity.Headers p z = refl
 quantity_unread q p z = refl
 
+header_unread : (h : AccessedHeader) (p : DissectedParts) (z : List ℕ) → bytes_from h (record p { padding = z }) ≡ bytes_from h p
+header_unread (from.Base v) p z = refl
+header_unread (from.Transport n) p z = refl
+
 padding_unread : (x : Term) (p : DissectedParts) (z : List ℕ) → holds x (record p { padding = z }) ≡ holds x p
 padding_unread (term.Compared q c n) p z = ap (λ x. option_map_or (λ m. compares c m n) x false) (quantity_unread q p z)
+padding_unread (term.Access a c) p z = ap (λ n. option_map_or (λ m. compares c.comparison (bit_and m c.mask) c.number) n false) (ap (number_at a.offset a.size) (header_unread a.header p z))
 padding_unread x p z = refl
 
 -- equal truths of terms give equal truths of formulas

@@ -8,6 +8,7 @@ mod ArgumentLemmas
 mod NetworkTextLemmas
 mod AfterLemmas
 mod PlaceLemmas
+mod AccessLemmas
 mod TermLemmas
 mod QualifierLemmas
 mod PrimitiveLemmas
@@ -19,6 +20,7 @@ mod LeadLemmas
 mod StateLemmas
 mod ParseLemmas
 mod FactsLemmas
+mod BytesLemmas
 mod OptionTypeLemmas
 mod FragmentLemmas
 mod FlagLemmas

@@ -21,7 +21,7 @@ use Rattle.ip_filter.specs.Numbers.{IsNetworkOrFront}
 use Rattle.ip_filter.specs.Qualifiers.{protocol_named, direction_named, other_side, joined_by, joined_at, directions_at, kind_named, kind_of, of_any_protocol, side_with, side_at, sided, side_or_kind_at, with_protocol, after_protocol, qualifiers_at, wanted_side, wanted, Identifies}
 use Rattle.ip_filter.specs.Operators.{is_and, is_or}
 use Rattle.ip_filter.specs.Grammar.{Finds}
-use Rattle.ip_filter.specs.Reading.{IsFirstWord, IsSuffix, ReadsArgument, RefusesArgument, LastIs, WantsArgument, begins_no_kind, begins_no_operator, EndsDirection, EndsBefore, fewest_named, fewest_terms, BeginsNoQualifiers, ReadsDirections, RefusesDirections, ReadsKind, ReadsSide, ReadsQualifiers}
+use Rattle.ip_filter.specs.Reading.{IsFirstWord, IsSuffix, ReadsArgument, RefusesArgument, LastIs, EndMask, WantBits, WantJoinedBits, WantsArgument, begins_no_kind, begins_no_operator, EndsDirection, EndsBefore, fewest_named, fewest_terms, BeginsNoQualifiers, ReadsDirections, RefusesDirections, ReadsKind, ReadsSide, ReadsQualifiers}
 use Rattle.ip_filter.proofs.WordLemmas.{same_word}
 use Rattle.ip_filter.proofs.PlaceLemmas.{whole, end_of_end, from_place, place_in_end}
 
@@ -70,6 +70,29 @@ kind_wants kind.Protocol front w e = (front, w, refl, inr e)
 pub later_last : (us front : List Word) (Is : Word → Type 0) → LastIs Is front → LastIs Is (us ++ front)
 later_last us front Is last = (us ++ last.0, last.1, ap (λ ws. us ++ ws) last.2 ∙ sym (append_assoc us last.0 (last.1 ∷ [])), last.3)
 
+later_mask : (us front : List Word) → EndMask front → EndMask (us ++ front)
+later_mask us front end =
+    (us ++ end.0, end.1, end.2, end.3, ap (λ ws. us ++ ws) end.4 ∙ sym (append_assoc us end.0 (end.1 ∷ codes "&" ∷ end.2)), end.5, end.6)
+
+later_bits : (us front : List Word) → WantBits front → WantBits (us ++ front)
+later_bits us front wants = elim wants [
+  | inl sign ↦ inl (later_last us front _ sign)
+  | inr compared ↦
+      inr (
+        us ++ compared.0,
+        compared.1,
+        ap (λ ws. us ++ ws) compared.2 ∙ sym (append_assoc us compared.0 (compared.1 ∷ [])),
+        compared.3,
+        elim compared.4 [ inl access ↦ inl (later_last us compared.0 _ access) | inr mask ↦ inr (later_mask us compared.0 mask) ],
+      )
+]
+
+later_joined : (us front : List Word) → WantJoinedBits front → WantJoinedBits (us ++ front)
+later_joined us front wants = elim wants [
+  | inl opens ↦ inl (us ++ opens.0, ap (λ ws. us ++ ws) opens.1 ∙ sym (append_assoc us opens.0 (codes "(" ∷ [])), later_bits us opens.0 opens.2)
+  | inr bar ↦ inr (later_last us front _ bar)
+]
+
 pub later : (e : Expected) (us front : List Word) → WantsArgument front e → WantsArgument (us ++ front) e
 later expects.Version us front wants = later_last us front _ wants
 later expects.Header us front wants = later_last us front _ wants
@@ -78,14 +101,18 @@ later expects.Number us front wants = later_last us front _ wants
 later expects.Byte us front wants = later_last us front _ wants
 later expects.IcmpType us front wants = later_last us front _ wants
 later expects.Icmp6Type us front wants = later_last us front _ wants
-later expects.Comparison us front wants = later_last us front _ wants
-later expects.Count us front wants = later_last us front _ wants
+later expects.Comparison us front wants = elim wants [ inl count ↦ inl (later_last us front _ count) | inr mask ↦ inr (later_mask us front mask) ]
+later expects.Count us front wants = (us ++ wants.0, wants.1, wants.2, ap (λ ws. us ++ ws) wants.3 ∙ sym (append_assoc us wants.0 (wants.1 ∷ wants.2 ∷ [])), wants.4, wants.5)
 later expects.Network us front wants = later_last us front _ wants
 later expects.Mask us front wants = later_last us front _ wants
 later expects.Address us front wants = later_last us front _ wants
 later expects.NetworkOrPort us front wants = later_last us front _ wants
 later expects.Ports us front wants = later_last us front _ wants
 later expects.TcpFlags us front wants = later_last us front _ wants
+later expects.MaskOrComparison us front wants = later_last us front _ wants
+later expects.Bits us front wants = later_bits us front wants
+later expects.JoinedBits us front wants = later_joined us front wants
+later expects.JoinedBitsEnd us front wants = (us ++ wants.0, wants.1, ap (λ ws. us ++ ws) wants.2 ∙ sym (append_assoc us wants.0 (wants.1 ∷ [])), wants.3, later_joined us wants.0 wants.4)
 later expects.Source us front wants = (us ++ wants.0, wants.1, ap (λ ws. us ++ ws) wants.2 ∙ sym (append_assoc us wants.0 (codes "dst" ∷ wants.1 ∷ [])), wants.3)
 later expects.Destination us front wants = (us ++ wants.0, wants.1, ap (λ ws. us ++ ws) wants.2 ∙ sym (append_assoc us wants.0 (codes "src" ∷ wants.1 ∷ [])), wants.3)
 later e us front wants = absurd wants

@@ -5,6 +5,8 @@ use Rattle.std.proofs.Common.{Some, None, is_some, codes, IsTrue}
 use Rattle.ip_spec.proofs.Common.{◌≡◌, ℕ, List, [], ◌∷◌, ◌++◌, take, refl, sym, ap, ◌∙◌, subst, ◌||◌, ◌⊎◌, inl, inr}
 use Rattle.ip_filter.specs.declared.term.Comparison.{Comparison}
 use Rattle.ip_filter.specs.declared.term.Comparison.TheVariants as by
+use Rattle.ip_filter.specs.declared.term.AccessedBytes.{AccessedBytes}
+use Rattle.ip_filter.specs.declared.term.ComparedBits.{ComparedBits}
 use Rattle.ip_filter.specs.declared.term.Quantity.{Quantity}
 use Rattle.ip_filter.specs.declared.term.TcpFlags.{TcpFlags}
 use Rattle.ip_filter.specs.declared.term.Term.{Term}
@@ -23,12 +25,14 @@ use Rattle.ip_filter.specs.declared.layers.LayerError.TheVariants as error
 use Rattle.ip_filter.specs.Words.{Word, words}
 use Rattle.ip_filter.specs.Numbers.{version_named, header_named, protocol_of, number_up_to, tcp_flags_of, names_in, comparison_of, fault_kind_of}
 use Rattle.ip_filter.specs.IcmpTypes.{icmp_type_of, icmp6_type_of}
+use Rattle.ip_filter.specs.AccessWords.{compared_bits_at, AreComparedBits}
 use Rattle.ip_filter.specs.Qualifiers.{protocol_term, multicast_with}
 use Rattle.ip_filter.specs.Operators.{is_and, is_or}
 use Rattle.ip_filter.specs.Grammar.{AreArguments, IsOne, Finds, Make, AreCompared, layer_with}
-use Rattle.ip_filter.specs.Reading.{IsFirstWord, BeginsOtherwise, ReadsArgument, RefusesArgument, ReadsArguments, RefusesArguments, ReadsTerm, RefusesTerm, WantsArgument, IsKeyword, IsCountKeyword, IsNumberKeyword, IsByteKeyword, ends_term}
+use Rattle.ip_filter.specs.Reading.{IsFirstWord, BeginsOtherwise, ReadsArgument, RefusesArgument, ReadsArguments, RefusesArguments, ReadsTerm, RefusesTerm, WantsArgument, IsKeyword, IsCountKeyword, IsNumberKeyword, IsByteKeyword, LastIs, IsAccess, ReadsAt, RefusesAt, ends_term}
 use Rattle.ip_filter.proofs.WordLemmas.{or_cases, either_word, same_word}
 use Rattle.ip_filter.proofs.PlaceLemmas.{whole, end_of_end, from_place, place_in_end}
+use Rattle.ip_filter.proofs.AccessLemmas.{bits_arguments, bits_refused}
 
 -- ---- arguments
 
@@ -81,7 +85,7 @@ module _ (text mid : List ℕ) (c : Comparison) (first : ReadsArgument (Finds co
     before = first.word ∷ [];
     place = place_in_end text mid first.end (first.word ∷ []) [] left first.begins second.place;
     begins = ((c, 0), codes "0" ∷ [], (first.word, codes "0", refl, first.writes, refl));
-    expected = rw r.1 (λ k is. (k ∷ [], first.word, refl, ap is_some first.writes));
+    expected = rw r.1 (λ k is. ([], k, first.word, refl, is, ap is_some first.writes));
     none = λ b us ws more writes same next.
         let all : writes.0 ∷ writes.1 ∷ more ≡ first.word ∷ ws = sym (ap (λ x. x ++ more) writes.2) ∙ same in
         let rest : ws ≡ writes.1 ∷ more = cc all in
@@ -94,7 +98,7 @@ no_comparison text left e r = record {
   before = [];
   place = r.0.place;
   begins = ((by.Equal, 0), codes "=" ∷ codes "0" ∷ [], (codes "=", codes "0", refl, refl, refl));
-  expected = rw r.1 (λ k is. ([], k, refl, is));
+  expected = rw r.1 (λ k is. inl ([], k, refl, is));
   none = λ b us ws more writes same next.
       r.0.none writes.0 b.0 (ap (take 1) r.0.place.words_before ∙ sym next ∙ ap (take 1) (sym same) ∙ ap (λ x. take 1 (x ++ more)) writes.2) writes.3;
 }
@@ -397,6 +401,12 @@ module _ (text : List ℕ) where
 
   pub segments_left_refused : (left : ℕ) (e : Expected) → RefusesArguments AreCompared IsCountKeyword text left e → RefusesTerm keyword.SegmentsLeft text left e
   segments_left_refused left e r = is_refused keyword.SegmentsLeft AreCompared (λ a. term.SegmentsLeft a.0 a.1) (λ us t m. m) (λ us t m. m) IsCountKeyword (λ w i. inr i) text left e r
+
+  pub access_read : (a : AccessedBytes) (rest : List ℕ) (x : ComparedBits) → ReadsAt compared_bits_at text x rest → ReadsTerm (keyword.Access a) text (term.Access a x) rest
+  access_read a rest x r = is_read (keyword.Access a) AreComparedBits (term.Access a) (λ us t m. m) (λ us t m. m) text rest x (bits_arguments text rest x r)
+
+  pub access_refused : (a : AccessedBytes) (left : ℕ) (e : Expected) → RefusesAt compared_bits_at (LastIs IsAccess) text left e → RefusesTerm (keyword.Access a) text left e
+  access_refused a left e r = is_refused (keyword.Access a) AreComparedBits (term.Access a) (λ us t m. m) (λ us t m. m) IsAccess (λ w i. (a, i)) text left e (bits_refused text left e r)
 
 -- by what follows the keyword
 pub ruleset number_terms = (version_read, version_refused, header_read, header_refused, leads_to_read, leads_to_refused, spi_read, spi_refused, id_read, id_refused, routing_type_read, routing_type_refused, option_read, option_refused, icmp_type_read, icmp_type_refused, icmp_code_read, icmp_code_refused, icmp6_type_read, icmp6_type_refused, icmp6_code_read, icmp6_code_refused, tcp_flags_read, tcp_flags_refused)

@@ -1,6 +1,11 @@
 -- Tests whose kind determines what they ask.
 use Rattle.ip_spec.proofs.Common.{◌≡◌, ℕ, refl, ◌∙◌, false, ◌==◌, ◌&&◌, ◌||◌, Some, option_map_or, list_any}
 use Rattle.ip_dissect.specs.Dissection.{DissectedParts}
+use Rattle.std.specs.Prelude.{bit_and}
+use Rattle.ip_filter.specs.Access.{accessed}
+use Rattle.ip_filter.specs.declared.term.AccessedHeader.TheVariants as from
+use Rattle.ip_filter.specs.declared.term.AccessedBytes.{AccessedBytes}
+use Rattle.ip_filter.specs.declared.term.ComparedBits.{ComparedBits}
 use Rattle.ip_filter.specs.declared.term.Comparison.{Comparison}
 use Rattle.ip_filter.specs.declared.term.Quantity.{Quantity}
 use Rattle.ip_filter.specs.declared.term.Ports.{Ports}
@@ -60,3 +65,14 @@ by_segments_left x c n p kind comparison number = rw (kind, comparison, number) 
 pub by_quantity : (k : ℕ) (q : Quantity) → ((x : Test) (p : DissectedParts) → x.kind ≡ k → meets x p ≡ compared x q p) → (x : Test) (c : Comparison) (n : ℕ) (p : DissectedParts)
     → x.kind ≡ k → comparison_in x.comparison ≡ Some c → x.number ≡ n → meets x p ≡ option_map_or (λ y. compares c y n) (quantity_of q p) false
 by_quantity k q of_kind x c n p kind comparison number = of_kind x p kind ∙ rw (comparison, number) refl
+
+-- a test of bytes from a base header on, and one of those from the header of a protocol on
+pub by_bytes_of_version : (x : Test) (v : ℕ) (a : AccessedBytes) (c : ComparedBits) (p : DissectedParts) → x.kind ≡ 31 → x.version ≡ v → x.address_high ≡ a.offset → x.prefix_len ≡ a.size
+    → x.address_low ≡ c.mask → comparison_in x.comparison ≡ Some c.comparison → x.number ≡ c.number → a.header ≡ from.Base v
+    → meets x p ≡ option_map_or (λ n. compares c.comparison (bit_and n c.mask) c.number) (accessed a p) false
+by_bytes_of_version x v a c p kind version offset size mask comparison number header = rw (kind, version, offset, size, mask, comparison, number, header) refl
+
+pub by_bytes_of_protocol : (x : Test) (v : ℕ) (a : AccessedBytes) (c : ComparedBits) (p : DissectedParts) → x.kind ≡ 32 → x.version ≡ v → x.address_high ≡ a.offset → x.prefix_len ≡ a.size
+    → x.address_low ≡ c.mask → comparison_in x.comparison ≡ Some c.comparison → x.number ≡ c.number → a.header ≡ from.Transport v
+    → meets x p ≡ option_map_or (λ n. compares c.comparison (bit_and n c.mask) c.number) (accessed a p) false
+by_bytes_of_protocol x v a c p kind version offset size mask comparison number header = rw (kind, version, offset, size, mask, comparison, number, header) refl

@@ -23,6 +23,7 @@ use Rattle.ip_filter.specs.Words.{Word}
 use Rattle.ip_filter.specs.Operators.{is_not, is_and, is_or}
 use Rattle.ip_filter.specs.Numbers.{version_named, header_named, protocol_of, number_up_to, tcp_flags_of, comparison_of, fault_kind_of, layer_named}
 use Rattle.ip_filter.specs.IcmpTypes.{icmp_type_of, icmp6_type_of}
+use Rattle.ip_filter.specs.AccessWords.{access_of, AreComparedBits}
 use Rattle.ip_filter.specs.Formula.{Formula, negation, both, either, terms_of}
 use Rattle.ip_filter.specs.Qualifiers.{protocol_term, multicast_with, protocol_named, side_or_kind_at, qualifiers_at, Identifies, Identify, says, plain, qualified}
 
@@ -80,7 +81,8 @@ keyword_of w =
     else if bytes_eq w (codes "segments-left") then Some keyword.SegmentsLeft
     else option_or (option_map keyword.Alone (alone w))
     (option_or (option_map keyword.Protocol (protocol_named w))
-    (option_or (option_map keyword.Compared (quantity_named w)) (option_map keyword.Number (number_keyword_of w))))
+    (option_or (option_map keyword.Compared (quantity_named w))
+    (option_or (option_map keyword.Number (number_keyword_of w)) (option_map keyword.Access (access_of w)))))
 
 -- ---- terms
 
@@ -134,6 +136,7 @@ AreArguments keyword.Fault args t =
 AreArguments (keyword.Number k) args t = AreNumberArguments k args t
 AreArguments (keyword.Compared q) args t = Make AreCompared (λ c. term.Compared q c.0 c.1) args t
 AreArguments keyword.SegmentsLeft args t = Make AreCompared (λ c. term.SegmentsLeft c.0 c.1) args t
+AreArguments (keyword.Access a) args t = Make AreComparedBits (term.Access a) args t
 
 -- the word w is a keyword, and writes the term t with the words after it
 abbrev pub IsTerm : Word → List Word → Term → Type 0

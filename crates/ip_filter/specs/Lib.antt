@@ -1,5 +1,6 @@
 pub mod Network
 pub mod Transport
+pub mod Access
 pub mod HeaderFields
 pub mod Truth
 pub mod HeaderConditions
@@ -14,6 +15,7 @@ pub mod Formula
 pub mod Words
 pub mod Numbers
 pub mod IcmpTypes
+pub mod AccessWords
 pub mod Operators
 pub mod Qualifiers
 pub mod Grammar

@@ -93,7 +93,7 @@ protocol_of w = option_or (upper_layer_of w) (option_or (header_called w) (numbe
 
 abbrev pub comparison_of : Word → Option Comparison
 comparison_of w =
-    if bytes_eq w (codes "=") then Some by.Equal
+    if bytes_eq w (codes "=") || bytes_eq w (codes "==") then Some by.Equal
     else if bytes_eq w (codes "!=") then Some by.NotEqual
     else if bytes_eq w (codes "<") then Some by.Less
     else if bytes_eq w (codes "<=") then Some by.AtMost

@@ -3,6 +3,7 @@ use Rattle.std.specs.Prelude.{◌≡◌, ◌≤◌, ◌<◌, ◌+◌, ◌-◌, �
 use Rattle.std.specs.Option.{option_map_or}
 use Rattle.std.specs.Str.{bytes_eq}
 use Rattle.ip_filter.specs.declared.words.Word.{Word as FirstWord}
+use Rattle.ip_filter.specs.declared.term.AccessedBytes.{AccessedBytes}
 use Rattle.ip_filter.specs.declared.term.Quantity.{Quantity}
 use Rattle.ip_filter.specs.declared.term.Term.{Term}
 use Rattle.ip_filter.specs.declared.keyword.Keyword.{Keyword}
@@ -21,6 +22,7 @@ use Rattle.ip_filter.specs.declared.parse_error.Expected.{Expected}
 use Rattle.ip_filter.specs.declared.parse_error.Expected.TheVariants as expects
 use Rattle.ip_filter.specs.Words.{Word, words, is_white_space}
 use Rattle.ip_filter.specs.Numbers.{comparison_of, IsFrontText}
+use Rattle.ip_filter.specs.AccessWords.{bits_of, ends_joined_bits, AreBits}
 use Rattle.ip_filter.specs.Formula.{terms_of}
 use Rattle.ip_filter.specs.Qualifiers.{protocol_named, direction_named, kind_named, kind_of, of_any_protocol, directions_at, side_at, side_or_kind_at, qualifiers_at, wanted, Identifies, Identify, says, says_named}
 use Rattle.ip_filter.specs.Operators.{is_and, is_or}
@@ -61,6 +63,32 @@ LastIs Is ws = (front : List Word) × (w : Word) × (ws ≡ front ++ w ∷ []) �
 abbrev pub AreJoining : Word → List Word → Type 0
 AreJoining side ws = (front : List Word) × (w : Word) × (ws ≡ front ++ side ∷ w ∷ []) × IsTrue (is_and w || is_or w)
 
+-- the last of the words are a keyword that a comparison and a number follow, and a comparison
+abbrev pub AreCounting : List Word → Type 0
+AreCounting ws = (front : List Word) × (k : Word) × (w : Word) × (ws ≡ front ++ k ∷ w ∷ []) × IsCountKeyword k × IsTrue (is_some (comparison_of w))
+
+-- an access begins with the word
+abbrev pub IsAccess : Word → Type 0
+IsAccess w = (a : AccessedBytes) × IsKeyword (keyword.Access a) w
+
+-- the last of the words are the first one of an access, `&` and a mask
+abbrev pub EndMask : List Word → Type 0
+EndMask ws = (front : List Word) × (w : Word) × (mask : List Word) × (n : ℕ) × (ws ≡ front ++ w ∷ codes "&" ∷ mask) × IsAccess w × AreBits mask n
+
+-- The last of the words wants bits of an access: `&` a mask, and a comparison those that are compared with.
+abbrev pub WantBits : List Word → Type 0
+WantBits ws =
+    LastIs (λ w. w ≡ codes "&") ws
+    ⊎ ((front : List Word) × (w : Word) × (ws ≡ front ++ w ∷ []) × IsTrue (is_some (comparison_of w)) × (LastIs IsAccess front ⊎ EndMask front))
+
+-- the last of the words wants bits in parentheses: the opening one, or `|`
+abbrev pub WantJoinedBits : List Word → Type 0
+WantJoinedBits ws = ((front : List Word) × (ws ≡ front ++ codes "(" ∷ []) × WantBits front) ⊎ LastIs (λ w. w ≡ codes "|") ws
+
+-- the last of the words is one of the bits in parentheses
+abbrev pub EndJoinedBits : List Word → Type 0
+EndJoinedBits ws = (front : List Word) × (w : Word) × (ws ≡ front ++ w ∷ []) × IsTrue (is_some (bits_of w)) × WantJoinedBits front
+
 -- the last of the words wants this argument
 abbrev pub WantsArgument : List Word → Expected → Type 0
 WantsArgument ws expects.Version = LastIs (IsKeyword (keyword.Number number.Version)) ws
@@ -70,8 +98,8 @@ WantsArgument ws expects.Number = LastIs IsNumberKeyword ws
 WantsArgument ws expects.Byte = LastIs IsByteKeyword ws
 WantsArgument ws expects.IcmpType = LastIs (IsKeyword (keyword.Number number.IcmpType)) ws
 WantsArgument ws expects.Icmp6Type = LastIs (IsKeyword (keyword.Number number.Icmp6Type)) ws
-WantsArgument ws expects.Comparison = LastIs IsCountKeyword ws
-WantsArgument ws expects.Count = LastIs (λ w. IsTrue (is_some (comparison_of w))) ws
+WantsArgument ws expects.Comparison = LastIs IsCountKeyword ws ⊎ EndMask ws
+WantsArgument ws expects.Count = AreCounting ws
 WantsArgument ws expects.Network = LastIs (IsKind kind.Network) ws
 WantsArgument ws expects.Mask = LastIs (λ w. w ≡ codes "mask") ws
 WantsArgument ws expects.Address = LastIs (IsKind kind.Host) ws
@@ -80,6 +108,10 @@ WantsArgument ws expects.Source = AreJoining (codes "dst") ws
 WantsArgument ws expects.Destination = AreJoining (codes "src") ws
 WantsArgument ws expects.Ports = LastIs (IsKind kind.Ports) ws
 WantsArgument ws expects.TcpFlags = LastIs (IsKeyword (keyword.Number number.TcpFlags)) ws
+WantsArgument ws expects.MaskOrComparison = LastIs IsAccess ws
+WantsArgument ws expects.Bits = WantBits ws
+WantsArgument ws expects.JoinedBits = WantJoinedBits ws
+WantsArgument ws expects.JoinedBitsEnd = EndJoinedBits ws
 WantsArgument ws e = ⊥
 
 -- `and` or `or`
@@ -138,6 +170,38 @@ pub record RefusesArguments {A : Type 0} (Writes : List Word → A → Type 0) (
   pub expected : (w : Word) → Is w → WantsArgument (w ∷ before) e
   pub none : (b : A) (us ws more : List Word) → Writes us b → us ++ more ≡ before ++ ws
       → take 1 ws ≡ take 1 (words (drop (length text - left) text)) → ⊥
+
+-- The text begins with words in which `find` finds a, whatever follows them, and `rest` follows them.
+pub record ReadsAt {A : Type 0} (find : List Word → Option (A × List Word)) (text : List ℕ) (a : A) (rest : List ℕ) : Type 0 where
+  pub front : List Word
+  pub begins : words text ≡ front ++ words rest
+  pub at : (ws : List Word) → find (front ++ ws) ≡ Some (a, ws)
+  pub end : IsSuffix text rest
+
+-- In words that begin like those of the text, up to that at the place `left`, or end there, `find` finds nothing. It does in some
+-- that begin with the words before that place, whatever follows. After words of this kind and those, e is expected there.
+pub record RefusesAt {A : Type 0} (find : List Word → Option (A × List Word)) (After : List Word → Type 0) (text : List ℕ) (left : ℕ) (e : Expected) : Type 0 where
+  pub front : List Word
+  pub place : IsPlace text front left
+  pub begins : (a : A) × (ws : List Word) × ((more : List Word) → find (front ++ (ws ++ more)) ≡ Some (a, more))
+  pub expected : (us : List Word) → After us → WantsArgument (us ++ front) e
+  pub none : (ws : List Word) → take 1 ws ≡ take 1 (words (drop (length text - left) text)) → find (front ++ ws) ≡ None
+
+-- After `&`, with which the text begins, `rest` follows.
+pub record BeginsAnd (text rest : List ℕ) : Type 0 where
+  pub sign : FirstWord
+  pub first : IsFirstWord text sign
+  pub is_and : sign.bytes.now ≡ codes "&"
+  pub after : rest ≡ sign.rest.now
+
+-- The text begins with one of several bits, n, and a word after it, which ends them or doesn't, and `rest` follows them.
+pub record ReadsJoined (text : List ℕ) (n : ℕ) (ends : Bool) (rest : List ℕ) : Type 0 where
+  pub word : Word
+  pub sign : Word
+  pub begins : words text ≡ word ∷ sign ∷ words rest
+  pub bits : bits_of word ≡ Some n
+  pub goes_on : ends_joined_bits sign ≡ Some ends
+  pub end : IsSuffix text rest
 
 -- what may follow a term: nothing, `and`, `or` or `)`
 abbrev pub ends_term : List Word → Bool

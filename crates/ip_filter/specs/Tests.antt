@@ -7,6 +7,8 @@ use Rattle.ip_filter.specs.Transport.{source_port, destination_port, lacks_trans
 use Rattle.ip_filter.specs.Truth.{is_in_layer, compares, has_base, has_source, has_destination, some_fragment, quantity_of, lacks_length}
 use Rattle.ip_filter.specs.HeaderFields.{has_option, has_spi, has_routing_type, has_segments_left}
 use Rattle.ip_filter.specs.Flags.{any_flag}
+use Rattle.ip_filter.specs.Access.{number_at, bytes_from}
+use Rattle.ip_filter.specs.declared.term.AccessedHeader.TheVariants as from
 use Rattle.ip_filter.specs.declared.network.Network.{Network}
 use Rattle.ip_filter.specs.declared.network.Network.TheVariants.{Ipv4, Ipv6}
 use Rattle.ip_filter.specs.declared.term.Comparison.{Comparison}
@@ -46,6 +48,11 @@ compared x q p =
 abbrev pub is_in_range : Test → Option ℕ → Bool
 is_in_range x n = option_map_or (λ m. nat_le x.number m && nat_le m x.address_low) n false
 
+-- The number that the test reads of the bytes b is there, and those of its bits that count compare as the test asks.
+abbrev pub reads : Test → List ℕ → Bool
+reads x b =
+    option_map_or (λ c. option_map_or (λ n. compares c (bit_and n x.address_low) x.number) (number_at x.address_high x.prefix_len b) false) (comparison_in x.comparison) false
+
 -- The packet with the parts p meets a test of the first bytes of its payload. It meets none with another kind.
 abbrev pub meets_in_payload : Test → DissectedParts → Bool
 meets_in_payload x p =
@@ -58,6 +65,7 @@ meets_in_payload x p =
     else if x.kind == 22 then option_map_or (λ n. bit_and n x.address_low == x.number) (tcp_flags p) false
     else if x.kind == 28 then option_map_or (λ n. n == x.number) (icmp6_byte 0 p) false
     else if x.kind == 29 then option_map_or (λ n. n == x.number) (icmp6_byte 1 p) false
+    else if x.kind == 32 then reads x (bytes_from (from.Transport x.version) p)
     else false
 
 -- The packet with the parts p meets the test.
@@ -84,6 +92,7 @@ meets x p =
     else if x.kind == 26 then any_flag 64 x.address_low p && is_in_layer x.number p.version p.end
     else if x.kind == 27 then (p.version == x.version) && (p.number == x.number)
     else if x.kind == 30 then lacks_length p
+    else if x.kind == 31 then reads x (bytes_from (from.Base x.version) p)
     else meets_in_payload x p
 
 -- a frame meets the test: the packet at the start of its bytes does, and a frame that is not IP meets none

@@ -1,5 +1,5 @@
 -- What a term says of a packet.
-use Rattle.std.specs.Prelude.{ℕ, ◌+◌, List, length, Bool, true, false, not, ◌==◌, ◌&&◌, ◌||◌, ◌/◌, ◌%◌, nat_lt, if◌then◌else◌, Option, Some, None, is_some}
+use Rattle.std.specs.Prelude.{ℕ, ◌+◌, bit_and, List, length, Bool, true, false, not, ◌==◌, ◌&&◌, ◌||◌, ◌/◌, ◌%◌, nat_lt, if◌then◌else◌, Option, Some, None, is_some}
 use Rattle.std.specs.Int.{from_be_bytes, w32, w128}
 use Rattle.std.specs.List.{list_any}
 use Rattle.std.specs.Option.{option_map_or, option_or}
@@ -26,6 +26,7 @@ use Rattle.ip_base.specs.BaseHeaderFields.{ipv4_ttl, ipv4_dscp, ipv4_ecn, ipv6_h
 use Rattle.ip_filter.specs.Network.{ipv4_lies_in, ipv6_lies_in}
 use Rattle.ip_filter.specs.HeaderFields.{has_option, has_spi, has_routing_type, has_segments_left}
 use Rattle.ip_filter.specs.Transport.{source_port, destination_port, lacks_transport, is_icmp, is_icmp6, icmp_byte, icmp6_byte, esp_spi, tcp_flags, is_port_in, are_set}
+use Rattle.ip_filter.specs.Access.{accessed}
 use Rattle.ip_filter.specs.declared.network.Network.{Network}
 use Rattle.ip_filter.specs.declared.term.Comparison.{Comparison}
 use Rattle.ip_filter.specs.declared.term.Comparison.TheVariants as by
@@ -191,3 +192,4 @@ holds (term.IcmpCode n) p = option_map_or (λ x. x == n) (icmp_byte 1 p) false
 holds (term.Icmp6Type n) p = option_map_or (λ x. x == n) (icmp6_byte 0 p) false
 holds (term.Icmp6Code n) p = option_map_or (λ x. x == n) (icmp6_byte 1 p) false
 holds (term.TcpFlags t) p = option_map_or (are_set t) (tcp_flags p) false
+holds (term.Access a c) p = option_map_or (λ n. compares c.comparison (bit_and n c.mask) c.number) (accessed a p) false

@@ -12,9 +12,9 @@ is_white_space c = (c == 9) || (c == 10) || (c == 13) || (c == 32)
 abbrev pub is_sign : ℕ → Bool
 is_sign c = (c == 33) || (c == 38) || (c == 40) || (c == 41) || (c == 60) || (c == 61) || (c == 62) || (c == 124)
 
--- the signs c and d are one word: && || != <= >=
+-- the signs c and d are one word: && || != <= == >=
 abbrev pub is_double_sign : ℕ → ℕ → Bool
-is_double_sign c d = ((c == d) && ((c == 38) || (c == 124))) || ((d == 61) && ((c == 33) || (c == 60) || (c == 62)))
+is_double_sign c d = ((c == d) && ((c == 38) || (c == 124))) || ((d == 61) && ((c == 33) || (c == 60) || (c == 61) || (c == 62)))
 
 -- the byte c, which is no white space, and the byte d after it are in one word
 abbrev pub joins : ℕ → ℕ → Bool

@@ -2,8 +2,9 @@
 ghost use Rattle.std.specs.Prelude.{◌≡◌};
 ghost use Rattle.ip_filter.specs.Grammar.{alone, quantity_named, icmp_keyword_of, number_keyword_of, keyword_of};
 
+use crate::access_words::access_of;
 use crate::qualifiers::{Protocol, protocol_named};
-use crate::{Quantity, Term};
+use crate::{AccessedBytes, Quantity, Term};
 
 /// What a keyword is: a term, or the beginning of one.
 #[derive(Clone, Copy)]
@@ -22,6 +23,8 @@ pub(crate) enum Keyword {
     Compared(Quantity),
     /// The segments left of a routing header, which a comparison and a number follow.
     SegmentsLeft,
+    /// Bytes of the packet, which a mask may follow, and then a comparison and what they are compared with.
+    Access(AccessedBytes),
 }
 
 /// A keyword that a number or a name follows.
@@ -75,8 +78,11 @@ pub(crate) fn keyword_of(word: &[u8]) -> Option<Keyword>
     if let Some(quantity) = quantity_named(word) {
         return Some(Keyword::Compared(quantity));
     }
-    match number_keyword_of(word) {
-        Some(keyword) => Some(Keyword::Number(keyword)),
+    if let Some(keyword) = number_keyword_of(word) {
+        return Some(Keyword::Number(keyword));
+    }
+    match access_of(word) {
+        Some(bytes) => Some(Keyword::Access(bytes)),
         None => None,
     }
 }

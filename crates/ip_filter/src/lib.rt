@@ -45,6 +45,9 @@
 //!   packet.
 #![tactic(auto)]
 
+mod access;
+mod access_bits;
+mod access_words;
 mod arguments;
 mod brief;
 mod builder;
@@ -87,4 +90,7 @@ pub use filter::{Filter, Test};
 pub use laws::{bytes_after_the_packet_change_nothing, errors_lie_in_their_layers};
 pub use network::Network;
 pub use parse_error::{Expected, ParseError};
-pub use term::{Comparison, FaultKind, Ports, Quantity, TcpFlags, Term};
+pub use term::{
+    AccessedBytes, AccessedHeader, ComparedBits, Comparison, FaultKind, Ports, Quantity, TcpFlags,
+    Term,
+};

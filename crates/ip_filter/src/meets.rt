@@ -75,6 +75,10 @@ pub(crate) mod kind {
     pub const ICMP6_CODE: u8 = 29;
 
     pub const NO_LENGTH: u8 = 30;
+
+    pub const BASE_ACCESS: u8 = 31;
+
+    pub const TRANSPORT_ACCESS: u8 = 32;
 }
 
 impl Test {
@@ -113,6 +117,7 @@ impl Test {
             kind::LAYER => { facts.has_one_of(self.address_low) && facts.is_in_layer(self.number) }
             kind::VERSION_LEADS_TO => self.version_leads_to(&facts.packet),
             kind::NO_LENGTH => facts.lacks_length(),
+            kind::BASE_ACCESS => self.reads(facts.bytes_of_version(self.version)),
             _ => self.is_met_in_payload(facts),
         }
     }
@@ -137,6 +142,7 @@ impl Test {
             kind::TCP_FLAGS => {
                 self.has_tcp_flags(facts.packet.outline.next_header.0, facts.transport())
             },
+            kind::TRANSPORT_ACCESS => self.reads(facts.bytes_of_protocol(self.version)),
             _ => false,
         }
     }

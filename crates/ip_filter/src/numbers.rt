@@ -183,6 +183,16 @@ fn parse_port(word: &[u8]) -> Option<u16>
     }
 }
 
+/// Returns the number that the word writes, if it fits 32 bits.
+pub(crate) fn parse_long(word: &[u8]) -> Option<u32>
+    ensures { result ≡ number_up_to 4294967295 word.now }
+{
+    match parse_number(word, 4_294_967_295) {
+        Some(number) => Some(number as u32),
+        None => None,
+    }
+}
+
 /// Returns the index of the first such byte, or the length of the word.
 #[tactic(auto, using(crate::proofs::IndexLemmas::byte_later, crate::proofs::IndexLemmas::byte_here, crate::proofs::IndexLemmas::no_byte))]
 pub(crate) fn index_of(word: &[u8], byte: u8) -> usize
@@ -202,7 +212,7 @@ pub(crate) fn parse_comparison(word: &[u8]) -> Option<Comparison>
     ensures { result ≡ comparison_of word.now }
 {
     match word {
-        b"=" => Some(Comparison::Equal),
+        b"=" | b"==" => Some(Comparison::Equal),
         b"!=" => Some(Comparison::NotEqual),
         b"<" => Some(Comparison::Less),
         b"<=" => Some(Comparison::AtMost),

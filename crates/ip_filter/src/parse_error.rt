@@ -64,6 +64,18 @@ pub enum Expected {
     /// Flags of TCP.
     #[error("`fin`, `syn`, `rst`, `psh`, `ack`, `urg`, `ece` or `cwr`, or a list as syn,ack or syn/syn,ack")]
     TcpFlags,
+    /// A mask or a comparison, after the bytes that an access reads.
+    #[error("`&` and a mask, or `=`, `!=`, `<`, `<=`, `>` or `>=`")]
+    MaskOrComparison,
+    /// A mask, or what is compared with, in an access.
+    #[error("a number from 0 to 4294967295, a name as tcp-syn or icmp-echo, or `(` and several with `|` between them")]
+    Bits,
+    /// One of several, in an access.
+    #[error("a number from 0 to 4294967295 or a name as tcp-syn or icmp-echo")]
+    JoinedBits,
+    /// Another one of several, or their end, in an access.
+    #[error("`|` or `)`")]
+    JoinedBitsEnd,
     /// No operator, since there are 64 terms already.
     #[error("no more than 64 terms")]
     FewerTerms,

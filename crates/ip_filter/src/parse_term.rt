@@ -5,6 +5,7 @@ ghost use Rattle.ip_filter.specs.Qualifiers.{multicast_with};
 ghost use Rattle.ip_filter.specs.Grammar.{Finds, AreCompared, layer_with};
 ghost use Rattle.ip_filter.specs.Reading.{IsCountKeyword, BeginsOtherwise, ReadsTerm, RefusesTerm, ReadsArgument, ReadsArguments, RefusesArguments};
 
+use crate::access_bits::read_compared_bits;
 use crate::arguments::{
     Unexpected, read_comparison, read_header, read_icmp_type, read_icmp6_type, read_number,
     read_protocol, read_tcp_flags, read_version,
@@ -24,7 +25,7 @@ const MAX_NUMBER: u64 = 4_294_967_295;
 pub(crate) type ReadTerm<'a> = Result<(Term, &'a [u8]), Unexpected>;
 
 /// Reads the term with the keyword from the text after it, and returns the term and what follows it.
-#[tactic(auto, using(crate::proofs::TermLemmas::alone_read, crate::proofs::TermLemmas::compared_read, crate::proofs::TermLemmas::segments_left_read))]
+#[tactic(auto, using(crate::proofs::TermLemmas::alone_read, crate::proofs::TermLemmas::compared_read, crate::proofs::TermLemmas::segments_left_read, crate::proofs::TermLemmas::access_read, crate::proofs::TermLemmas::access_refused))]
 pub(crate) fn read_term(keyword: Keyword, text: &[u8]) -> ReadTerm<'_>
     ensures ok { IfOk result (λ r. ReadsTerm keyword text.now r.0 r.1.now) }
     ensures err { IfErr result (λ e. RefusesTerm keyword text.now e.left e.expected) }
@@ -43,6 +44,10 @@ pub(crate) fn read_term(keyword: Keyword, text: &[u8]) -> ReadTerm<'_>
         },
         Keyword::SegmentsLeft => match read_count(text) {
             Ok(((comparison, number), rest)) => Ok((Term::SegmentsLeft(comparison, number), rest)),
+            Err(error) => Err(error),
+        },
+        Keyword::Access(bytes) => match read_compared_bits(text) {
+            Ok((bits, rest)) => Ok((Term::Access(bytes, bits), rest)),
             Err(error) => Err(error),
         },
     }

@@ -60,6 +60,38 @@ pub struct TcpFlags {
     pub mask: u8,
 }
 
+/// The header from which an access counts.
+#[derive(Clone, Copy, Debug, PartialEq, Eq)]
+pub enum AccessedHeader {
+    /// The base header of this version.
+    Base(u8),
+    /// The header of the protocol with this number, after the extension headers: ICMP, 1, of an IPv4 packet, and ICMPv6, 58,
+    /// of an IPv6 packet.
+    Transport(u8),
+}
+
+/// The bytes that an access reads: a number in network byte order.
+#[derive(Clone, Copy, Debug, PartialEq, Eq)]
+pub struct AccessedBytes {
+    /// The header from which the offset counts.
+    pub header: AccessedHeader,
+    /// Where the number starts.
+    pub offset: u32,
+    /// How many bytes it has: 1, 2 or 4. No packet has a number of another size.
+    pub size: u8,
+}
+
+/// How the number that an access reads is compared.
+#[derive(Clone, Copy, Debug, PartialEq, Eq)]
+pub struct ComparedBits {
+    /// Which of its bits count: the others are 0.
+    pub mask: u32,
+    /// How it is compared.
+    pub comparison: Comparison,
+    /// What it is compared with.
+    pub number: u32,
+}
+
 /// What is wrong in a faulty header.
 #[derive(Clone, Copy, Debug, PartialEq, Eq)]
 pub enum FaultKind {
@@ -153,4 +185,7 @@ pub enum Term {
     /// The payload begins with a TCP header, of which these flags are set, and the others that count aren't. The headers
     /// end at the payload, as for ports, and the byte of the flags is there (RFC 9293, section 3.1).
     TcpFlags(TcpFlags),
+    /// These bytes are there, and compare so. Those from a base header on may be any of the packet, its payload too; those from
+    /// a transport header on need headers that end at the payload, as for ports.
+    Access(AccessedBytes, ComparedBits),
 }

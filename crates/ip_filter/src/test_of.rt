@@ -1,9 +1,10 @@
 //! Tests that terms stand for.
-ghost use Rattle.std.specs.Prelude.{◌≡◌, ◌==◌, ℕ, List, Some, false};
+ghost use Rattle.std.specs.Prelude.{◌≡◌, ◌==◌, bit_and, ℕ, List, Some, false};
 ghost use Rattle.ip_dissect.specs.Dissection.{DissectedParts, dissected};
 ghost use Rattle.std.specs.List.{list_any};
 ghost use Rattle.std.specs.Option.{option_map_or};
 ghost use Rattle.ip_filter.specs.Truth.{holds, is_version, fault_in, kind_index, compares, quantity_of};
+ghost use Rattle.ip_filter.specs.Access.{accessed};
 ghost use Rattle.ip_codes.specs.Codes.{layer_code};
 ghost use Rattle.ip_filter.specs.Flags.{any_flag};
 ghost use Rattle.ip_filter.specs.Tests.{meets, comparison_in, network_in, compared};
@@ -14,7 +15,10 @@ use crate::holds::kind_index;
 use crate::meets::kind;
 use crate::run::PASSED;
 use crate::transport::protocol;
-use crate::{Comparison, FaultKind, Network, Ports, Quantity, TcpFlags, Term, Test};
+use crate::{
+    AccessedBytes, AccessedHeader, ComparedBits, Comparison, FaultKind, Network, Ports, Quantity,
+    TcpFlags, Term, Test,
+};
 use ip_base::err::Layer;
 use ip_base::{IpNumber, ip_number};
 use ip_codes::layer_code_of;
@@ -69,6 +73,7 @@ impl Test {
             Term::Icmp6Type(number) => Test::of_number(kind::ICMP6_TYPE, u64::from(number)),
             Term::Icmp6Code(number) => Test::of_number(kind::ICMP6_CODE, u64::from(number)),
             Term::TcpFlags(flags) => Test::of_tcp_flags(flags),
+            Term::Access(bytes, bits) => Test::of_access(bytes, bits),
         }
     }
 
@@ -182,6 +187,45 @@ impl Test {
         Test {
             address_low: u64::from(flags.mask),
             ..Test::of_number(kind::TCP_FLAGS, u64::from(flags.set))
+        }
+    }
+
+    /// Returns a test of bytes of the packet.
+    fn of_access(bytes: AccessedBytes, bits: ComparedBits) -> Test
+        ensures meets { (p : DissectedParts) → meets result p
+            ≡ option_map_or (λ n. compares bits.comparison (bit_and n bits.mask) bits.number) (accessed bytes p) false }
+        ensures if_met { result.if_met ≡ 64 }
+        ensures if_not { result.if_not ≡ 65 }
+    {
+        match bytes.header {
+            AccessedHeader::Base(version) => {
+                Test::of_bytes(kind::BASE_ACCESS, version, bytes, bits)
+            }
+            AccessedHeader::Transport(number) => {
+                Test::of_bytes(kind::TRANSPORT_ACCESS, number, bytes, bits)
+            }
+        }
+    }
+
+    /// Returns a test of this kind of bytes from a header on, which has this version, or this number of a protocol.
+    fn of_bytes(kind: u8, header: u8, bytes: AccessedBytes, bits: ComparedBits) -> Test
+        ensures kind { result.kind ≡ kind }
+        ensures header { result.version ≡ header }
+        ensures offset { result.address_high ≡ bytes.offset }
+        ensures size { result.prefix_len ≡ bytes.size }
+        ensures mask { result.address_low ≡ bits.mask }
+        ensures comparison { comparison_in result.comparison ≡ Some bits.comparison }
+        ensures number { result.number ≡ bits.number }
+        ensures if_met { result.if_met ≡ 64 }
+        ensures if_not { result.if_not ≡ 65 }
+    {
+        Test {
+            address_high: u64::from(bytes.offset),
+            address_low: u64::from(bits.mask),
+            comparison: comparison_code(bits.comparison),
+            version: header,
+            prefix_len: bytes.size,
+            ..Test::of_number(kind, u64::from(bits.number))
         }
     }
 

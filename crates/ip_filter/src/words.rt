@@ -85,7 +85,7 @@ fn is_double_sign(first: u8, second: u8) -> bool
 {
     match first {
         b'&' | b'|' => second == first,
-        b'!' | b'<' | b'>' => second == b'=',
+        b'!' | b'<' | b'=' | b'>' => second == b'=',
         _ => false,
     }
 }

@@ -27,3 +27,7 @@ expected_code expected.Icmp6Type = 19
 expected_code expected.Source = 20
 expected_code expected.Destination = 21
 expected_code expected.Mask = 22
+expected_code expected.MaskOrComparison = 23
+expected_code expected.Bits = 24
+expected_code expected.JoinedBits = 25
+expected_code expected.JoinedBitsEnd = 26

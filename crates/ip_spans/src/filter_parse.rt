@@ -65,6 +65,10 @@ fn code_of(expected: Expected) -> u8
         Expected::Source => 20,
         Expected::Destination => 21,
         Expected::Mask => 22,
+        Expected::MaskOrComparison => 23,
+        Expected::Bits => 24,
+        Expected::JoinedBits => 25,
+        Expected::JoinedBitsEnd => 26,
     }
 }
 
@@ -96,6 +100,10 @@ pub(crate) fn expected_of(code: u8) -> Option<Expected>
         20 => Some(Expected::Source),
         21 => Some(Expected::Destination),
         22 => Some(Expected::Mask),
+        23 => Some(Expected::MaskOrComparison),
+        24 => Some(Expected::Bits),
+        25 => Some(Expected::JoinedBits),
+        26 => Some(Expected::JoinedBitsEnd),
         _ => None,
     }
 }

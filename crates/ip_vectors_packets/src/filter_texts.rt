@@ -127,6 +127,7 @@ fn terms(rt: HostRuntime) -> Result<(), Fail> {
         ("fault too-short IPv4-packet", ports(26, 3, 0x1000)),
         ("fault zero-length IPv6-extension", ports(26, 7, 0x4000)),
         ("headers<=3", count(3, 4, 3)),
+        ("headers==3", count(3, 1, 3)),
         (
             "chain-bytes != 18446744073709551615",
             count(4, 2, 18_446_744_073_709_551_615),
@@ -499,7 +500,7 @@ fn errors_in_arguments(rt: HostRuntime) -> Result<(), Fail> {
         ("header tcp", 7, Expected::Header),
         ("leads-to +6", 9, Expected::Protocol),
         ("headers 3", 8, Expected::Comparison),
-        ("headers == 3", 9, Expected::Count),
+        ("headers = = 3", 10, Expected::Count),
         ("payload > 18446744073709551616", 10, Expected::Count),
         ("spi 4294967296", 4, Expected::Number),
         ("id 0x", 3, Expected::Number),

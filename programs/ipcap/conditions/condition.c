@@ -80,12 +80,11 @@ static void append(struct text *text, size_t *len, const char *bytes, size_t cou
     for (size_t i = 0; i < count; i++) text->origins[(*len)++] = origin + (is_copied ? i : 0);
 }
 
-/* Copies a word, or if `is_port` is set the port of the service that it names. For `==`, writes `=`. */
+/* Copies a word, or if `is_port` is set the port of the service that it names. */
 static void copy_word(struct text *text, size_t *len, const char *word, size_t size, size_t origin, bool is_port)
 {
     char digits[PORT_DIGITS + 1];
     size_t port = is_port ? write_port(word, size, digits) : 0;
-    if (is_word(word, size, "==")) size = 1;
     append(text, len, port ? digits : word, port ? port : size, origin, port == 0);
 }
 
@@ -187,29 +186,6 @@ static const struct {
     {"igmp", "leads-to 2"},
     {"pim", "leads-to 103"},
     {"vrrp", "leads-to 112"},
-    {"tcp[tcpflags]", "tcp-flags FLAGS"},
-    {"icmp[icmptype]", "icmp-type TYPE"},
-    {"icmp[icmpcode]", "icmp-code N"},
-    {"icmp6[icmp6type]", "icmp6-type TYPE"},
-    {"icmp6[icmp6code]", "icmp6-code N"},
-    {"tcp[13]", "tcp-flags FLAGS"},
-    {"tcp[0:2]", "tcp src port PORTS"},
-    {"tcp[2:2]", "tcp dst port PORTS"},
-    {"udp[0:2]", "udp src port PORTS"},
-    {"udp[2:2]", "udp dst port PORTS"},
-    {"icmp[0]", "icmp-type TYPE"},
-    {"icmp[1]", "icmp-code N"},
-    {"icmp6[0]", "icmp6-type TYPE"},
-    {"icmp6[1]", "icmp6-code N"},
-    {"ip[1]", "dscp OP N, or ecn OP N"},
-    {"ip[2:2]", "ip and length OP N"},
-    {"ip[6:2]", "fragment, first-fragment or later-fragment"},
-    {"ip[8]", "ip and ttl OP N"},
-    {"ip[9]", "ip proto N"},
-    {"ip[12:4]", "src ADDRESS"},
-    {"ip[16:4]", "dst ADDRESS"},
-    {"ip6[6]", "ip6 proto N"},
-    {"ip6[7]", "ip6 and hop-limit OP N"},
 };
 
 /* Words of libpcap's expressions about the link layer. */
@@ -241,12 +217,16 @@ static void show_ours(const char *word, size_t size)
         fprintf(stderr, "  for libpcap's `%s`, write `%s`\n", libpcap_words[i].word, libpcap_words[i].ours);
         return;
     }
-    if (is_one_of(word, size, link_layer_words, sizeof link_layer_words / sizeof *link_layer_words))
-        fprintf(stderr, "  libpcap's `%.*s` asks about the link layer, which no term does\n", (int)size, word);
+    const char *bracket = memchr(word, '[', size);
+    size_t name = bracket ? (size_t)(bracket - word) : size;
+    if (is_one_of(word, name, link_layer_words, sizeof link_layer_words / sizeof *link_layer_words))
+        fprintf(stderr, "  libpcap's `%.*s` asks about the link layer, which no term does\n", (int)name, word);
     else if (is_word(word, size, "geneve"))
         fputs("  libpcap's `geneve` asks about a packet in the payload, which no term does\n", stderr);
-    else if (memchr(word, '[', size))
-        fputs("  no term reads bytes at an offset; `ipcap filter --help-terms` lists the terms\n", stderr);
+    else if (bracket)
+        fputs("  bytes are read as by `tcp[13]` or `ip[2:2]`: 1, 2 or 4, at a constant offset\n", stderr);
+    else if (size == 1 && strchr("+-*/%^", *word))
+        fputs("  no term calculates with bytes\n", stderr);
     else if (size > 1 && size <= MOST_HEADER && word[0] == '\\')
         fprintf(stderr, "  for libpcap's `%.*s`, write `%.*s`\n", (int)size, word, (int)size - 1, word + 1);
 }

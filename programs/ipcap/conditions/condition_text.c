@@ -132,6 +132,19 @@ static int print_tcp_flags(const char *word, const struct wolfaren_filter_test *
     return len + printf("/") + print_tcp_names(test->address_low);
 }
 
+/* Prints bytes of the packet and how they compare: from the base header on, if `word` is empty, or from a protocol's header. */
+static int print_access(const char *word, const struct wolfaren_filter_test *test)
+{
+    const char *comparison = test->comparison < COUNT(comparisons) ? comparisons[test->comparison] : NULL;
+    const char *name = *word ? wolfaren_number_word(test->version) : test->version == 4 ? "ip" : "ip6";
+    if (!comparison) return print_never();
+    int len = printf("%s[%llu", name, (unsigned long long)test->address_high);
+    if (test->prefix_len > 1) len += printf(":%u", test->prefix_len);
+    len += printf("]");
+    if (test->address_low != UINT32_MAX) len += printf(" & 0x%llx", (unsigned long long)test->address_low);
+    return len + printf(" %s %llu", comparison, (unsigned long long)test->number);
+}
+
 static int print_network(const char *word, const struct wolfaren_filter_test *test)
 {
     char text[NETWORK_ROOM];
@@ -174,6 +187,8 @@ static const struct {
     [WOLFAREN_TEST_ICMP6_TYPE] = {print_number, "icmp6-type"},
     [WOLFAREN_TEST_ICMP6_CODE] = {print_number, "icmp6-code"},
     [WOLFAREN_TEST_NO_LENGTH] = {print_word, "no-length"},
+    [WOLFAREN_TEST_BASE_ACCESS] = {print_access, ""},
+    [WOLFAREN_TEST_TRANSPORT_ACCESS] = {print_access, "protocol"},
 };
 
 /* Prints a test, and returns the length. No packet meets a test of an unknown kind. */

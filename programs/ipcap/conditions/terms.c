@@ -80,6 +80,8 @@ static const char arguments[] =
     "TCP, UDP, UDP-Lite, SCTP and DCCP have ports. A later fragment has none.\n"
     "host, net, port or portrange may follow src and dst. ip, ip6 or a NAME may precede src, dst and these: `tcp port 443`\n"
     "is `( tcp and port 443 )`. `src or dst` is either one, and `src and dst` both: `src and dst port 53` has two terms.\n"
+    "NAME[I], NAME[I:2] and NAME[I:4] are the number in 1, 2 or 4 bytes at offset I of this protocol's header, or of ip or ip6,\n"
+    "and are compared as in tcpdump's expressions: `tcp[13] & 2 != 0`, `tcp[tcpflags] & (tcp-syn|tcp-ack) = tcp-syn`.\n"
     "An identifier alone takes the words before it: `port 80 or 443` is `port 80 or port 443`.\n"
     "Terms are combined with `not`, `and` and `or`, or `!`, `&&` and `||`, and parentheses.\n";
 

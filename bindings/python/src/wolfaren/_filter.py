@@ -50,7 +50,7 @@ class Filter:
         fault, fault KIND, fault KIND LAYER  KIND LAYER is too-short HEADER, too-short IPv4-packet, not-at-start hop-by-hop,
                                              zero-length authentication, unsupported-version IP-header or header-length
                                              IPv4-header; IPv6-extension after not-at-start and zero-length too
-        headers OP N, chain-bytes OP N, payload OP N       OP is =, !=, <, <=, > or >=
+        headers OP N, chain-bytes OP N, payload OP N       OP is =, ==, !=, <, <=, > or >=
         length OP N                          the length that the IP header states, or the bytes that are there if it states none
         no-length                            the IP header states length 0, although bytes follow it; a jumbo payload option
                                              doesn't count
@@ -81,6 +81,15 @@ class Filter:
     of a protocol may precede `src`, `dst` and these: `tcp src port 80` is `( tcp and src port 80 )`, of two terms. `src or
     dst` is either one, and `src and dst port 53` is `( src port 53 and dst port 53 )`. An address, prefix, port or protocol
     alone takes the words of the term before it: `tcp port 80 or 443` is `tcp port 80 or tcp port 443`.
+
+    An access compares bytes of the packet, as in tcpdump's expressions: `tcp[13] & 2 != 0`, `ip[6:2] & 0x1fff = 0`.
+    `NAME[I]`, `NAME[I:2]` and `NAME[I:4]` are the number in 1, 2 or 4 bytes at offset I, in network byte order. NAME is
+    `ip` or `ip6`, with offsets from the IP header of this version, or the name of a protocol, with offsets from its header,
+    which extension headers may precede. `& BITS` may follow, and then OP and BITS: a number of 32 bits, a name, or several
+    in parentheses with `|` between them, as in `tcp[tcpflags] & (tcp-syn|tcp-ack) != 0`. The names are tcp-fin, tcp-syn,
+    tcp-rst, tcp-push, tcp-ack, tcp-urg, tcp-ece, tcp-cwr and those of types; icmptype, icmpcode, icmp6type, icmp6code and
+    tcpflags are offsets. An access is false, also with `!=`, if not all of its bytes are in the packet, or if the
+    protocol's header is in an earlier fragment.
 
     TCP, UDP, UDP-Lite, SCTP and DCCP have ports. Ports, types, codes and flags of TCP are read from the payload, so
     extension headers may precede them. A later fragment has none, nor has a packet with an error or a truncated header. The

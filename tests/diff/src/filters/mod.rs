@@ -1,5 +1,6 @@
 //! Filters: a plain parser of their texts and a plain evaluation over dissected packets, which share nothing with the
 //! library, and a comparison of both sides on random texts and packets.
+mod accesses;
 mod parse;
 mod texts;
 mod truth;
@@ -58,6 +59,7 @@ pub enum Term {
     Icmp6Type(u64),
     Icmp6Code(u64),
     TcpFlags(TcpFlags),
+    Access(Access),
 }
 
 /// A number of a packet, which terms compare.
@@ -85,6 +87,23 @@ pub struct Ports {
 pub struct TcpFlags {
     pub set: u8,
     pub mask: u8,
+}
+
+/// Bytes of the packet, the bits of them that count, and how they compare.
+#[derive(Debug)]
+pub struct Access {
+    pub start: Start,
+    pub offset: u64,
+    pub size: usize,
+    pub mask: u64,
+    pub comparison: Comparison,
+}
+
+/// Where the offset of an access counts from: the base header of a version, or the header of a protocol.
+#[derive(Clone, Copy, Debug)]
+pub enum Start {
+    Base(u8),
+    Upper(u8),
 }
 
 #[derive(Clone, Copy, Debug, PartialEq, Eq)]
@@ -133,6 +152,10 @@ pub enum Expected {
     IcmpType,
     Icmp6Type,
     TcpFlags,
+    MaskOrComparison,
+    Bits,
+    JoinedBits,
+    JoinedBitsEnd,
     FewerTerms,
     LessNesting,
 }
@@ -252,6 +275,12 @@ mod tests {
             "routing-type 0 or routing-type 2 or segments-left = 0 or segments-left > 3",
             "tcp-flags syn/syn,ack or tcp-flags rst or tcp-flags ece,cwr/ece,cwr,urg",
             "udp-lite and later-fragment",
+            "tcp[13] & (tcp-syn|tcp-ack) != 0",
+            "tcp[13] & 2 = 0 and header dstopts",
+            "udp[0:2] > 0x7fff",
+            "icmp6[icmp6type] < 128",
+            "ip[6:2] & 0x1fff = 0 and not tcp[4:4] >= 0",
+            "ip6[40] > 1",
         ];
         let mut random = Random::new(4);
         for text in texts {
@@ -298,6 +327,14 @@ mod tests {
         )));
         assert!(is_found(|text, packet| ours(
             &replaced(text, "dscp", "ecn"),
+            packet
+        )));
+        assert!(is_found(|text, packet| ours(
+            &replaced(text, ":2]", "]"),
+            packet
+        )));
+        assert!(is_found(|text, packet| ours(
+            &replaced(text, "[1", "[2"),
             packet
         )));
         assert!(is_found(|text, packet| match ours(text, packet) {

@@ -1,5 +1,6 @@
 //! The plain parser: recursive descent over words.
-use super::{Comparison, Expected, FaultKind, Formula, Network, Ports, Quantity, TcpFlags, Term};
+use super::accesses::{accessed, bits};
+use super::{Access, Comparison, Expected, FaultKind, Formula, Network, Ports, Quantity, TcpFlags, Term};
 use etherparse::err::Layer;
 use std::net::IpAddr;
 
@@ -64,7 +65,7 @@ fn is_sign(byte: u8) -> bool {
 }
 
 fn is_pair(first: u8, second: u8) -> bool {
-    [*b"&&", *b"||", *b"!=", *b"<=", *b">="].contains(&[first, second])
+    [*b"&&", *b"||", *b"!=", *b"<=", *b"==", *b">="].contains(&[first, second])
 }
 
 struct Parser {
@@ -316,6 +317,9 @@ impl Parser {
             self.at += usize::from(multicast.is_some());
             return Ok(multicast.unwrap_or(term));
         }
+        if accessed(word).is_some() {
+            return self.access(word);
+        }
         match quantity(word) {
             Some(quantity) => Ok(Term::Compared(quantity, self.comparison()?)),
             None => {
@@ -326,13 +330,59 @@ impl Parser {
     }
 
     fn comparison(&mut self) -> Result<Comparison, Refusal> {
-        let signs = ["=", "!=", "<", "<=", ">", ">="];
-        let sign = self.take(
-            |word| signs.contains(&word).then(|| word.to_owned()),
-            Expected::Comparison,
-        )?;
+        let sign = self.sign(Expected::Comparison)?;
         let number = self.take(|word| number(word, u64::MAX), Expected::Count)?;
         Ok(Comparison { sign, number })
+    }
+
+    fn sign(&mut self, expected: Expected) -> Result<String, Refusal> {
+        let signs = ["=", "==", "!=", "<", "<=", ">", ">="];
+        self.take(
+            |word| signs.contains(&word).then(|| word.to_owned()),
+            expected,
+        )
+    }
+
+    /// Takes the rest of an access that begins with the word.
+    fn access(&mut self, word: &str) -> Result<Term, Refusal> {
+        let Some((start, offset, size)) = accessed(word) else {
+            return self.refuse(Expected::Operand);
+        };
+        let has_mask = self.is_at(&["&"]);
+        self.at += usize::from(has_mask);
+        let (mask, expected) = match has_mask {
+            true => (self.bits()?, Expected::Comparison),
+            false => (u32::MAX.into(), Expected::MaskOrComparison),
+        };
+        let sign = self.sign(expected)?;
+        let number = self.bits()?;
+        Ok(Term::Access(Access {
+            start,
+            offset,
+            size,
+            mask,
+            comparison: Comparison { sign, number },
+        }))
+    }
+
+    /// Takes a name or a number, or several in parentheses.
+    fn bits(&mut self) -> Result<u64, Refusal> {
+        if !self.is_at(&["("]) {
+            return self.take(bits, Expected::Bits);
+        }
+        self.at += 1;
+        let mut found = 0;
+        loop {
+            found |= self.take(bits, Expected::JoinedBits)?;
+            let ends = self.is_at(&[")"]);
+            if !ends && !self.is_at(&["|"]) {
+                return self.refuse(Expected::JoinedBitsEnd);
+            }
+            self.at += 1;
+            if ends {
+                return Ok(found);
+            }
+        }
     }
 }
 
@@ -431,7 +481,7 @@ fn count(formula: &Formula) -> usize {
 }
 
 /// Returns the number that the word writes in decimal, without leading zeros, or after `0x` in hexadecimal.
-fn number(word: &str, most: u64) -> Option<u64> {
+pub(super) fn number(word: &str, most: u64) -> Option<u64> {
     let (digits, radix) = match word.strip_prefix("0x") {
         Some(digits) => (digits, 16),
         None if word.len() > 1 && word.starts_with('0') => return None,
@@ -527,7 +577,7 @@ fn protocol(word: &str) -> Option<u64> {
         .or_else(|| byte(word))
 }
 
-fn upper_layer(word: &str) -> Option<u64> {
+pub(super) fn upper_layer(word: &str) -> Option<u64> {
     match word {
         "icmp" => Some(1),
         "tcp" => Some(6),
@@ -544,7 +594,7 @@ fn upper_layer(word: &str) -> Option<u64> {
 }
 
 /// Returns the type of ICMP by its name in libpcap's expressions, or by its number.
-fn icmp_type(word: &str) -> Option<u64> {
+pub(super) fn icmp_type(word: &str) -> Option<u64> {
     match word {
         "icmp-echoreply" => Some(0),
         "icmp-unreach" => Some(3),
@@ -566,7 +616,7 @@ fn icmp_type(word: &str) -> Option<u64> {
 }
 
 /// Returns the type of ICMPv6 by its name in libpcap's expressions, or by its number.
-fn icmp6_type(word: &str) -> Option<u64> {
+pub(super) fn icmp6_type(word: &str) -> Option<u64> {
     match word {
         "icmp6-destinationunreach" => Some(1),
         "icmp6-packettoobig" => Some(2),

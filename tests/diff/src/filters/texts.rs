@@ -210,6 +210,7 @@ fn term(packet: &[u8], random: &mut Random, words: &mut Vec<String>) {
             word(words, one_of(&["ip", "ip6", "tcp"], random));
             word(words, "multicast");
         }
+        14 if random.percent(60) => access(packet, random, words),
         14 => word(words, one_of(&NAMES, random)),
         15 => base_field(packet, random, words),
         16..18 => {
@@ -306,7 +307,50 @@ fn alone(random: &mut Random, words: &mut Vec<String>, made: impl Fn(&mut Random
 }
 
 fn comparison(random: &mut Random) -> String {
-    one_of(&["=", "!=", "<", "<=", ">", ">="], random)
+    one_of(&["=", "==", "!=", "<", "<=", ">", ">="], random)
+}
+
+/// Appends an access, perhaps with a mask, and a value that the packet may have.
+fn access(packet: &[u8], random: &mut Random, words: &mut Vec<String>) {
+    let name = match random.below(3) {
+        0 => one_of(&["ip", "ip6"], random),
+        1 => one_of(&["tcp", "udp", "icmp", "icmp6"], random),
+        _ => one_of(&NAMES, random),
+    };
+    let offset = match random.below(8) {
+        0 => one_of(&["tcpflags", "icmptype", "icmp6code", "4294967295", ""], random),
+        1 => random.below(100).to_string(),
+        _ => random.below(24).to_string(),
+    };
+    let size = one_of(&["", "", ":1", ":2", ":4", ":2", ":4", ":3"], random);
+    word(words, format!("{name}[{offset}{size}]"));
+    if random.percent(40) {
+        word(words, "&");
+        bits(packet, random, words);
+    }
+    word(words, comparison(random));
+    bits(packet, random, words);
+}
+
+/// Appends bits of an access: bytes of the packet, a name or any number, or several in parentheses.
+fn bits(packet: &[u8], random: &mut Random, words: &mut Vec<String>) {
+    let names = ["tcp-syn", "tcp-ack", "tcp-push", "tcp-psh", "icmp-echo", "icmp6-echo"];
+    let one = |random: &mut Random| match random.below(4) {
+        0 => one_of(&names, random),
+        1 => format!("0x{:x}", random.next() as u32),
+        2 => byte(packet, random),
+        _ => field(packet, random),
+    };
+    if random.percent(70) {
+        return word(words, one(random));
+    }
+    word(words, "(");
+    word(words, one(random));
+    while random.percent(40) {
+        word(words, "|");
+        word(words, one(random));
+    }
+    word(words, ")");
 }
 
 /// Makes the name or number of a protocol or extension header.

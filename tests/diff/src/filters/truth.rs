@@ -1,5 +1,5 @@
 //! The plain evaluation over the parts of a packet.
-use super::{Comparison, FaultKind, Formula, Network, Ports, Quantity, Term};
+use super::{accesses, Comparison, FaultKind, Formula, Network, Ports, Quantity, Term};
 use crate::dissections::{fragment_of, Dissected, End, Fragment};
 use etherparse::err::{ip, ipv6_exts, Layer};
 
@@ -110,6 +110,8 @@ fn is_met(term: &Term, packet: &Dissected<'_>) -> bool {
         Term::TcpFlags(flags) => upper_layer(packet, &[TCP])
             .and_then(|bytes| bytes.get(13))
             .is_some_and(|found| found & flags.mask == flags.set),
+        Term::Access(access) => accesses::read(packet, access.start, access.offset, access.size)
+            .is_some_and(|found| compares((found & access.mask) as usize, &access.comparison)),
     }
 }
 
@@ -283,7 +285,7 @@ fn layer_of(error: &ip::SliceError) -> Layer {
 fn compares(count: usize, comparison: &Comparison) -> bool {
     let (count, number) = (count as u64, comparison.number);
     match comparison.sign.as_str() {
-        "=" => count == number,
+        "=" | "==" => count == number,
         "!=" => count != number,
         "<" => count < number,
         "<=" => count <= number,

@@ -83,3 +83,6 @@ returns-in-FaultAt-clause-meets c =
     let is = c.of_layer-in-FaultAt.ensures in
     λ s. by_layer c.of_layer-in-FaultAt.result _ _ (dissected s) is.kind is.layer is.flags
     ∙ ap (λ b. b && is_in_layer (layer_code c.in-FaultAt.layer) (dissected s).version (dissected s).end) (c.fault_mask-in-FaultAt.ensures s) ∙ ap (λ t. holds t (dissected s)) (sym c.in-FaultAt.is)
+
+pub returns-in-Access-clause-meets : goal.returns-in-Access-clause-meets
+returns-in-Access-clause-meets c = λ s. c.of_access.ensures.meets (dissected s) ∙ ap (λ t. holds t (dissected s)) (sym c.in-Access.is)

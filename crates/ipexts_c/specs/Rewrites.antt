@@ -45,13 +45,17 @@ rewritten_fields n keeps = record { len = n; refusal = 0; keeps_checksums = if k
 abbrev pub fields_without : Which → DissectedParts → RewrittenFields
 fields_without w p = rewritten_fields (len_without w p) (keeps_checksums w p)
 
+-- what is stored if nothing was written, with the code of why
+abbrev pub fields_of_none : ℕ → RewrittenFields
+fields_of_none code = record { len = 0; refusal = code; keeps_checksums = 0 }
+
 -- what is stored if nothing was written, for this reason
 abbrev pub refused_fields : RewriteError → RewrittenFields
-refused_fields e = record { len = 0; refusal = refusal_code e; keeps_checksums = 0 }
+refused_fields e = fields_of_none (refusal_code e)
 
 -- what is stored if nothing was written: for this reason, or because the request changes no header
 abbrev pub unwritten_fields : Option RewriteError → RewrittenFields
-unwritten_fields None = record { len = 0; refusal = 0; keeps_checksums = 0 }
+unwritten_fields None = fields_of_none 0
 unwritten_fields (Some e) = refused_fields e
 
 -- a number that says yes

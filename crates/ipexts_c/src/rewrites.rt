@@ -14,14 +14,13 @@ ghost use Rattle.ip_rewrite.specs.Insertion.{inserted, insertion_fault};
 ghost use Rattle.ip_rewrite.specs.Order.{in_order, is_in_order, ordering_fault, recommended_index};
 ghost use Rattle.ip_rewrite.specs.declared.err.RewriteError.{RewriteError as Refusal};
 ghost use Rattle.ip_rewrite.specs.declared.which.Which.TheVariants.{Index};
-ghost use Rattle.ipexts_c.specs.Rewrites.{with_number, authentication, refusal_code, rewritten_fields, fields_without, refused_fields, unwritten_fields, request_of};
+ghost use Rattle.ipexts_c.specs.Rewrites.{with_number, authentication, refusal_code, rewritten_fields, fields_without, refused_fields, fields_of_none, unwritten_fields, request_of};
 
 use crate::bytes::Bytes;
 use ip_base::IpNumber;
 use ip_rewrite::{
-    Authentication, HeaderSet, Request, RewriteError, Rewritten, Which, cleared,
-    has_reserved_bits, in_order, is_in_order, recommended_index, rewrite, with_header,
-    with_payload, without,
+    Authentication, HeaderSet, Request, RewriteError, Rewritten, Which, cleared, has_reserved_bits,
+    in_order, is_in_order, recommended_index, rewrite, with_header, with_payload, without,
 };
 
 /// A packet that was written, or why none was, as numbers.
@@ -144,23 +143,25 @@ impl RewrittenFields {
     fn refused(error: RewriteError) -> RewrittenFields
         ensures { result ≡ refused_fields error }
     {
-        RewrittenFields {
-            len: 0,
-            refusal: refusal_code(error),
-            keeps_checksums: 0,
-        }
+        RewrittenFields::unwritten(refusal_code(error))
     }
-}
 
-impl RewrittenFields {
     /// Returns the numbers of a packet that the request doesn't change.
     #[inline(always)]
     fn unchanged() -> RewrittenFields
         ensures { result ≡ unwritten_fields None }
     {
+        RewrittenFields::unwritten(0)
+    }
+
+    /// Returns the numbers if none was written, with the code of why.
+    #[inline(always)]
+    fn unwritten(refusal: u8) -> RewrittenFields
+        ensures { result ≡ fields_of_none refusal }
+    {
         RewrittenFields {
             len: 0,
-            refusal: 0,
+            refusal,
             keeps_checksums: 0,
         }
     }
@@ -454,8 +455,8 @@ pub extern "C" fn wolfaren_rewrite(
     ensures same { result ≡ false → out.new ≡ out.old }
 {
     match rewrite(bytes.slice(), request.request(), out) {
-        Ok(Some(written)) => {
-            *rewritten = RewrittenFields::of(written);
+        Ok(Some(packet)) => {
+            *rewritten = RewrittenFields::of(packet);
             true
         }
         Ok(None) => {

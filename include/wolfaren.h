@@ -12,6 +12,7 @@
  *  - For a condition on such packets: wolfaren_parse_filter once, and then wolfaren_filter_matches.
  *  - For statistics of such packets: wolfaren_count_packet, or wolfaren_count_dissection to dissect them too, and
  *    wolfaren_merge_statistics.
+ *  - For counts of their chains: wolfaren_chains_init, wolfaren_chains_add and wolfaren_chains_merge.
  *  - For many packets in one buffer: wolfaren_count_packets, wolfaren_filter_packets, wolfaren_dissect_packets.
  *  - For packets that must be whole, where an error is a reason to drop them: wolfaren_find_payload, or
  *    wolfaren_parse_packet for the extension headers too. Neither stops at a later fragment, as wolfaren_dissect does.
@@ -64,10 +65,10 @@
 #define WOLFAREN_VERSION (10000 * WOLFAREN_VERSION_MAJOR + 100 * WOLFAREN_VERSION_MINOR + WOLFAREN_VERSION_PATCH)
 
 /* A checksum of the structs, numbers and calls in this header, made by scripts/abi of the repository. */
-#define WOLFAREN_ABI 0x53543fd7u
+#define WOLFAREN_ABI 0xe4fa1722u
 
 /* The symbol that is named after the checksum. */
-#define WOLFAREN_ABI_SYMBOL wolfaren_abi_53543fd7
+#define WOLFAREN_ABI_SYMBOL wolfaren_abi_e4fa1722
 
 /* The machines for which the library is built. That of `make rust-c` is for any machine, and its users define WOLFAREN_PLAIN. */
 #ifdef WOLFAREN_PLAIN
@@ -809,6 +810,80 @@ WOLFAREN_USE_RESULT
 bool wolfaren_write_headers(const uint8_t *bytes, size_t len, const struct wolfaren_header *headers, size_t count,
                             uint8_t *out, size_t room, size_t *written) WOLFAREN_NONNULL(7);
 
+/* The maximum number of bytes in the key of a chain. */
+#define WOLFAREN_CHAIN_KEY_LEN 67
+
+/* How a chain ends, as in the third byte of its key. */
+enum wolfaren_chain_end {
+    WOLFAREN_CHAIN_WHOLE = 0,    /* at the payload, or at that of a later fragment */
+    WOLFAREN_CHAIN_FAULTY = 1,   /* at a fault */
+    WOLFAREN_CHAIN_TRUNCATED = 2 /* at a truncated header */
+};
+
+/*
+ * How often a chain was counted. Its key has the IP version, the number after the extension headers, an enum
+ * wolfaren_chain_end, and then the number of each header; before that, the bytes of its path, if it has one.
+ */
+struct wolfaren_chain_count {
+    uint64_t count;                      /* how often it was counted; it stops at UINT64_MAX */
+    uint32_t older;                      /* one more than the index of an entry before this one; the library's */
+    uint8_t len;                         /* the number of bytes in the key */
+    uint8_t key[WOLFAREN_CHAIN_KEY_LEN]; /* the key, and bytes that don't matter */
+};
+
+/*
+ * Counts of chains, at the start of the memory that wolfaren_chains_init got. The first `count` entries are in use, in the
+ * order in which their chains were first counted. The caller may read all of it. The memory can't be moved.
+ */
+struct wolfaren_chains {
+    struct wolfaren_chain_count *entries; /* the entries */
+    size_t room;                          /* the number of entries, used or not */
+    uint32_t *newest;                     /* one more than the index of the last entry of each bucket; the library's */
+    size_t buckets;                       /* the number of buckets */
+    size_t count;                         /* the number of entries in use */
+    uint64_t other;                       /* the count of the chains that have no entry; it stops at UINT64_MAX */
+    uint64_t seed[2];                     /* the key of the hash by which entries are found (SipHash-1-3) */
+    uint32_t recent[64];                  /* entries that were counted lately; the library's */
+};
+
+/* Returns how many bytes of memory so many entries need: 84 for each. Returns SIZE_MAX for 2^32 or more, or if that many bytes
+ * can't be counted. */
+WOLFAREN_USE_RESULT
+size_t wolfaren_chains_size(size_t entries);
+
+/*
+ * Makes counts of chains in `size` bytes of memory, which may contain anything, with as many entries as wolfaren_chains_size has
+ * room for. Nothing is counted yet. `seed` should be two random numbers that senders don't know: then no packets can be
+ * chosen whose chains take long to find.
+ *
+ * Returns NULL, and writes nothing, if the memory isn't aligned to 8 bytes, or less than wolfaren_chains_size(0).
+ */
+WOLFAREN_USE_RESULT
+struct wolfaren_chains *wolfaren_chains_init(void *memory, size_t size, const uint64_t seed[2]) WOLFAREN_NONNULL(1, 3);
+
+/* Sets all counts to 0. Returns true for counts that wolfaren_chains_init made. Otherwise, if they have no bucket or too many
+ * entries, changes nothing and returns false. */
+bool wolfaren_chains_clear(struct wolfaren_chains *chains) WOLFAREN_NONNULL(1);
+
+/*
+ * Counts the chain of the packet at the start of the `len` bytes. If no entry is left, or if its key is longer than
+ * WOLFAREN_CHAIN_KEY_LEN, it is counted in `other`. A packet without a whole base header has no chain.
+ *
+ * For a packet in tunnels, `path` has bytes of the caller's for the packets that carry it, which are put before its key. If
+ * each begins with a byte other than 4 and 6, no two keys are confused.
+ */
+void wolfaren_chains_add(struct wolfaren_chains *chains, const uint8_t *path, size_t path_len, const uint8_t *bytes, size_t len)
+    WOLFAREN_NONNULL(1);
+
+/* Counts the chain with this key `count` times, as wolfaren_chains_add would. */
+void wolfaren_chains_add_key(struct wolfaren_chains *chains, const uint8_t *key, size_t len, uint64_t count) WOLFAREN_NONNULL(1);
+
+/*
+ * Adds the counts `from`: those of its entries in their order, and then what it counts in `other`. If that is 0, the result is
+ * the same as if its packets had been counted in `into`, one after another.
+ */
+void wolfaren_chains_merge(struct wolfaren_chains *into, const struct wolfaren_chains *from) WOLFAREN_NONNULL(1, 2);
+
 /* A buffer size, in bytes, that is large enough for any packet of wolfaren_defragmenter_packet. */
 #define WOLFAREN_WHOLE_PACKET_ROOM 65575
 
@@ -1521,6 +1596,8 @@ WOLFAREN_LAYOUT(wolfaren_record, 88, kind, 87);
 WOLFAREN_LAYOUT(wolfaren_frame, 40, end, 34);
 WOLFAREN_LAYOUT(wolfaren_dissection, 104, end, 102);
 WOLFAREN_LAYOUT(wolfaren_statistics, 8152, faults, 7128);
+WOLFAREN_LAYOUT(wolfaren_chain_count, 80, key, 13);
+WOLFAREN_LAYOUT(wolfaren_chains, 320, recent, 64);
 WOLFAREN_LAYOUT(wolfaren_packet_span, 16, len, 8);
 WOLFAREN_LAYOUT(wolfaren_packet, 40, len_source, 38);
 WOLFAREN_LAYOUT(wolfaren_payload, 32, len_source, 30);

@@ -1,6 +1,6 @@
 /*
  * What the library has besides its proved code: the symbol that is named after the interface, a check of the processor, and
- * where the parts of a defragmenter are in its memory.
+ * where the parts of a defragmenter and of counts of chains are in their memory.
  */
 #define WOLFAREN_UNLINKED /* what defines the symbol needn't refer to it */
 #include "wolfaren.h"
@@ -86,4 +86,28 @@ struct wolfaren_defragmenter *wolfaren_defragmenter_init(void *memory, size_t si
     defragmenter->settings.seed[1] = seed[1];
     defragmenter->settings.timeout = WOLFAREN_DEFAULT_TIMEOUT;
     return wolfaren_defragmenter_clear(defragmenter) ? defragmenter : NULL;
+}
+
+/* The bytes of counts of chains besides the entries, and those of each entry with its bucket. There is a bucket more. */
+enum {
+    BESIDE_ENTRIES = sizeof(struct wolfaren_chains) + sizeof(uint32_t),
+    EACH_ENTRY = sizeof(struct wolfaren_chain_count) + sizeof(uint32_t)
+};
+
+size_t wolfaren_chains_size(size_t entries)
+{
+    if (entries > UINT32_MAX || entries > (SIZE_MAX - BESIDE_ENTRIES) / EACH_ENTRY) return SIZE_MAX;
+    return BESIDE_ENTRIES + entries * EACH_ENTRY;
+}
+
+struct wolfaren_chains *wolfaren_chains_init(void *memory, size_t size, const uint64_t seed[2])
+{
+    if ((uintptr_t)memory % 8 != 0 || size < BESIDE_ENTRIES) return NULL;
+
+    size_t fitting = (size - BESIDE_ENTRIES) / EACH_ENTRY, entries = fitting < UINT32_MAX ? fitting : UINT32_MAX;
+    struct wolfaren_chains *chains = memory;
+    struct wolfaren_chain_count *first = (struct wolfaren_chain_count *)(chains + 1);
+    *chains = (struct wolfaren_chains){.entries = first, .room = entries, .newest = (uint32_t *)(first + entries),
+                                       .buckets = entries + 1, .seed = {seed[0], seed[1]}};
+    return wolfaren_chains_clear(chains) ? chains : NULL;
 }

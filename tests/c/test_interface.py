@@ -9,7 +9,8 @@ import re
 from tools import names, refused, run
 
 # those of programs/interface.c
-OTHERS = ["wolfaren_cpu_is_supported", "wolfaren_defragmenter_init", "wolfaren_defragmenter_size"]
+OTHERS = ["wolfaren_chains_init", "wolfaren_chains_size", "wolfaren_cpu_is_supported", "wolfaren_defragmenter_init",
+          "wolfaren_defragmenter_size"]
 
 
 def shared_library(room, archive):

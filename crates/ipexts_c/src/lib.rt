@@ -5,6 +5,7 @@
 
 mod bytes;
 mod captures;
+mod chain_counts;
 mod chains;
 mod defragmenter;
 mod faults;

@@ -23,11 +23,7 @@ pub extern "C" fn wolfaren_chains_clear(chains: &mut KeyCounts<'_>) -> bool
 
 /// Calls `count_chain`.
 #[unsafe(no_mangle)]
-pub extern "C" fn wolfaren_chains_add(
-    chains: &mut KeyCounts<'_>,
-    path: Bytes<'_>,
-    bytes: Bytes<'_>,
-)
+pub extern "C" fn wolfaren_chains_add(chains: &mut KeyCounts<'_>, path: Bytes<'_>, bytes: Bytes<'_>)
     ensures counts { IsTable chains.old → counts_in chains.new ≡ keys_counted (room_of chains.old) (counts_in chains.old)
         (keys_of path.entry.slice.now (dissected bytes.entry.slice.now)) }
     ensures table { IsTable chains.old → IsTable chains.new }

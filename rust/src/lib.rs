@@ -35,6 +35,7 @@ mod ip_base;
 mod ip_bpf;
 mod ip_captures;
 mod ip_batches;
+mod ip_chain_counts;
 mod ip_codes;
 mod ip_defrag;
 mod ip_defragmenter;
@@ -44,7 +45,9 @@ mod ip_ext_headers;
 mod ip_ext_slices;
 mod ip_filter;
 mod ip_frames;
+mod ip_hash;
 mod ip_header_contents;
+mod ip_key_counts;
 mod ip_lists;
 mod ip_rewrite;
 mod ip_spans;
@@ -154,6 +157,12 @@ pub mod filter {
 /// Statistics of packets, which can be merged.
 pub mod statistics {
     pub use crate::ip_statistics::*;
+}
+
+/// Counts of the chains of packets, in memory of the caller's.
+pub mod chains {
+    pub use crate::ip_chain_counts::*;
+    pub use crate::ip_key_counts::*;
 }
 
 /// Many packets of one buffer, counted, filtered or dissected in one call.

@@ -2,6 +2,7 @@
 
 use core::slice::{from_raw_parts, from_raw_parts_mut};
 use wolfaren::captures::{CaptureFields, Interface};
+use wolfaren::chains::{CountedKey, KeyCounts};
 use wolfaren::defragment::{
     Defragmenter, DefragmenterCounts, Links, PacketMemory, Settings, Slot, SlotTable, Table,
 };
@@ -98,6 +99,58 @@ pub(crate) unsafe fn with_capture<T>(
     reader.link_type = capture.link_type;
     reader.form = capture.form;
     reader.byte_order = capture.byte_order;
+    result
+}
+
+/// `struct wolfaren_chains`.
+#[repr(C)]
+pub struct CChains {
+    entries: *mut CountedKey,
+    room: usize,
+    newest: *mut u32,
+    buckets: usize,
+    len: usize,
+    other: u64,
+    seed: [u64; 2],
+    recent: [u32; 64],
+}
+
+impl CChains {
+    /// Returns the counts.
+    ///
+    /// # Safety
+    ///
+    /// Both arrays are there, and nothing else reads or writes them.
+    pub(crate) unsafe fn counts<'a>(&self) -> KeyCounts<'a> {
+        // SAFETY: the caller says so.
+        unsafe {
+            KeyCounts {
+                entries: slice_mut(self.entries, self.room),
+                newest: slice_mut(self.newest, self.buckets),
+                len: self.len,
+                other: self.other,
+                seed: self.seed,
+                recent: self.recent,
+            }
+        }
+    }
+}
+
+/// Makes a call with counts of chains, and stores the counts as the call leaves them.
+///
+/// # Safety
+///
+/// The counts and both arrays are there, and nothing else reads or writes them.
+pub(crate) unsafe fn with_chains<T>(
+    place: *mut CChains,
+    call: impl FnOnce(&mut KeyCounts<'_>) -> T,
+) -> T {
+    // SAFETY: the caller says so.
+    let (stored, mut counts) = unsafe { (&mut *place, (*place).counts()) };
+    let result = call(&mut counts);
+    stored.len = counts.len;
+    stored.other = counts.other;
+    stored.recent = counts.recent;
     result
 }
 

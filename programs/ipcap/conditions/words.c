@@ -7,20 +7,24 @@ bool is_space(char byte)
     return strchr(" \t\n\r", byte);
 }
 
-/* Whether two signs are one word. */
-static bool is_pair(char first, char second)
+static bool is_sign(char byte)
 {
+    return strchr("!&()<=>|", byte);
+}
+
+/* Whether a byte that is no white space and the byte after it are in one word, as the library has it. */
+static bool joins(char first, char second)
+{
+    if (!is_sign(first)) return !is_space(second) && !is_sign(second);
     if (second == '=') return first == '!' || first == '<' || first == '>' || first == '=';
     return first == second && (first == '&' || first == '|');
 }
 
 size_t word_len(const char *word, size_t len)
 {
-    static const char signs[] = "!&()<=>|", breaks[] = " \t\n\r!&()<=>|";
     size_t size = 1;
     if (is_space(word[0])) return 1;
-    if (strchr(signs, word[0])) return len > 1 && is_pair(word[0], word[1]) ? 2 : 1;
-    while (size < len && !strchr(breaks, word[size])) size++;
+    while (size < len && joins(word[size - 1], word[size])) size++;
     return size;
 }
 

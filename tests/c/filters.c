@@ -59,7 +59,7 @@ static void texts(void)
     check_matches("option 0 or option 1", false, false);
     check_matches("routing-type 0 or segments-left >= 0", false, false);
     check_matches("tcp-flags fin or not tcp-flags syn,ack/syn,ack,rst", true, true);
-    check_matches("ip6[0] & 0xf0 = 0x60 and ip6[7] <= 255 and not ip[0] >= 0", true, false);
+    check_matches("ip[0] & 0xf0 = 0x40 and ip[9] <= 255 and not ip6[0] >= 0", true, false);
 }
 
 static void check_refused(const char *text, size_t offset, uint8_t expected, const char *words)

@@ -75,6 +75,8 @@ static struct wolfaren_filter_error filter_error;
 static struct wolfaren_defragmenter *defragmenter;
 static struct wolfaren_added what_became;
 static struct wolfaren_rewritten rewritten;
+static struct wolfaren_request request;
+static struct wolfaren_chains *chains, *part;
 static struct wolfaren_name name;
 
 /* Define a function that makes a call, without a result or with one, and the call's measurement. */
@@ -133,6 +135,13 @@ RESULT(cleared, (packet, len, may_be_invalid, out, room, &rewritten))
 RESULT(has_reserved_bits, (packet, len))
 RESULT(in_order, (packet, len, may_be_invalid, out, room, &rewritten))
 RESULT(is_in_order, (packet, len))
+RESULT(rewrite, (packet, len, &request, out, room, &rewritten))
+RESULT(chains_size, (wanted_slots))
+RESULT(chains_init, (memory, memory_size, seed))
+RESULT(chains_clear, (chains))
+CALL(chains_add, (chains, added, added_len, packet, len))
+CALL(chains_add_key, (chains, packet, len, 1))
+CALL(chains_merge, (chains, part))
 RESULT(fault_text, (&fault, words, sizeof words))
 RESULT(outcome_text, (number, words, sizeof words))
 RESULT(loss_text, (number, words, sizeof words))
@@ -398,7 +407,7 @@ static void measure_statistics_calls(void)
 static void measure_rewrites(void)
 {
     static struct call *const calls[] = {&without_number, &without_index, &with_header, &recommended_index, &with_payload, &cleared,
-                                         &has_reserved_bits, &in_order, &is_in_order};
+                                         &has_reserved_bits, &in_order, &is_in_order, &rewrite};
     if (draw(2))
         make_whole_packet();
     else
@@ -410,7 +419,42 @@ static void measure_rewrites(void)
     payload_number = draw(8) ? upper_layer_number() : extension_number();
     if (draw(2)) number = extension_number();
     room = draw(4) ? ROOM : draw(len + 1);
+    draw_bytes((uint8_t *)&request, sizeof request, 2);
     for (size_t i = 0; i < sizeof calls / sizeof *calls; i++) measure(calls[i]);
+}
+
+/* Makes counts of chains with this room in memory of its own, which the caller frees. */
+static struct wolfaren_chains *make_chains(size_t entries)
+{
+    wanted_slots = entries;
+    measure(&chains_size);
+    memory_size = (size_t)result;
+    memory = calloc(1, memory_size);
+    expect(memory != NULL, "memory");
+    measure(&chains_init);
+    expect(result == (uintptr_t)memory, "counts of chains");
+    return memory;
+}
+
+/* Counts chains until no entry is left, and merges with counts that have the same ones and others. */
+static void measure_counts_of_chains(void)
+{
+    chains = make_chains(SLOTS);
+    part = make_chains(SLOTS);
+    for (int i = 0; i < ROUNDS; i++) {
+        if (draw(2)) make_whole_packet();
+        else make_packet();
+        added_len = draw(2) ? draw(70) : 0;
+        draw_bytes(added, added_len, 256);
+        measure(&chains_add);
+        measure(&chains_add_key);
+        if (draw(8) == 0) measure(&chains_merge);
+        if (draw(4) == 0) wolfaren_chains_add(part, NULL, 0, packet, len);
+        if (draw(32) == 0) measure(&chains_clear);
+    }
+    expect(part->count == SLOTS && part->other > 0, "counts without an entry left");
+    free(part);
+    free(chains);
 }
 
 /* Makes a fragment of one of a few packets of IPv4 or IPv6. */
@@ -485,7 +529,8 @@ static const char *const terms[] = {
     "routing-type 4", "segments-left > 0", "option 5", "option 194", "src 2001:db8::/32", "dst 0:0:0:0:1:0:0:1", "net ::ffff:192.0.2.1/128",
     "src 1:2:3:4:5:6:192.0.2.255/97", "net 192.0.2.0/24", "host 2001:db8:0:1:2:3:4:5", "host 10.255.255.254", "src port 443",
     "dst port 1024-65535", "port 0-65535", "no-transport", "icmp-type icmp-echo", "icmp-code 1", "icmp6-type icmp6-certpathadvert",
-    "icmp6-code 0", "tcp-flags syn", "tcp-flags fin,syn,rst/fin,syn,rst,psh,ack,urg,ece,cwr"};
+    "icmp6-code 0", "tcp-flags syn", "tcp-flags fin,syn,rst/fin,syn,rst,psh,ack,urg,ece,cwr", "ip6[6] == 44",
+    "tcp[tcpflags] & (tcp-syn|tcp-ack) != 0"};
 
 static void append(const char *more)
 {
@@ -550,7 +595,7 @@ static void make_program(void)
     for (size_t i = 0; i < filter.count; i++) {
         struct wolfaren_filter_test *test = &filter.tests[i];
         draw_bytes((uint8_t *)test, sizeof *test, 256);
-        test->kind = draw(4) ? (uint8_t)draw(32) : draw(2) ? WOLFAREN_TEST_OPTION : WOLFAREN_TEST_LAYER;
+        test->kind = draw(4) ? (uint8_t)draw(34) : draw(2) ? WOLFAREN_TEST_OPTION : WOLFAREN_TEST_LAYER;
         test->comparison = (uint8_t)draw(8);
         test->version = draw(2) ? 4 : 6;
         test->number = draw(16);
@@ -601,6 +646,7 @@ static void measure_all(void)
     }
     measure_largest_text();
     measure_texts();
+    measure_counts_of_chains();
     measure_defragmenter_calls();
 }
 

@@ -14,7 +14,7 @@ use core::fmt;
 ///     let mut interfaces = [Interface::default(); 64];
 ///     let mut frames = Frames::new(capture, 262_144, &mut interfaces).ok()?;
 ///     let raw = frames.by_ref().filter(|frame| frame.link_type == 101);
-///     let count = raw.filter(|frame| dissect(frame.captured).headers > 0).count();
+///     let count = raw.filter(|frame| dissect(frame.captured).header_count > 0).count();
 ///     (frames.end() == Some(Next::Ended)).then_some(count)
 /// }
 ///

@@ -84,7 +84,7 @@ struct wolfaren_pcap_packet {
     int64_t seconds;       /* when the frame was captured: seconds since 1970-01-01, 00:00:00 UTC, .. */
     int64_t nanoseconds;   /* .. and nanoseconds, from 0 to 999,999,999 unless the capture is damaged */
     int32_t link_type;     /* link layer of the frame: one of libpcap's DLT_ values */
-    bool has_time;         /* false for a packet of a pcapng file that has no time, which is then 0 */
+    bool has_time;         /* false for a packet of pcapng without a time from 1970 to July 2554, which is then 0 */
     uint32_t captured_len; /* how many bytes of the frame the capture has */
     uint32_t original_len; /* length of the frame in bytes */
     size_t ip_offset;      /* where the packet begins in the frame, in bytes */

@@ -34,7 +34,7 @@ class Packet(NamedTuple):
     """The number of the frame in the capture: 1 for the first."""
     time_ns: int | None
     """When the frame was captured, in nanoseconds since 1970-01-01, 00:00:00 UTC. `None` for a packet of a pcapng file that
-    has no time."""
+    has no time, or one before 1970 or after July 2554."""
     link_layer: str
     """libpcap's name of the frame's link layer, such as `EN10MB` for Ethernet. It may differ from packet to packet, since
     pcapng files may have several interfaces."""
@@ -49,10 +49,7 @@ class Packet(NamedTuple):
 
     @property
     def time(self) -> datetime.datetime | None:
-        """When the frame was captured, in UTC, rounded down to microseconds, or `None` as in `time_ns`.
-
-        Raises `OverflowError` for a time after the year 9999, which only a damaged capture has.
-        """
+        """When the frame was captured, in UTC, rounded down to microseconds, or `None` as in `time_ns`."""
         return None if self.time_ns is None else _EPOCH + datetime.timedelta(microseconds=self.time_ns // 1000)
 
 

@@ -312,13 +312,18 @@ fn comparison(random: &mut Random) -> String {
 
 /// Appends an access, perhaps with a mask, and a value that the packet may have.
 fn access(packet: &[u8], random: &mut Random, words: &mut Vec<String>) {
-    let name = match random.below(3) {
+    let is_ipv6 = packet.first().is_some_and(|byte| byte >> 4 == 6);
+    let name = match random.below(4) {
         0 => one_of(&["ip", "ip6"], random),
-        1 => one_of(&["tcp", "udp", "icmp", "icmp6"], random),
+        1 => one_of(&[if is_ipv6 { "ip6" } else { "ip" }], random),
+        2 => one_of(&["tcp", "udp", "icmp", "icmp6"], random),
         _ => one_of(&NAMES, random),
     };
     let offset = match random.below(8) {
-        0 => one_of(&["tcpflags", "icmptype", "icmp6code", "4294967295", ""], random),
+        0 => one_of(
+            &["tcpflags", "icmptype", "icmp6code", "4294967295", ""],
+            random,
+        ),
         1 => random.below(100).to_string(),
         _ => random.below(24).to_string(),
     };
@@ -329,12 +334,32 @@ fn access(packet: &[u8], random: &mut Random, words: &mut Vec<String>) {
         bits(packet, random, words);
     }
     word(words, comparison(random));
-    bits(packet, random, words);
+    if random.percent(50) {
+        word(words, number_at(packet, &offset, &size));
+    } else {
+        bits(packet, random, words);
+    }
+}
+
+/// Returns the number that an access of this offset and size reads in the packet, or that of the bytes which are there.
+fn number_at(packet: &[u8], offset: &str, size: &str) -> String {
+    let offset = offset.parse().unwrap_or(0);
+    let size = size.trim_start_matches(':').parse().unwrap_or(1);
+    let bytes = packet.iter().skip(offset).take(size);
+    let number = bytes.fold(0u32, |number, byte| number << 8 | u32::from(*byte));
+    number.to_string()
 }
 
 /// Appends bits of an access: bytes of the packet, a name or any number, or several in parentheses.
 fn bits(packet: &[u8], random: &mut Random, words: &mut Vec<String>) {
-    let names = ["tcp-syn", "tcp-ack", "tcp-push", "tcp-psh", "icmp-echo", "icmp6-echo"];
+    let names = [
+        "tcp-syn",
+        "tcp-ack",
+        "tcp-push",
+        "tcp-psh",
+        "icmp-echo",
+        "icmp6-echo",
+    ];
     let one = |random: &mut Random| match random.below(4) {
         0 => one_of(&names, random),
         1 => format!("0x{:x}", random.next() as u32),

@@ -64,6 +64,7 @@ class Links:
         self.crates = crates
         self.targets, self.types, self.passed_on, self.users, self.missing = {}, {}, {}, {}, set()
         self.types_named = {}  # where each type is named in signatures and members
+        self.private = set()  # the addresses of private types, which only their own crate can name
 
     def add_definition(self, crate, module, it):
         for name in it.names:
@@ -71,10 +72,14 @@ class Links:
         for name in it.members:
             self.targets.setdefault((f"{crate}.specs.{module}", name), f"definitions/{crate}.html#{module}.{it.names[0]}")
 
-    def add_item(self, crate, item):
+    def add_item(self, crate, item, is_private=False):
         address = f"crates/{crate}.html#{anchor(item)}"
         if item.kind in ("struct", "enum", "trait"):
             self.types.setdefault(item.name, []).append((crate, item.module, address))
+        if item.kind == "const" and not item.owner:
+            self.targets[f"{crate}.specs.declared.{item.path.removesuffix('.rt')}.TheConstants", item.name] = address
+        if is_private:
+            self.private.add(address)
 
     def address(self, module, name):
         """Returns the address of a definition or of a type, or nothing if it has no page, such as those of std."""
@@ -124,7 +129,7 @@ class Links:
         module = item.module if module == "super" else module
         found = self.types.get(name, [])
         for which in ([at for it, own, at in found if own == module and it == crate], [at for _, own, at in found if own and own == module],
-                      [at for it, _, at in found if it == crate], [at for _, _, at in found if len(found) == 1]):
+                      [at for it, _, at in found if it == crate], [at for _, _, at in found if len(found) == 1 and at not in self.private]):
             if which:
                 return which[0]
         return None

@@ -111,6 +111,6 @@ DAMAGED = [
     (section("<") + struct.pack("<III", 5, 13, 13), "The block at offset 28 states 13 bytes, which is too few or no multiple of 4."),
     (section("<") + packet_block("<", 0, 0, b""), "The block at offset 28 has a packet of interface 0, which isn't described."),
     (section("<") + interface("<", 1) + block("<", 6, struct.pack("<IIIII", 0, 0, 0, 9, 9) + bytes(8)),
-     "The block at offset 48 states 9 captured bytes, more than it has."),
-    (section("<") + interface("<", 1, struct.pack("<HH", 2, 9)), "The capture has no packets."),
+     "The block at offset 48 states 9 captured bytes, 8 are left."),
+    (section("<") + interface("<", 1, struct.pack("<HH", 2, 9)), "The block at offset 28 has an option of 9 bytes, 0 are left."),
 ]

@@ -43,7 +43,7 @@
  *
  * The library needs memcpy, memmove and memset, and nothing else. It is compiled for x86-64-v2 (SSE4.2) and the System V calling
  * convention; wolfaren_cpu_is_supported returns whether a processor has these instructions. It uses SSE registers, the red
- * zone below the stack pointer, and less than 2 KB of stack, except for wolfaren_parse_filter, which uses less than 9 KB. A
+ * zone below the stack pointer, and less than 2 KB of stack, except for wolfaren_parse_filter, which uses less than 8 KB. A
  * kernel must therefore save the SSE registers around calls, and must not take an interrupt on the same stack. For ARM64 it
  * is compiled for ARMv8-A, the AAPCS64 calling convention and little-endian data, and may use vector registers.
  *

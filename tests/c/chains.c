@@ -83,7 +83,7 @@ static void test_limits(void)
     expect(none->count == 0 && none->other == UINT64_MAX, "counts without entries");
     free(chains);
     free(none);
-    expect(wolfaren_chains_size((size_t)UINT32_MAX + 1) == SIZE_MAX, "too many entries");
+    expect(wolfaren_chains_size(SIZE_MAX) == SIZE_MAX && wolfaren_chains_size(SIZE_MAX / 64) == SIZE_MAX, "too many entries");
     uint64_t words[64];
     expect(wolfaren_chains_init(words, wolfaren_chains_size(0) - 1, seed) == NULL, "memory that isn't enough");
     expect(wolfaren_chains_init((uint8_t *)words + 4, wolfaren_chains_size(0), seed) == NULL, "memory that isn't aligned");

@@ -21,8 +21,8 @@
  *    wolfaren_fragment_fields, wolfaren_authentication_fields.
  *  - For fragments, which make packets whole: wolfaren_defragmenter_init, wolfaren_defragmenter_add and
  *    wolfaren_defragmenter_packet.
- *  - For packets with other extension headers or another payload: wolfaren_without_number, wolfaren_without_index,
- *    wolfaren_with_header (at any index, such as wolfaren_recommended_index), wolfaren_with_payload, wolfaren_cleared (if
+ *  - For packets with other extension headers or another payload: wolfaren_remove_headers, wolfaren_remove_header,
+ *    wolfaren_with_header (at any index, such as wolfaren_recommended_index), wolfaren_with_payload, wolfaren_clear_reserved_bits (if
  *    wolfaren_has_reserved_bits) and wolfaren_in_order (unless wolfaren_is_in_order).
  *  - For new chains, or headers in another order: wolfaren_link_headers and wolfaren_write_headers.
  *
@@ -1117,16 +1117,16 @@ struct wolfaren_rewritten {
  * only the fragment header of an atomic fragment before it is removed, which isn't covered (RFC 4302, section 3.3.4).
  */
 WOLFAREN_USE_RESULT
-bool wolfaren_without_number(const uint8_t *bytes, size_t len, uint8_t number, bool may_be_invalid, uint8_t *out, size_t room,
+bool wolfaren_remove_headers(const uint8_t *bytes, size_t len, uint8_t number, bool may_be_invalid, uint8_t *out, size_t room,
                              struct wolfaren_rewritten *rewritten) WOLFAREN_NONNULL(7);
 
-/* Writes a packet as wolfaren_without_number does, without the extension header with this index in its chain, from 0. */
+/* Writes a packet as wolfaren_remove_headers does, without the extension header with this index in its chain, from 0. */
 WOLFAREN_USE_RESULT
-bool wolfaren_without_index(const uint8_t *bytes, size_t len, size_t index, bool may_be_invalid, uint8_t *out, size_t room,
+bool wolfaren_remove_header(const uint8_t *bytes, size_t len, size_t index, bool may_be_invalid, uint8_t *out, size_t room,
                             struct wolfaren_rewritten *rewritten) WOLFAREN_NONNULL(7);
 
 /*
- * Writes a packet as wolfaren_without_number does, with one more extension header: the `header_len` bytes, which have this
+ * Writes a packet as wolfaren_remove_headers does, with one more extension header: the `header_len` bytes, which have this
  * number, before the header with this index in the chain, or after all of them if there are as many. The first byte of
  * the new header, its next header field, is replaced. If `room` is the sum of `len` and `header_len`, it is enough.
  *
@@ -1147,7 +1147,7 @@ WOLFAREN_USE_RESULT
 size_t wolfaren_recommended_index(const uint8_t *bytes, size_t len, uint8_t number);
 
 /*
- * Writes a packet as wolfaren_without_number does, with all of its extension headers and another payload, the `payload_len`
+ * Writes a packet as wolfaren_remove_headers does, with all of its extension headers and another payload, the `payload_len`
  * bytes with this number. A fragment that isn't atomic is refused. `keeps_checksums` is 0: a checksum in the payload is the
  * caller's. If `room` is the sum of `len` and `payload_len`, it is enough.
  */
@@ -1158,18 +1158,18 @@ bool wolfaren_with_payload(const uint8_t *bytes, size_t len, uint8_t number, con
 
 /*
  * Returns whether a reserved bit is 1 in an extension header of the packet (RFC 8200, section 4.5; RFC 4302, section 2.3), so that
- * wolfaren_cleared would change a header. If the headers end with an error, those before it count.
+ * wolfaren_clear_reserved_bits would change a header. If the headers end with an error, those before it count.
  */
 WOLFAREN_USE_RESULT
 bool wolfaren_has_reserved_bits(const uint8_t *bytes, size_t len);
 
 /*
- * Writes a packet as wolfaren_without_number does, with the reserved bits of its fragment and authentication headers set to
+ * Writes a packet as wolfaren_remove_headers does, with the reserved bits of its fragment and authentication headers set to
  * zero (RFC 8200, section 4.5; RFC 4302, section 2.3). A packet with an authentication header is refused only if one of these
  * bits is 1 in it or after it, and a fragment only if one is 1 in the part that is fragmented. If `room` is `len`, it is enough.
  */
 WOLFAREN_USE_RESULT
-bool wolfaren_cleared(const uint8_t *bytes, size_t len, bool may_be_invalid, uint8_t *out, size_t room,
+bool wolfaren_clear_reserved_bits(const uint8_t *bytes, size_t len, bool may_be_invalid, uint8_t *out, size_t room,
                       struct wolfaren_rewritten *rewritten) WOLFAREN_NONNULL(6);
 
 /*
@@ -1180,7 +1180,7 @@ WOLFAREN_USE_RESULT
 bool wolfaren_is_in_order(const uint8_t *bytes, size_t len);
 
 /*
- * Writes a packet as wolfaren_without_number does, with its extension headers in the order that RFC 8200, section 4.1,
+ * Writes a packet as wolfaren_remove_headers does, with its extension headers in the order that RFC 8200, section 4.1,
  * recommends: hop-by-hop options, routing headers and the destination options before any of them, fragment headers,
  * authentication headers, other destination options. Headers of one such group keep their order. A packet with an
  * authentication header, or a fragment, is refused only if the order changes. If `room` is `len`, it is enough.
@@ -1196,13 +1196,13 @@ struct wolfaren_request {
     uint8_t without_fragment;            /* leaves out fragment headers */
     uint8_t without_authentication;      /* leaves out authentication headers */
     uint8_t without_destination_options; /* leaves out destination options */
-    uint8_t clears;                      /* sets the reserved bits of the other headers to zero, as wolfaren_cleared does */
+    uint8_t clears;                      /* sets the reserved bits of the other headers to zero, as wolfaren_clear_reserved_bits does */
     uint8_t orders;                      /* puts the other headers in the recommended order, as wolfaren_in_order does */
     uint8_t may_be_invalid;              /* changes packets that keep an authentication header, too */
 };
 
 /*
- * Writes a packet as wolfaren_without_number does, with all changes of a request: headers are left out, the reserved bits of
+ * Writes a packet as wolfaren_remove_headers does, with all changes of a request: headers are left out, the reserved bits of
  * the others are set to zero, and these are put in order. If `room` is `len`, it is enough.
  *
  * Returns false and writes nothing to `out` if the request changes no header; then `refusal` is WOLFAREN_NOT_REFUSED. Also if

@@ -78,7 +78,7 @@ static void copy(const struct packet *packet)
 static void without_first(const struct packet *packet)
 {
     struct wolfaren_rewritten rewritten;
-    if (!wolfaren_without_index(packet->bytes, packet->len, 0, false, out, sizeof out, &rewritten)) exit(2);
+    if (!wolfaren_remove_header(packet->bytes, packet->len, 0, false, out, sizeof out, &rewritten)) exit(2);
     total += rewritten.len;
 }
 

@@ -29,8 +29,8 @@ const FORMS: [Form; 4] = [
         is_against_ours: true,
     },
     Form {
-        name: "outline_packet against find_payload",
-        ours: ours::ipexts_outline_packets,
+        name: "summarize_packet against find_payload",
+        ours: ours::ipexts_summarize_packets,
         other: ours::ipexts_find_payload_packets,
         is_against_ours: true,
     },

@@ -190,7 +190,7 @@ unsafe extern "C" {
         ends: *const usize,
         count: usize,
     ) -> u64;
-    pub fn ipexts_outline_packets(
+    pub fn ipexts_summarize_packets(
         p: *const u8,
         len: usize,
         ends: *const usize,

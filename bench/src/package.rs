@@ -1,7 +1,7 @@
 //! The measured calls of the Rust package, under the names of those of `ipexts_calls`. Except for dissections and filters,
 //! they are the calls of the original's side, compiled for the package.
 use wolfaren as parser;
-use wolfaren::dissect::{dissect, outline_packet, BaseHeader, Dissection, End};
+use wolfaren::dissect::{dissect, summarize_packet, BaseHeader, Dissection, End};
 use wolfaren::filter::Filter;
 
 // The calls of `ipexts_calls` aren't linked.
@@ -84,7 +84,7 @@ calls! { PacketLoop:
     ipexts_ipv6_slice_lax_packets = original_slices::packets::<Ipv6Lax>;
     ipexts_ipv6_slice_lax_filter_packets = original_slices::packets::<Ipv6LaxFilter>;
     ipexts_dissect_packets = original_slices::packets::<Dissected>;
-    ipexts_outline_packets = original_slices::packets::<Outlined>;
+    ipexts_summarize_packets = original_slices::packets::<Summarized>;
     ipexts_find_payload_packets = original_slices::packets::<IpPlace>;
     ipexts_fragmented_packets = original_slices::packets::<Fragmented>;
     ipexts_struct_read_packets = packets::<StructRead>;
@@ -138,7 +138,7 @@ calls! { RepeatedCall:
 struct Dissected;
 
 /// A packet, dissected without its errors.
-struct Outlined;
+struct Summarized;
 
 /// A packet that is dissected; whether it has a fragment header is read beside the parts that a filter needs.
 struct Fragmented;
@@ -149,9 +149,9 @@ impl Packet for Dissected {
     }
 }
 
-impl Packet for Outlined {
+impl Packet for Summarized {
     fn digest(bytes: &[u8]) -> u64 {
-        match outline_packet(bytes) {
+        match summarize_packet(bytes) {
             Some(packet) if packet.missing == 0 => {
                 let place = with(
                     u64::from(packet.next_header.0),

@@ -59,7 +59,7 @@ const OWN_GOALS: &[(&str, &str, f64)] = &[
     ("authentication header", "", 1.10),
     ("C, dissect against", "", 1.10),
     ("dissect against find_payload", "", 1.10),
-    ("outline_packet against find_payload", "", 1.10),
+    ("summarize_packet against find_payload", "", 1.10),
     ("header 44 against dissect", "in a header", 2.00),
     ("header 44 against dissect", "header beyond", 2.00),
     ("header 44 against dissect", "late hop by hop", 2.00),

@@ -2,14 +2,14 @@
 mod packets;
 
 use wolfaren::IpNumber;
-use wolfaren::rewrite::{Authentication, Which, without};
+use wolfaren::rewrite::{Authentication, Which, remove_header};
 
 fn main() {
     let number = std::env::args().nth(1).and_then(|it| it.parse().ok());
     let which = Which::Number(IpNumber(number.expect("a protocol number")));
     for packet in packets::of_input() {
         let mut out = vec![0; packet.len()];
-        match without(&packet, which, Authentication::Valid, &mut out) {
+        match remove_header(&packet, which, Authentication::Valid, &mut out) {
             Ok(rewritten) => {
                 let digits = out[..rewritten.len]
                     .iter()

@@ -1,7 +1,7 @@
 //! Fields that are private here, since an invariant depends on them, and calls that check their condition.
 
-use crate::ip_dissect::{BaseHeader, Outline, Packet, PacketStart};
-use crate::ip_filter::Brief;
+use crate::ip_dissect::{BaseHeader, Summary, Packet, PacketStart};
+use crate::ip_filter::Metadata;
 use crate::ip_lists::{Links, Table};
 
 impl<'a> Packet<'a> {
@@ -19,8 +19,8 @@ impl<'a> Packet<'a> {
 
     /// Returns the lengths and numbers of the parts.
     #[inline]
-    pub fn outline(&self) -> &Outline {
-        &self.outline
+    pub fn summary(&self) -> &Summary {
+        &self.summary
     }
 }
 
@@ -38,7 +38,7 @@ impl<'a> PacketStart<'a> {
     }
 }
 
-impl<'a> Brief<'a> {
+impl<'a> Metadata<'a> {
     /// Returns the bytes that start with the packet.
     #[inline]
     pub fn bytes(&self) -> &'a [u8] {

@@ -37,7 +37,7 @@ mod ip_captures;
 mod ip_batches;
 mod ip_chain_counts;
 mod ip_codes;
-mod ip_defrag;
+mod ip_reassembly;
 mod ip_defragmenter;
 mod ip_dissect;
 mod ip_ext_chains;
@@ -181,7 +181,7 @@ pub mod captures {
 
 /// Packets reassembled from their fragments.
 pub mod defragment {
-    pub use crate::ip_defrag::*;
+    pub use crate::ip_reassembly::*;
     pub use crate::ip_defragmenter::*;
     pub use crate::ip_lists::*;
     pub use crate::memory::OwnedDefragmenter;

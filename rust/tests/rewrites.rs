@@ -1,8 +1,7 @@
-//! Tests `without`, `with_header`, `with_payload`, `cleared`, `has_reserved_bits`, `in_order` and `is_in_order` with packets
-//! made here, by RFC 8200, section 4, and RFC 791, section 3.1.
+//! Tests the calls that rewrite a packet with packets made here, by RFC 8200, section 4, and RFC 791, section 3.1.
 use wolfaren::rewrite::{
-    Authentication, RewriteError, Rewritten, Which, cleared, has_reserved_bits, in_order,
-    is_in_order, recommended_index, with_header, with_payload, without,
+    Authentication, RewriteError, Rewritten, Which, clear_reserved_bits, has_reserved_bits, in_order,
+    is_in_order, recommended_index, remove_header, with_header, with_payload,
 };
 use wolfaren::{IpNumber, ip_number};
 
@@ -41,7 +40,7 @@ fn written_by(
 }
 
 fn written(bytes: &[u8], which: Which, authentication: Authentication, room: usize) -> Written {
-    written_by(|out| without(bytes, which, authentication, out), room)
+    written_by(|out| remove_header(bytes, which, authentication, out), room)
 }
 
 /// Returns the packet with a header of 8 bytes, whose first is replaced, and which has segments left if it can.
@@ -278,7 +277,7 @@ fn payloads() {
 #[test]
 fn reserved_bits() {
     let clear = |bytes: &[u8], authentication, room| {
-        written_by(|out| cleared(bytes, authentication, out), room)
+        written_by(|out| clear_reserved_bits(bytes, authentication, out), room)
     };
     let (mut fragment, mut covered) = (packet(&[60, 44]), packet(&[51]));
     (fragment[49], fragment[51]) = (0xff, 6);

@@ -101,7 +101,7 @@ static void leave_out(struct packet *packet, const struct wolfaren_request *requ
     const size_t count = numbers_of(request, numbers);
     for (size_t i = 0; i < count; i++) {
         struct wolfaren_rewritten done;
-        bool is_written = wolfaren_without_number(packet->bytes, packet->len, numbers[i], request->may_be_invalid, out, MOST_LEN, &done);
+        bool is_written = wolfaren_remove_headers(packet->bytes, packet->len, numbers[i], request->may_be_invalid, out, MOST_LEN, &done);
         if (is_written || done.refusal != WOLFAREN_REFUSED_NO_HEADER) take(packet, is_written, out, &done);
     }
 }
@@ -113,7 +113,7 @@ static struct packet changed(struct packet packet, const struct wolfaren_request
     struct wolfaren_rewritten done;
     leave_out(&packet, request);
     if (packet.refusal == WOLFAREN_NOT_REFUSED && request->clears)
-        take(&packet, wolfaren_cleared(packet.bytes, packet.len, request->may_be_invalid, out, MOST_LEN, &done), out, &done);
+        take(&packet, wolfaren_clear_reserved_bits(packet.bytes, packet.len, request->may_be_invalid, out, MOST_LEN, &done), out, &done);
     if (packet.refusal == WOLFAREN_NOT_REFUSED && request->orders)
         take(&packet, wolfaren_in_order(packet.bytes, packet.len, request->may_be_invalid, out, MOST_LEN, &done), out, &done);
     return packet;

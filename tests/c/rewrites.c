@@ -1,6 +1,6 @@
 /*
- * Tests wolfaren_without_number, wolfaren_without_index, wolfaren_with_header, wolfaren_recommended_index,
- * wolfaren_with_payload, wolfaren_cleared, wolfaren_has_reserved_bits, wolfaren_in_order and wolfaren_is_in_order: against
+ * Tests wolfaren_remove_headers, wolfaren_remove_header, wolfaren_with_header, wolfaren_recommended_index,
+ * wolfaren_with_payload, wolfaren_clear_reserved_bits, wolfaren_has_reserved_bits, wolfaren_in_order and wolfaren_is_in_order: against
  * packets that are built here with the change, by RFC 8200, section 4, and RFC 791, section 3.1; each refusal; rooms of each
  * length; and any bytes.
  */
@@ -148,11 +148,11 @@ static bool call(const uint8_t *bytes, size_t len, struct change change, const u
     const struct part *part = &change.added;
     const bool may = change.may_be_invalid;
     switch (change.call) {
-    case WITHOUT_NUMBER: return wolfaren_without_number(bytes, len, (uint8_t)change.value, may, out, room, done);
-    case WITHOUT_INDEX: return wolfaren_without_index(bytes, len, change.value, may, out, room, done);
+    case WITHOUT_NUMBER: return wolfaren_remove_headers(bytes, len, (uint8_t)change.value, may, out, room, done);
+    case WITHOUT_INDEX: return wolfaren_remove_header(bytes, len, change.value, may, out, room, done);
     case WITH_HEADER: return wolfaren_with_header(bytes, len, part->number, added, part->len, change.value, may, out, room, done);
     case WITH_PAYLOAD: return wolfaren_with_payload(bytes, len, part->number, added, part->len, may, out, room, done);
-    case CLEARED: return wolfaren_cleared(bytes, len, may, out, room, done);
+    case CLEARED: return wolfaren_clear_reserved_bits(bytes, len, may, out, room, done);
     default: return wolfaren_in_order(bytes, len, may, out, room, done);
     }
 }

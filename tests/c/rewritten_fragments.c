@@ -412,9 +412,9 @@ static bool call(const uint8_t *bytes, size_t len, const struct change *change, 
     const struct header *added = &change->added;
     const bool may = change->may_be_invalid;
     switch (change->call) {
-    case WITHOUT: return wolfaren_without_number(bytes, len, change->number, may, out, len, done);
+    case WITHOUT: return wolfaren_remove_headers(bytes, len, change->number, may, out, len, done);
     case WITH: return wolfaren_with_header(bytes, len, added->number, added->bytes, added->len, change->index, may, out, len + added->len, done);
-    default: return wolfaren_cleared(bytes, len, may, out, len, done);
+    default: return wolfaren_clear_reserved_bits(bytes, len, may, out, len, done);
     }
 }
 

@@ -170,7 +170,7 @@ def rewrites(draw):
     new = extension(DESTINATION, 0, 0)
     for headers in HEADERS:
         made = [it._replace(headers=headers) for it in pieces(6, draw.randbytes(40), [16, 16])]
-        changes = [(("wolfaren_without_number", number), tuple(it for it in headers if it != number)) for number in headers]
+        changes = [(("wolfaren_remove_headers", number), tuple(it for it in headers if it != number)) for number in headers]
         changes += [(("wolfaren_with_header", DESTINATION, new, len(new), index), (*headers[:index], DESTINATION, *headers[index:]))
                     for index in range(headers[:1] == (HOP_BY_HOP,), len(headers) + 1)]
         for call, after in changes:

@@ -159,7 +159,7 @@ class Packet:
         return False
 
 
-def without(data, is_selected, may_be_invalid):
+def remove_header(data, is_selected, may_be_invalid):
     """Returns the packet without the selected headers, and whether transport checksums hold as before."""
     packet = Packet(data)
     selected = [header for index, header in enumerate(packet.headers) if is_selected(index, header)]
@@ -214,7 +214,7 @@ def with_payload(data, number, payload, may_be_invalid):
     return packet.written(packet.headers, number, payload), False
 
 
-def cleared(data, may_be_invalid):
+def clear_reserved_bits(data, may_be_invalid):
     """Returns the packet whose reserved bits are zero, likewise."""
     packet = Packet(data)
     if packet.has_fragmented(lambda index, header: has_reserved(header)):

@@ -9,7 +9,7 @@ import os
 import random
 import unittest
 
-from wolfaren import Filter, Refusal, RewriteError, cleared, dissect, in_order, with_header, with_payload, without
+from wolfaren import Filter, Refusal, RewriteError, clear_reserved_bits, dissect, in_order, remove_header, with_header, with_payload
 
 PACKETS = int(os.environ.get("JUMBOGRAMS", "200"))
 SEED = int(os.environ.get("SEED", "1"))
@@ -121,7 +121,7 @@ class Jumbograms(unittest.TestCase):
             is_covered = covered and number not in (FRAGMENT, AUTHENTICATION)
             refusal, wanted = self.resized(left, NUMBER, payload, jumbo_length)
             reason = Refusal.NO_HEADER if left == headers else covered if is_covered else refusal
-            self.assert_written(reason, wanted, without, packet, number=number, **given)
+            self.assert_written(reason, wanted, remove_header, packet, number=number, **given)
         one = Header(DESTINATION_OPTIONS, 4, 0)
         refusal, wanted = self.resized(headers + [one], NUMBER, payload, jumbo_length)
         self.assert_written(covered or refusal, wanted, with_header, packet, DESTINATION_OPTIONS, bytes(layer(one, 0, None)), **given)
@@ -134,7 +134,7 @@ class Jumbograms(unittest.TestCase):
         self.assert_written(covered or refusal, wanted, with_payload, packet, NUMBER, other[1:], **given)
         is_set = any(it.reserved for it in headers if it.number == AUTHENTICATION)
         wanted = built([it._replace(reserved=0) for it in headers], NUMBER, payload, jumbo_length)
-        self.assert_written(covered if is_set else None, wanted, cleared, packet, **given)
+        self.assert_written(covered if is_set else None, wanted, clear_reserved_bits, packet, **given)
         after = ordered(headers)
         self.assert_written(covered if after != headers else None, built(after, NUMBER, payload, jumbo_length), in_order, packet, **given)
 
@@ -182,9 +182,9 @@ class Jumbograms(unittest.TestCase):
         options = bytes(layer(header, 0, None))
         self.assertEqual(with_header(packet, DESTINATION_OPTIONS, options).packet, built([header], OTHER, b"", None, len(options)))
         self.assertEqual(with_payload(packet, NUMBER, b"payload").packet, built([], NUMBER, b"payload", None, 7))
-        self.assertEqual((cleared(packet).packet, in_order(packet).packet), (packet, packet))
+        self.assertEqual((clear_reserved_bits(packet).packet, in_order(packet).packet), (packet, packet))
         for number in NUMBERS:
-            self.assert_refused(Refusal.NO_HEADER, without, packet, number=number)
+            self.assert_refused(Refusal.NO_HEADER, remove_header, packet, number=number)
 
 
 if __name__ == "__main__":

@@ -77,7 +77,7 @@ class Types(unittest.TestCase):
                   "packet.time_ns": "Union[builtins.int, None]", "packet.bytes": "builtins.bytes",
                   "packet.time": "Union[datetime.datetime, None]",
                   "wolfaren.Filter('fault').write('one', 'other').written": "builtins.int",
-                  "wolfaren.without(b'', index=0).packet": "builtins.bytes",
+                  "wolfaren.remove_header(b'', index=0).packet": "builtins.bytes",
                   "wolfaren.dissect(mmap.mmap(-1, 9)).version": "builtins.int",
                   "wolfaren.Filter('fault').matches(array.array('B'))": "builtins.bool",
                   "wolfaren.Defragmenter().add(packet.bytes, packet.time_ns)": "Union[builtins.bytes, None]",

@@ -107,17 +107,17 @@ def random_change(rng):
     kind = rng.randrange(6)
     if kind == 0:
         number = rng.choice([*plain.EXTENSIONS, rng.randrange(256)])
-        return "without", (), {"number": number}, (lambda index, header: header[0] == number, may_be_invalid)
+        return "remove_header", (), {"number": number}, (lambda index, header: header[0] == number, may_be_invalid)
     if kind == 1:
         at = rng.randrange(4)
-        return "without", (), {"index": at}, (lambda index, header: index == at, may_be_invalid)
+        return "remove_header", (), {"index": at}, (lambda index, header: index == at, may_be_invalid)
     if kind == 2:
         new = random_insertion(rng)
         return "with_header", new, {}, (*new, may_be_invalid)
     if kind == 3:
         payload = rng.choice([6, 17, 59, rng.randrange(64)]), bytes(rng.randrange(65000, 66000)) if rng.randrange(50) == 0 else random_payload(rng)
         return "with_payload", payload, {}, (*payload, may_be_invalid)
-    return "cleared" if kind == 4 else "in_order", (), {}, (may_be_invalid,)
+    return "clear_reserved_bits" if kind == 4 else "in_order", (), {}, (may_be_invalid,)
 
 
 class RandomRewrites(unittest.TestCase):

@@ -1,4 +1,4 @@
-"""Tests of `without`, `with_header`, `with_payload`, `cleared`, `has_reserved_bits`, `in_order`, `is_in_order` and `rewrite`. Packets with the change are made here, and by scapy."""
+"""Tests of the calls that rewrite a packet. Packets with the change are made here, and by scapy."""
 
 import copy
 import itertools
@@ -7,12 +7,12 @@ import unittest
 
 from support import LATER_FRAGMENT, TCP, UDP, authentication, fragment, header, ipv4, ipv6, ipv6_chain, options
 
-from wolfaren import (Refusal, RewriteError, Rewritten, cleared, has_reserved_bits, in_order, is_in_order, rewrite, with_header,
-                      with_payload, without)
+from wolfaren import (Refusal, RewriteError, Rewritten, clear_reserved_bits, has_reserved_bits, in_order, is_in_order, remove_header,
+                      rewrite, with_header, with_payload)
 
 
 class Rewrites(unittest.TestCase):
-    def assert_refused(self, refusal, packet, *change, call=without, **which):
+    def assert_refused(self, refusal, packet, *change, call=remove_header, **which):
         with self.assertRaises(RewriteError) as caught:
             call(packet, *change, **which)
         self.assertIs(caught.exception.refusal, refusal)
@@ -22,13 +22,13 @@ class Rewrites(unittest.TestCase):
         packet = ipv6_chain(numbers)
         for number in set(numbers):
             wanted = ipv6_chain([it for it in numbers if it != number])
-            self.assertEqual(without(packet, number=number), (wanted, True))
+            self.assertEqual(remove_header(packet, number=number), (wanted, True))
         for index in range(5):
             wanted = ipv6_chain(numbers[:index] + numbers[index + 1:])
-            self.assertEqual(without(packet + b"padding", index=index).packet, wanted)
+            self.assertEqual(remove_header(packet + b"padding", index=index).packet, wanted)
         for kind in (bytearray, memoryview):
-            self.assertEqual(without(kind(packet), index=0).packet, ipv6_chain(numbers[1:]))
-        self.assertEqual(without(ipv4(51, authentication(6) + TCP), number=51), (ipv4(6, TCP), True))
+            self.assertEqual(remove_header(kind(packet), index=0).packet, ipv6_chain(numbers[1:]))
+        self.assertEqual(remove_header(ipv4(51, authentication(6) + TCP), number=51), (ipv4(6, TCP), True))
 
     def test_inserted_header(self):
         numbers = [0, 60, 43, 60]
@@ -77,14 +77,14 @@ class Rewrites(unittest.TestCase):
 
     def test_cleared(self):
         packet = bytearray(ipv6_chain([60, 44, 60, 44]))
-        self.assertEqual(cleared(packet + b"padding"), (bytes(packet), True))
+        self.assertEqual(clear_reserved_bits(packet + b"padding"), (bytes(packet), True))
         packet[49], packet[51], packet[65], packet[67] = 0xff, 4, 1, 6
-        self.assertEqual(cleared(packet), (ipv6_chain([60, 44, 60, 44]), True))
+        self.assertEqual(clear_reserved_bits(packet), (ipv6_chain([60, 44, 60, 44]), True))
         packet = bytearray(ipv6_chain([51]))
-        self.assertEqual(cleared(packet).packet, bytes(packet))
+        self.assertEqual(clear_reserved_bits(packet).packet, bytes(packet))
         packet[42] = 1
         self.assert_refused(Refusal.AUTHENTICATED, packet, call=cleared)
-        self.assertEqual(cleared(packet, may_be_invalid=True), (ipv6_chain([51]), True))
+        self.assertEqual(clear_reserved_bits(packet, may_be_invalid=True), (ipv6_chain([51]), True))
 
     def test_reserved_bits(self):
         for number, bits in (44, {8, 9, 10, 11, 12, 13, 14, 15, 29, 30}), (51, set(range(16, 32))), (60, set()):
@@ -97,15 +97,15 @@ class Rewrites(unittest.TestCase):
         self.assertIs(has_reserved_bits(b""), False)
 
     def test_covered_fragment_header(self):
-        self.assertEqual(without(ipv6_chain([44, 51]), number=44), (ipv6_chain([51]), True))
-        self.assertEqual(without(ipv6_chain([60, 44, 51]), index=1), (ipv6_chain([60, 51]), True))
+        self.assertEqual(remove_header(ipv6_chain([44, 51]), number=44), (ipv6_chain([51]), True))
+        self.assertEqual(remove_header(ipv6_chain([60, 44, 51]), index=1), (ipv6_chain([60, 51]), True))
         self.assert_refused(Refusal.AUTHENTICATED, ipv6_chain([51, 44]), number=44)
-        self.assertEqual(without(ipv6_chain([51, 44]), number=44, may_be_invalid=True).packet, ipv6_chain([51]))
+        self.assertEqual(remove_header(ipv6_chain([51, 44]), number=44, may_be_invalid=True).packet, ipv6_chain([51]))
         for numbers, at in ([44, 51], 41), ([51, 44], -len(UDP) - 7):
             packet = bytearray(ipv6_chain(numbers))
             packet[at] = 0xff
             if numbers[0] == 44:
-                self.assertEqual(cleared(packet), (ipv6_chain(numbers), True))
+                self.assertEqual(clear_reserved_bits(packet), (ipv6_chain(numbers), True))
             else:
                 self.assert_refused(Refusal.AUTHENTICATED, packet, call=cleared)
 
@@ -129,26 +129,26 @@ class Rewrites(unittest.TestCase):
     def test_checksums(self):
         packet = bytearray(ipv6_chain([43, 60]))
         packet[43] = 1
-        self.assertFalse(without(packet, index=0).keeps_checksums)
-        self.assertTrue(without(packet, index=1).keeps_checksums)
+        self.assertFalse(remove_header(packet, index=0).keeps_checksums)
+        self.assertTrue(remove_header(packet, index=1).keeps_checksums)
         self.assertFalse(with_header(ipv6_chain([]), 43, b"\0\0\0\1\0\0\0\0", 0).keeps_checksums)
 
     def test_later_fragments(self):
         for offset, more in (1, 1), (8, 0), (8191, 0):
             end = fragment(60, offset, more) + bytes(range(24))
             later, plain = ipv6(0, options(44) + end), ipv6(44, end)
-            self.assertEqual(without(later, number=0), (plain, True))
+            self.assertEqual(remove_header(later, number=0), (plain, True))
             self.assertEqual(with_header(plain, 0, options(9), 0), (later, True))
             self.assertEqual(in_order(later), (later, True))
             reserved = bytearray(later)
             reserved[49], reserved[51] = 0xff, reserved[51] | 6
-            self.assertEqual(cleared(reserved), (later, True))
+            self.assertEqual(clear_reserved_bits(reserved), (later, True))
             self.assert_refused(Refusal.FRAGMENT_HEADER, later, number=44)
             self.assert_refused(Refusal.FRAGMENTED, later, 60, options(0), 2, call=with_header)
             self.assert_refused(Refusal.FRAGMENTED, later, 17, UDP, call=with_payload)
         covered, plain = ipv6(0, options(44) + fragment(51, 8, 0) + bytes(24)), ipv6(44, fragment(51, 8, 0) + bytes(24))
         self.assert_refused(Refusal.AUTHENTICATED, covered, number=0)
-        self.assertEqual(without(covered, number=0, may_be_invalid=True).packet, plain)
+        self.assertEqual(remove_header(covered, number=0, may_be_invalid=True).packet, plain)
 
     def test_refusals(self):
         first = ipv6(0, options(44) + fragment(60, 0, 1) + options(17) + bytes(8))
@@ -162,7 +162,7 @@ class Rewrites(unittest.TestCase):
         self.assert_refused(Refusal.FRAGMENTED, first, index=2)
         self.assert_refused(Refusal.AUTHENTICATED, ipv6_chain([0, 51]), number=0)
         self.assert_refused(Refusal.HEADER_FOLLOWS, ipv4(51, authentication(51) + bytes(24)), index=0)
-        self.assertEqual(without(ipv6_chain([0, 51]), number=0, may_be_invalid=True).packet, ipv6_chain([51]))
+        self.assertEqual(remove_header(ipv6_chain([0, 51]), number=0, may_be_invalid=True).packet, ipv6_chain([51]))
         self.assert_refused(Refusal.NOT_A_HEADER, ipv6_chain([]), 60, options(0)[:-1], 0, call=with_header)
         self.assert_refused(Refusal.NOT_A_HEADER, ipv6_chain([]), 17, options(0), 0, call=with_header)
         self.assert_refused(Refusal.NOT_A_HEADER, ipv4(6, TCP), 60, options(0), 0, call=with_header)
@@ -189,10 +189,10 @@ class Rewrites(unittest.TestCase):
     def test_arguments(self):
         for which in ({}, {"number": 0, "index": 0}, {"number": "0"}):
             with self.assertRaises(TypeError):
-                without(ipv6_chain([0]), **which)
+                remove_header(ipv6_chain([0]), **which)
         for which in ({"number": 256}, {"index": -1}):
             with self.assertRaises(OverflowError):
-                without(ipv6_chain([0]), **which)
+                remove_header(ipv6_chain([0]), **which)
         for number, index in ((256, 0), (60, -1), (-1, 0)):
             with self.assertRaises(OverflowError):
                 with_header(ipv6_chain([0]), number, options(0), index)
@@ -207,9 +207,9 @@ class Rewrites(unittest.TestCase):
         from scapy.layers.inet6 import IPv6, IPv6ExtHdrDestOpt, IPv6ExtHdrFragment, IPv6ExtHdrHopByHop
         upper = ScapyUdp(sport=1, dport=2) / b"data"
         packet = bytes(IPv6(dst="2001:db8::1") / IPv6ExtHdrHopByHop() / IPv6ExtHdrDestOpt() / upper)
-        self.assertEqual(without(packet, number=0).packet, bytes(IPv6(dst="2001:db8::1") / IPv6ExtHdrDestOpt() / upper))
+        self.assertEqual(remove_header(packet, number=0).packet, bytes(IPv6(dst="2001:db8::1") / IPv6ExtHdrDestOpt() / upper))
         without_options = bytes(IPv6(dst="2001:db8::1") / IPv6ExtHdrHopByHop() / upper)
-        self.assertEqual(without(packet, number=60).packet, without_options)
+        self.assertEqual(remove_header(packet, number=60).packet, without_options)
         self.assertEqual(with_header(without_options, 60, bytes(IPv6ExtHdrDestOpt()), 1), (packet, True))
         other = IPv6(dst="2001:db8::1") / IPv6ExtHdrHopByHop() / IPv6ExtHdrDestOpt() / ScapyTcp(sport=3)
         self.assertEqual(with_payload(packet, 6, bytes(other[ScapyTcp])).packet, bytes(other))
@@ -218,7 +218,7 @@ class Rewrites(unittest.TestCase):
         reserved.res1, reserved.res2 = 255, 3
         packets = [bytes(IPv6(dst="2001:db8::1") / it / upper) for it in (reserved, fragment_header)]
         self.assertNotEqual(*packets)
-        self.assertEqual(cleared(packets[0]), (packets[1], True))
+        self.assertEqual(clear_reserved_bits(packets[0]), (packets[1], True))
         packets = [bytes(IPv6(dst="2001:db8::1") / one / other / upper)
                    for one, other in itertools.permutations((IPv6ExtHdrDestOpt(), fragment_header), 2)]
         self.assertEqual(in_order(packets[0]), (packets[1], True))

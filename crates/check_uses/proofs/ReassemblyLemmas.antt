@@ -8,8 +8,8 @@ use Rattle.std.specs.Str.{bytes_eq}
 use Rattle.std.proofs.lemmas.Bool.{and_from, or_left, or_right, eq-eqb, cond-true}
 use Rattle.std.proofs.lemmas.List.{take_at, drop_at, length-append}
 use Rattle.std.proofs.lemmas.Slice.Eq.{bytes_eq-Decides}
-use Rattle.ip_defrag.specs.Fragment.{Fragment, fragment_at, is_same}
-use Rattle.ip_defrag.specs.Split.{IsSplit, are_among}
+use Rattle.ip_reassembly.specs.Fragment.{Fragment, fragment_at, is_same}
+use Rattle.ip_reassembly.specs.Split.{IsSplit, are_among}
 
 -- the two fragments
 abbrev pub two_fragments : ℕ → ℕ → List ℕ → List ℕ → List Fragment

@@ -6,14 +6,14 @@ use Rattle.std.specs.Prelude.{◌==◌}
 use Rattle.std.specs.List.{list_any}
 use Rattle.std.proofs.lemmas.Bool.{ne_eqb, or_left, or_right}
 use Rattle.ip_dissect.specs.Dissection.{dissected}
-use Rattle.ip_defrag.specs.Fragment.{Fragment, is_same}
-use Rattle.ip_defrag.specs.Split.{IsSplit, are_among}
-use Rattle.ip_defrag.proofs.FragmentLemmas.{is_same_self}
+use Rattle.ip_reassembly.specs.Fragment.{Fragment, is_same}
+use Rattle.ip_reassembly.specs.Split.{IsSplit, are_among}
+use Rattle.ip_reassembly.proofs.FragmentLemmas.{is_same_self}
 use Rattle.ip_defragmenter.specs.FragmentOf.{FragmentParts, packet_fragment}
 use Rattle.ip_defragmenter.specs.Slots.{is_expired}
 use Rattle.ip_defragmenter.specs.declared.key.FragmentKey.{FragmentKey}
-use Rattle.ip_defrag_laws.specs.Room.{PacketName, IsNamed, IsTime, IsTimely}
-use Rattle.ip_defrag_laws.specs.Run.{Adds, Call, Step}
+use Rattle.ip_defragmenter_laws.specs.Room.{PacketName, IsNamed, IsTime, IsTimely}
+use Rattle.ip_defragmenter_laws.specs.Run.{Adds, Call, Step}
 
 -- the second piece is another one than the first
 other : (payload : List ℕ) (p q : Fragment) → IsSplit payload (p ∷ q ∷ []) → is_same q p ≡ false

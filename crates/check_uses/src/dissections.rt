@@ -4,7 +4,7 @@ ghost use Rattle.ip_spec.specs.Chain.{is_empty};
 ghost use Rattle.etherparse_ip.specs.Packet.{Parts, IsIpv6Packet};
 ghost use Rattle.ip_dissect.specs.Dissection.{HasParts, dissected, version_of, base_of};
 ghost use Rattle.ip_dissect.specs.LaterDemand.{has_later};
-ghost use Rattle.ip_dissect.specs.Outline.{is_plain};
+ghost use Rattle.ip_dissect.specs.Summary.{is_plain};
 ghost use Rattle.ip_dissect.specs.declared.end.End.TheVariants.{Payload};
 
 use crate::agreement_laws::parsed_packets_have_these_parts;
@@ -40,7 +40,7 @@ impl<'a> PacketVisitor<'a> for PlainPayload {
     ghost slow = { λ old s new _. new ≡ old };
 
     fn visit_plain(&mut self, packet: Packet<'a>) -> (IpNumber, usize) {
-        (packet.outline.next_header, packet.outline.payload_len)
+        (packet.summary.next_header, packet.summary.payload_len)
     }
 
     fn visit_slow(&mut self, _start: PacketStart<'a>) {}

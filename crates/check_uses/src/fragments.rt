@@ -1,8 +1,8 @@
 //! Packets from their fragments.
 ghost use Rattle.std.specs.Prelude.{◌≡◌, ◌<◌, ◌≤◌, ◌++◌, ◌∷◌, [], ℕ, List, length, drop, slice_index, true, false, Ok, Err, Some, None, IsNone, IsSome, OnOk};
 ghost use Rattle.ip_dissect.specs.Dissection.{dissected};
-ghost use Rattle.ip_defrag.specs.Fragment.{Fragment};
-ghost use Rattle.ip_defrag.specs.Split.{IsSplit, are_among};
+ghost use Rattle.ip_reassembly.specs.Fragment.{Fragment};
+ghost use Rattle.ip_reassembly.specs.Split.{IsSplit, are_among};
 ghost use Rattle.ip_lists.specs.Table.{AreSame};
 ghost use Rattle.ip_defragmenter.specs.FragmentOf.{packet_fragment, parts_of};
 ghost use Rattle.ip_defragmenter.specs.Added.{added_nothing};
@@ -13,19 +13,19 @@ ghost use Rattle.ip_defragmenter.specs.Memory.{WasStored, HoldsStored, AreJoinab
 ghost use Rattle.ip_defragmenter.specs.Sent.{IsSentIpv6, ipv6_first};
 ghost use Rattle.ip_defragmenter.specs.Slots.{IsUnchanged};
 ghost use Rattle.ip_defragmenter.specs.declared.err.FragmentError.{FragmentError};
-ghost use Rattle.ip_defrag_laws.specs.Ipv6.{IsIpv6Fragment};
-ghost use Rattle.ip_defrag_laws.specs.Run.{IsFresh};
-ghost use Rattle.ip_defrag_laws.specs.Written.{IsMadeWhole};
+ghost use Rattle.ip_defragmenter_laws.specs.Ipv6.{IsIpv6Fragment};
+ghost use Rattle.ip_defragmenter_laws.specs.Run.{IsFresh};
+ghost use Rattle.ip_defragmenter_laws.specs.Written.{IsMadeWhole};
 
-use ip_defrag::Progress;
-use ip_defrag_laws::{
-    clear_in_run, defragment_in_run, fragments_are_read, fragments_make_the_packet_that_was_sent,
-    give_up_in_run, packets_are_kept_where_there_is_room, tables_stay_valid,
-};
 use ip_defragmenter::{
     Added, Defragmenter, DropReason, IpFragment, Outcome, PacketMemory, Settings, SlotTable,
     WholeError, defragment, whole_packet_is_the_one_sent,
 };
+use ip_defragmenter_laws::{
+    clear_in_run, defragment_in_run, fragments_are_read, fragments_make_the_packet_that_was_sent,
+    give_up_in_run, packets_are_kept_where_there_is_room, tables_stay_valid,
+};
+use ip_reassembly::Progress;
 
 /// Adds a packet that arrived at this time in this context. If it makes its packet whole, writes that to `out` and returns its length in
 /// bytes. Returns `None` if it doesn't, or if the whole packet doesn't fit.

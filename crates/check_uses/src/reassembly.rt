@@ -2,7 +2,7 @@
 ghost use Rattle.std.specs.Prelude.{◌≡◌, ◌+◌, ◌*◌, ◌<◌, ◌≤◌, ◌++◌, length};
 
 use ip_base::IpFragOffset;
-use ip_defrag::Reassembly;
+use ip_reassembly::Reassembly;
 
 /// Reassembles a payload of two fragments, of which the last arrives first, and copies it.
 pub fn last_fragment_first(

@@ -6,8 +6,9 @@ ghost use Rattle.ip_rewrite.specs.Order.{in_order};
 
 use ip_base::ip_number;
 use ip_rewrite::{
-    Authentication, HeaderSet, Request, RewriteError, Which, cleared, has_reserved_bits, in_order,
-    is_in_order, recommended_index, rewrite, with_header, without,
+    Authentication, HeaderSet, Request, RewriteError, Which, clear_reserved_bits,
+    has_reserved_bits, in_order, is_in_order, recommended_index, remove_header, rewrite,
+    with_header,
 };
 
 /// Writes the packet without its first extension header to `out`, unless an authentication header covers it, and returns its
@@ -17,7 +18,7 @@ pub fn without_first(packet: &[u8], out: &mut [u8]) -> Option<usize>
     ensures payload { IfSome result (λ len. (dissected (take len out.new)).payload ≡ (dissected packet.now).payload) }
     ensures stays { IfNone result (out.new ≡ out.old) }
 {
-    match without(packet, Which::Index(0), Authentication::Valid, out) {
+    match remove_header(packet, Which::Index(0), Authentication::Valid, out) {
         Ok(written) => Some(written.len),
         Err(_) => None,
     }
@@ -28,7 +29,7 @@ pub fn with_zero_bits(packet: &[u8], out: &mut [u8]) -> Option<usize>
     ensures payload { IfSome result (λ len. (dissected (take len out.new)).payload ≡ (dissected packet.now).payload) }
     ensures stays { IfNone result (out.new ≡ out.old) }
 {
-    match cleared(packet, Authentication::Valid, out) {
+    match clear_reserved_bits(packet, Authentication::Valid, out) {
         Ok(written) => Some(written.len),
         Err(_) => None,
     }
@@ -60,7 +61,7 @@ pub fn ordered(packet: &[u8], out: &mut [u8]) -> Option<usize>
     }
 }
 
-/// Returns whether neither `cleared` nor `in_order` would change an extension header of the packet.
+/// Returns whether neither `clear_reserved_bits` nor `in_order` would change an extension header of the packet.
 pub fn is_normal(packet: &[u8]) -> bool
     ensures { let c = (dissected packet.now).headers in
         IsTrue result ↔ ((cleared_chain c ≡ c) × (in_order c ≡ c)) }

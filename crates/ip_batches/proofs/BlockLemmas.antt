@@ -4,7 +4,7 @@ use Rattle.std.proofs.lemmas.List.{get_or-set_same, get_or-set_other}
 use Rattle.std.proofs.lemmas.Bool.{cases_eq}
 use Rattle.ip_filter.specs.Program.{led_to}
 use Rattle.ip_filter.specs.declared.filter.Test.{Test}
-use Rattle.ip_filter.specs.declared.brief.Brief.{Brief}
+use Rattle.ip_filter.specs.declared.metadata.Metadata.{Metadata}
 use Rattle.ip_batches.specs.Blocks.{met_by, after_test, AreLed}
 
 -- A list that has a place has an element.
@@ -13,19 +13,19 @@ element [] i l = absurd (let h : ⊥ = omega (arith, l) in h)
 element (x ∷ xs) i l = x
 
 -- One packet more takes a test.
-module _ (x : Test) (i : ℕ) (briefs : List Brief) (old : List ℕ) where
+module _ (x : Test) (i : ℕ) (metadata : List Metadata) (old : List ℕ) where
   abbrev BeforeLed : ℕ → List ℕ → Type 0
-  BeforeLed place next = (j : ℕ) (d : Brief) → j < place → get_or next j 0 ≡ after_test x i (get_or briefs j d) (get_or old j 0)
+  BeforeLed place next = (j : ℕ) (d : Metadata) → j < place → get_or next j 0 ≡ after_test x i (get_or metadata j d) (get_or old j 0)
 
   abbrev OthersStay : ℕ → List ℕ → Type 0
   OthersStay place next = (j : ℕ) → place ≤ j → get_or next j 0 ≡ get_or old j 0
 
   pub one_led : (next : List ℕ) (place to : ℕ) → place < length next → BeforeLed place next → OthersStay place next
-      → ((d : Brief) → to ≡ after_test x i (get_or briefs place d) (get_or next place 0)) → BeforeLed (place + 1) (set next place to) × OthersStay (place + 1) (set next place to)
+      → ((d : Metadata) → to ≡ after_test x i (get_or metadata place d) (get_or next place 0)) → BeforeLed (place + 1) (set next place to) × OthersStay (place + 1) (set next place to)
   one_led next place to l before others is = (
     λ j d less. elim (cases_eq j place) [
-      | inl same ↦ subst (λ k. get_or (set next place to) k 0 ≡ after_test x i (get_or briefs k d) (get_or old k 0)) (sym same)
-          (get_or-set_same next place to 0 l ∙ is d ∙ ap (after_test x i (get_or briefs place d)) (others place (omega arith)))
+      | inl same ↦ subst (λ k. get_or (set next place to) k 0 ≡ after_test x i (get_or metadata k d) (get_or old k 0)) (sym same)
+          (get_or-set_same next place to 0 l ∙ is d ∙ ap (after_test x i (get_or metadata place d)) (others place (omega arith)))
       | inr other ↦ get_or-set_other next place j to 0 other ∙ before j d (omega (arith, less, other))
     ],
     λ j later. get_or-set_other next place j to 0 (λ e. omega (arith, e, later)) ∙ others j (omega (arith, later)),
@@ -43,5 +43,5 @@ same_numbers x zero j = refl
 same_numbers x (suc n) zero = refl
 same_numbers x (suc n) (suc j) = same_numbers x n j
 
-pub none_taken : (xs : List Test) (briefs : List Brief) → AreLed xs 0 briefs (replicate 8 0)
-none_taken xs briefs j d l = ap (λ n. led_to (met_by (get_or briefs j d)) 0 n xs) (same_numbers 0 8 j)
+pub none_taken : (xs : List Test) (metadata : List Metadata) → AreLed xs 0 metadata (replicate 8 0)
+none_taken xs metadata j d l = ap (λ n. led_to (met_by (get_or metadata j d)) 0 n xs) (same_numbers 0 8 j)

@@ -3,15 +3,15 @@ ghost use Rattle.std.specs.Prelude.{◌≡◌, ℕ, List, ◌+◌, ◌<◌, ◌�
 ghost use Rattle.std.specs.List.{All};
 ghost use Rattle.ip_spans.specs.HeaderSpan.{filled};
 ghost use Rattle.ip_filter.specs.Program.{passes, tests_of};
-ghost use Rattle.ip_filter.specs.declared.brief.Brief.{Brief as TheBrief};
+ghost use Rattle.ip_filter.specs.declared.metadata.Metadata.{Metadata as TheMetadata};
 ghost use Rattle.ip_batches.specs.Packets.{batch_packets};
 ghost use Rattle.ip_batches.specs.Batch.{packet_at, matches_of};
-ghost use Rattle.ip_batches.specs.Blocks.{after_test, met_by, IsBrief};
+ghost use Rattle.ip_batches.specs.Blocks.{after_test, met_by, AsksMetadata};
 ghost use Rattle.ip_batches.specs.declared.batch.PacketSpan.{PacketSpan as TheSpan};
 
 use crate::Batch;
 use crate::matches::byte_of;
-use ip_filter::{Brief, Filter, Test};
+use ip_filter::{Filter, Metadata, Test};
 
 /// The largest number of packets in a block. Twelve were no faster, and sixteen would take more than a kilobyte of stack.
 const BLOCK_LEN: usize = 8;
@@ -20,103 +20,103 @@ const BLOCK_LEN: usize = 8;
 const PASSED: u8 = 64;
 
 impl<'a> Batch<'a> {
-    /// Stores which packets a filter of brief tests matches, as `filter` does, block by block. It is not inlined, so that other
+    /// Stores which packets a filter whose tests ask metadata matches, as `filter` does, block by block. It is not inlined, so that other
     /// filters don't need room for a block.
     #[inline(never)]
     #[tactic(auto, using(crate::proofs::BatchLemmas::all_stored))]
     pub(crate) fn filter_blocks(&self, filter: &Filter, matches: &mut [u8])
-        requires { All IsBrief (tests_of filter.now) }
+        requires { All AsksMetadata (tests_of filter.now) }
         ensures { matches.new ≡ filled (matches_of filter.now (batch_packets self.now)) matches.old }
     {
         let count = self.spans.len().min(matches.len());
-        let mut briefs = [Brief::of(&[]); BLOCK_LEN];
+        let mut metadata = [Metadata::of(&[]); BLOCK_LEN];
         let mut first = 0;
         'rounds: while first < count {
             let len = (count - first).min(BLOCK_LEN);
-            self.filter_block(filter, first, &mut briefs[..len], matches);
+            self.filter_block(filter, first, &mut metadata[..len], matches);
             first += len;
         }
     }
 
     /// Stores which packets of a block the filter matches. The block starts at the packet with the index `first`, and has
-    /// as many packets as `briefs` has room for.
+    /// as many packets as `metadata` has room for.
     #[inline(always)]
     fn filter_block(
         &self,
         filter: &Filter,
         first: usize,
-        briefs: &mut [Brief<'a>],
+        metadata: &mut [Metadata<'a>],
         matches: &mut [u8],
     )
-        requires brief { All IsBrief (tests_of filter.now) }
-        requires block { length briefs.old ≤ 8 }
-        requires spans { first + length briefs.old ≤ length self.now.spans.now }
-        requires room { first + length briefs.old ≤ length matches.old }
+        requires metadata { All AsksMetadata (tests_of filter.now) }
+        requires block { length metadata.old ≤ 8 }
+        requires spans { first + length metadata.old ≤ length self.now.spans.now }
+        requires room { first + length metadata.old ≤ length matches.old }
         ensures { (old : List ℕ) → length old ≡ length matches.old
             → matches.old ≡ take first (matches_of filter.now (batch_packets self.now)) ++ drop first old
-            → matches.new ≡ take (first + length briefs.old) (matches_of filter.now (batch_packets self.now))
-            ++ drop (first + length briefs.old) old }
+            → matches.new ≡ take (first + length metadata.old) (matches_of filter.now (batch_packets self.now))
+            ++ drop (first + length metadata.old) old }
     {
-        self.put_briefs(first, briefs);
-        let next = run_tests(filter.used_tests(), briefs);
-        'packets: for index in 0..briefs.len() {
+        self.put_metadata(first, metadata);
+        let next = run_tests(filter.used_tests(), metadata);
+        'packets: for index in 0..metadata.len() {
             matches[first + index] = byte_of(next[index] == PASSED);
         }
     }
 
-    /// Fills `briefs` with those of the packets from the one with the index `first` on.
+    /// Fills `metadata` with those of the packets from the one with the index `first` on.
     #[inline(always)]
-    fn put_briefs(&self, first: usize, briefs: &mut [Brief<'a>])
-        requires { first + length briefs.old ≤ length self.now.spans.now }
-        ensures len { length briefs.new ≡ length briefs.old }
-        ensures bytes { (j : ℕ) (d : TheBrief) (e : TheSpan) → j < length briefs.old
-            → (slice_index_or briefs.new j d).bytes.now
+    fn put_metadata(&self, first: usize, metadata: &mut [Metadata<'a>])
+        requires { first + length metadata.old ≤ length self.now.spans.now }
+        ensures len { length metadata.new ≡ length metadata.old }
+        ensures bytes { (j : ℕ) (d : TheMetadata) (e : TheSpan) → j < length metadata.old
+            → (slice_index_or metadata.new j d).bytes.now
             ≡ packet_at self.now.buffer.now (slice_index_or self.now.spans.now (first + j) e) }
     {
-        'packets: for index in 0..briefs.len() {
-            briefs[index].set(self.packet(first + index));
+        'packets: for index in 0..metadata.len() {
+            metadata[index].set(self.packet(first + index));
         }
     }
 }
 
 /// Returns for each packet the index to which the tests lead it.
 #[inline(always)]
-fn run_tests(tests: &[Test], briefs: &[Brief<'_>]) -> [u8; BLOCK_LEN]
+fn run_tests(tests: &[Test], metadata: &[Metadata<'_>]) -> [u8; BLOCK_LEN]
     requires few { length tests.now ≤ 64 }
-    requires brief { All IsBrief tests.now }
-    requires block { length briefs.now ≤ 8 }
-    ensures { (j : ℕ) (d : TheBrief) → j < length briefs.now → (slice_index_or result j 0 == 64)
-        ≡ passes tests.now (met_by (slice_index_or briefs.now j d)) }
+    requires metadata { All AsksMetadata tests.now }
+    requires block { length metadata.now ≤ 8 }
+    ensures { (j : ℕ) (d : TheMetadata) → j < length metadata.now → (slice_index_or result j 0 == 64)
+        ≡ passes tests.now (met_by (slice_index_or metadata.now j d)) }
 {
     let mut next = [0; BLOCK_LEN];
     'tests: for index in 0..tests.len() {
-        take_test(&tests[index], index as u8, briefs, &mut next);
+        take_test(&tests[index], index as u8, metadata, &mut next);
     }
     next
 }
 
 /// Leads those packets on that have been led to this test, which has this index.
 #[inline(never)]
-fn take_test(test: &Test, index: u8, briefs: &[Brief<'_>], next: &mut [u8; BLOCK_LEN])
-    requires brief { IsBrief test.now }
-    requires block { length briefs.now ≤ 8 }
-    ensures { (j : ℕ) (d : TheBrief) → j < length briefs.now → slice_index_or next.new j 0
-        ≡ after_test test.now index (slice_index_or briefs.now j d) (slice_index_or next.old j 0) }
+fn take_test(test: &Test, index: u8, metadata: &[Metadata<'_>], next: &mut [u8; BLOCK_LEN])
+    requires metadata { AsksMetadata test.now }
+    requires block { length metadata.now ≤ 8 }
+    ensures { (j : ℕ) (d : TheMetadata) → j < length metadata.now → slice_index_or next.new j 0
+        ≡ after_test test.now index (slice_index_or metadata.now j d) (slice_index_or next.old j 0) }
 {
     // a copy: of a reference the compiler would think that each store to `next` may change the test
     let test = *test;
-    'packets: for place in 0..briefs.len() {
-        next[place] = index_after(&test, index, &briefs[place], next[place]);
+    'packets: for place in 0..metadata.len() {
+        next[place] = index_after(&test, index, &metadata[place], next[place]);
     }
 }
 
 /// Returns the index to which a packet is led whose next test is the one with the index `next`.
 #[inline(always)]
-fn index_after(test: &Test, index: u8, brief: &Brief<'_>, next: u8) -> u8
-    requires { IsBrief test.now }
-    ensures { result ≡ after_test test.now index brief.now next }
+fn index_after(test: &Test, index: u8, metadata: &Metadata<'_>, next: u8) -> u8
+    requires { AsksMetadata test.now }
+    ensures { result ≡ after_test test.now index metadata.now next }
 {
-    let after = if test.is_met_by(brief) {
+    let after = if test.is_met_by(metadata) {
         test.if_met
     } else {
         test.if_not

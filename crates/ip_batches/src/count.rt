@@ -77,9 +77,9 @@ fn count_plain(packet: &Packet<'_>, statistics: &mut Statistics, plain: &mut Pla
     add_nothing(statistics);
     add_no_headers(&statistics.headers);
     if is_plain(packet) {
-        let number = usize::from(packet.outline.next_header.0);
+        let number = usize::from(packet.summary.next_header.0);
         count_at(&mut statistics.payload_numbers, number);
-        plain.add(&packet.outline);
+        plain.add(&packet.summary);
     } else {
         statistics.count_packet(packet.bytes);
     }

@@ -6,7 +6,7 @@ ghost use Rattle.ip_spans.specs.HeaderSpan.{filled};
 ghost use Rattle.ip_statistics.specs.Counts.{one_if};
 ghost use Rattle.ip_batches.specs.Packets.{batch_packets};
 ghost use Rattle.ip_batches.specs.Batch.{matches_of};
-ghost use Rattle.ip_batches.specs.Blocks.{IsBrief};
+ghost use Rattle.ip_batches.specs.Blocks.{AsksMetadata};
 
 use crate::Batch;
 use ip_filter::Filter;
@@ -19,7 +19,7 @@ impl Batch<'_> {
         ensures { matches.new ≡ filled (matches_of filter.now (batch_packets self.now)) matches.old }
     {
         // one test alone is faster on its own path
-        if filter.used_tests().len() > 1 && is_brief(filter) {
+        if filter.used_tests().len() > 1 && asks_metadata(filter) {
             self.filter_blocks(filter, matches);
         } else {
             self.filter_each(filter, matches);
@@ -39,11 +39,11 @@ impl Batch<'_> {
     }
 }
 
-/// Returns whether all tests of the filter are brief.
-fn is_brief(filter: &Filter) -> bool
-    ensures { IsTrue result ↔ All IsBrief (tests_of filter.now) }
+/// Returns whether all tests of the filter ask metadata.
+fn asks_metadata(filter: &Filter) -> bool
+    ensures { IsTrue result ↔ All AsksMetadata (tests_of filter.now) }
 {
-    filter.used_tests().iter().all(|test| test.is_brief())
+    filter.used_tests().iter().all(|test| test.asks_metadata())
 }
 
 /// Returns 1 for true and 0 for false.

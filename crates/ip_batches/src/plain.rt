@@ -1,11 +1,11 @@
 //! Counts of packets without extension headers, kept apart from the statistics: in a loop they are in registers.
 ghost use Rattle.std.specs.Prelude.{◌≡◌, ◌==◌, ◌<◌, ◌&&◌, not, true, length, slice_index, slice_set};
 ghost use Rattle.ip_dissect.specs.Dissection.{DissectedParts, dissected};
-ghost use Rattle.ip_dissect.specs.Outline.{outline_of};
+ghost use Rattle.ip_dissect.specs.Summary.{summary_of};
 ghost use Rattle.ip_statistics.specs.Counts.{added, all_added, each_below, one_if};
 ghost use Rattle.ip_batches.specs.Plain.{first_count, with_plain, IsPlain};
 
-use ip_dissect::{Outline, Packet};
+use ip_dissect::{Packet, Summary};
 use ip_statistics::Statistics;
 
 /// What packets without extension headers, at their payloads, count alike.
@@ -22,20 +22,20 @@ pub(crate) struct PlainCounts {
 }
 
 impl PlainCounts {
-    /// Counts the packet with this outline, but not its payload's number.
+    /// Counts the packet with this summary, but not its payload's number.
     #[inline(always)]
-    pub(crate) fn add(&mut self, outline: &Outline)
-        ensures { (d : DissectedParts) → outline.now ≡ outline_of d → self.new ≡ record {
+    pub(crate) fn add(&mut self, summary: &Summary)
+        ensures { (d : DissectedParts) → summary.now ≡ summary_of d → self.new ≡ record {
           ipv4 = added self.old.ipv4 (one_if (d.version == 4));
           ipv6 = added self.old.ipv6 (one_if (d.version == 6));
           incomplete = added self.old.incomplete (one_if (not (d.missing == 0)));
           payload_bytes = added self.old.payload_bytes (length d.payload);
         } }
     {
-        count_if(&mut self.ipv4, outline.version == 4);
-        count_if(&mut self.ipv6, outline.version == 6);
-        count_if(&mut self.incomplete, outline.missing != 0);
-        add(&mut self.payload_bytes, outline.payload_len as u64);
+        count_if(&mut self.ipv4, summary.version == 4);
+        count_if(&mut self.ipv6, summary.version == 6);
+        count_if(&mut self.incomplete, summary.missing != 0);
+        add(&mut self.payload_bytes, summary.payload_len as u64);
     }
 
     /// Adds these packets to the statistics, but for the numbers of their payloads.
@@ -60,12 +60,12 @@ impl PlainCounts {
 pub(crate) fn is_plain(packet: &Packet<'_>) -> bool
     ensures { result ≡ true → IsPlain (dissected packet.now.bytes.now) }
 {
-    let outline = &packet.outline;
-    (outline.version == 4 || outline.version == 6)
-        && outline.header_count == 0
-        && outline.fragment.is_none()
-        && !outline.has_error
-        && !outline.is_later_fragment
+    let summary = &packet.summary;
+    (summary.version == 4 || summary.version == 6)
+        && summary.header_count == 0
+        && summary.fragment.is_none()
+        && !summary.has_error
+        && !summary.is_later_fragment
 }
 
 /// Adds a number to the count.

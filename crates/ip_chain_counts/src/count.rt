@@ -46,8 +46,8 @@ fn key_after(path: &[u8], packet: &Packet<'_>, numbers: &KeyBytes) -> KeyBytes
 {
     let mut key = KeyBytes::new();
     key.extend(path);
-    key.push(packet.outline.version);
-    key.push(packet.outline.next_header.0);
+    key.push(packet.summary.version);
+    key.push(packet.summary.next_header.0);
     key.push(chain_end(&packet.end()));
     key.append(numbers);
     key
@@ -68,7 +68,7 @@ pub fn count_chain(counts: &mut KeyCounts<'_>, path: &[u8], bytes: &[u8])
 {
     let mut numbers = KeyBytes::new();
     let packet = Packet::walk(bytes, &mut numbers);
-    if packet.outline.version == 0 {
+    if packet.summary.version == 0 {
         return;
     }
     match key_after(path, &packet, &numbers).get() {

@@ -2,12 +2,12 @@
 use Rattle.ip_spec.proofs.Common.{◌≡◌, ℕ, ◌+◌, ◌-◌, ◌≤◌, List, [], ◌∷◌, ◌++◌, refl, sym, ◌∙◌, ap, arith, common_steps, length, length-append, append_assoc, take, drop, drop-append_seam, take-append_seam, flat_map-append, Option, Some, None, option_map, ExtHeader, bytes_of, find}
 use Rattle.ip_dissect.specs.Fragment.{fragments}
 use Rattle.ip_dissect.specs.Dissection.{dissected}
-use Rattle.ip_dissect.specs.Outline.{IsBaseOf}
+use Rattle.ip_dissect.specs.Summary.{IsBaseOf}
 use Rattle.ip_dissect.specs.declared.dissection.BaseHeader.{BaseHeader}
-use Rattle.ip_dissect.specs.declared.outline.Outline.{Outline}
+use Rattle.ip_dissect.specs.declared.summary.Summary.{Summary}
 use Rattle.ip_dissect.specs.declared.packet.Packet.{Packet}
 use Rattle.ip_dissect.proofs.JoinedLemmas.{parts_joined}
-use Rattle.ip_dissect.proofs.PacketLemmas.{outline_fits}
+use Rattle.ip_dissect.proofs.PacketLemmas.{summary_fits}
 use Rattle.ip_defragmenter.specs.Split.{before_fragment, after_fragment}
 use Rattle.ip_defragmenter.specs.Finder.{found_at, found_after}
 use Rattle.ip_defragmenter.specs.FragmentOf.{FragmentParts}
@@ -106,9 +106,9 @@ fragment_lies p x f after here =
     let start : x.start ≡ length (dissected s).base + length (bytes_of (before_fragment (dissected s).headers)) = ap (λ (y : FoundHeader). y.start) found.1.1 in
     let len : x.len ≡ length found.0.bytes = ap (λ (y : FoundHeader). y.len) found.1.1 in
     let split = split_length s p.base p.base_is found.0 found.1.0 in
-    let fits = outline_fits s p.base p.outline p.base_is p.outline_is in
-    let base : p.outline.base_len ≡ length (dissected s).base = ap (λ (o : Outline). o.base_len) p.outline_is in
-    let extensions : p.outline.extensions_len ≡ length (bytes_of (dissected s).headers) = ap (λ (o : Outline). o.extensions_len) p.outline_is in
+    let fits = summary_fits s p.base p.summary p.base_is p.summary_is in
+    let base : p.summary.base_len ≡ length (dissected s).base = ap (λ (o : Summary). o.base_len) p.summary_is in
+    let extensions : p.summary.extensions_len ≡ length (bytes_of (dissected s).headers) = ap (λ (o : Summary). o.extensions_len) p.summary_is in
     record {
       header = found.0;
       found = found.1.0;

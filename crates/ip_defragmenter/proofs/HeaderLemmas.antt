@@ -3,7 +3,7 @@ use Rattle.std.proofs.Common.{◌≡◌, ℕ, ◌≤◌, ◌<◌, ◌&&◌, List
 use Rattle.std.specs.Prelude.{Some, None}
 use Rattle.std.proofs.lemmas.Bool.{cond-true, cond-false, cases_Bool, le-leb, lt-leb}
 use Rattle.std.proofs.lemmas.Option.{same_Some, none-some}
-use Rattle.ip_defrag.specs.Reassembly.{is_set}
+use Rattle.ip_reassembly.specs.Reassembly.{is_set}
 use Rattle.ip_defragmenter.specs.Memory.{FirstParts, kept_headers, first_in}
 use Rattle.ip_defragmenter.specs.declared.memory.PacketMemory.{PacketMemory}
 

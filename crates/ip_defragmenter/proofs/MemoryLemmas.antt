@@ -4,21 +4,21 @@ use Rattle.std.specs.Prelude.{Option, Some, None, Result, Ok, Err, is_some}
 use Rattle.std.proofs.lemmas.Bool.{cond-true, cond-false, cases_Bool, and_parts}
 use Rattle.std.proofs.lemmas.Option.{none-some, same_Some}
 use Rattle.std.specs.Option.{option_map}
-use Rattle.ip_defrag.specs.Fragment.{Fragment, end_of, is_unaligned}
-use Rattle.ip_defrag.specs.Refusal.{refusal, is_conflict}
-use Rattle.ip_defrag.specs.Received.{Received, with_fragment, progress_of, outcome_of, received_after}
-use Rattle.ip_defrag.specs.declared.err.AddError.{AddError}
-use Rattle.ip_defrag.specs.declared.err.AddError.TheVariants.{Unaligned, TooLong, Abandoned}
-use Rattle.ip_defrag.specs.declared.progress.Progress.{Progress}
-use Rattle.ip_defrag.specs.declared.progress.Progress.TheVariants.{MoreWanted, Whole}
-use Rattle.ip_defrag.proofs.ReceivedLemmas.{outcome_refused, outcome_accepted}
+use Rattle.ip_reassembly.specs.Fragment.{Fragment, end_of, is_unaligned}
+use Rattle.ip_reassembly.specs.Refusal.{refusal, is_conflict}
+use Rattle.ip_reassembly.specs.Received.{Received, with_fragment, progress_of, outcome_of, received_after}
+use Rattle.ip_reassembly.specs.declared.err.AddError.{AddError}
+use Rattle.ip_reassembly.specs.declared.err.AddError.TheVariants.{Unaligned, TooLong, Abandoned}
+use Rattle.ip_reassembly.specs.declared.progress.Progress.{Progress}
+use Rattle.ip_reassembly.specs.declared.progress.Progress.TheVariants.{MoreWanted, Whole}
+use Rattle.ip_reassembly.proofs.ReceivedLemmas.{outcome_refused, outcome_accepted}
 use Rattle.ip_defragmenter.specs.Ecn.{are_mixed}
 use Rattle.ip_defragmenter.specs.FragmentOf.{FragmentParts}
 use Rattle.ip_defragmenter.specs.Memory.{Stored, FirstParts, AreHeaders, piece_of, first_of, first_after, exceeds, own_refusal, refusal_after, is_store_conflict}
 use Rattle.ip_defragmenter.specs.Whole.{are_headers, stated_by}
 use Rattle.ip_defragmenter.specs.declared.err.StoreError.{StoreError}
 use Rattle.ip_defragmenter.specs.declared.err.StoreError.TheVariants.{Payload, Headers, HeadersTooLong, MixedEcn}
-use Rattle.ip_defrag.specs.Reassembly.{reach_of}
+use Rattle.ip_reassembly.specs.Reassembly.{reach_of}
 
 -- A payload took a fragment.
 pub record Took (s : Received) (f : Fragment) (p : Progress) : Type 0 where

@@ -5,17 +5,17 @@ use Rattle.std.specs.List.{list_any}
 use Rattle.std.specs.Option.{option_map, option_or}
 use Rattle.std.proofs.lemmas.Bool.{cond-true, cond-false, eqb-true, le-ltb, and_parts, or_left, or_right}
 use Rattle.std.proofs.lemmas.List.Elements.{All-head, All-tail}
-use Rattle.ip_defrag.specs.Fragment.{Fragment, end_of, is_same}
-use Rattle.ip_defrag.specs.Payload.{payload_of}
-use Rattle.ip_defrag.specs.Received.{Received, received_none, received_all, received_after, outcome_of, payload_in}
-use Rattle.ip_defrag.specs.Reassembly.{reach_of}
-use Rattle.ip_defrag.specs.Split.{IsSplit, SplitsFrom, are_among}
-use Rattle.ip_defrag.specs.declared.progress.Progress.{Progress}
-use Rattle.ip_defrag.specs.declared.progress.Progress.TheVariants.{Whole, MoreWanted}
-use Rattle.ip_defrag.proofs.FragmentLemmas.{is_same_self}
-use Rattle.ip_defrag.proofs.MemberLemmas.{passing_one, any_from_member}
-use Rattle.ip_defrag.proofs.SplitLemmas.{member_piece}
-use Rattle.ip_defrag.proofs.GivenLemmas.{among_from, received_given, pieces_received, payload_of_pieces, outcome_of_piece}
+use Rattle.ip_reassembly.specs.Fragment.{Fragment, end_of, is_same}
+use Rattle.ip_reassembly.specs.Payload.{payload_of}
+use Rattle.ip_reassembly.specs.Received.{Received, received_none, received_all, received_after, outcome_of, payload_in}
+use Rattle.ip_reassembly.specs.Reassembly.{reach_of}
+use Rattle.ip_reassembly.specs.Split.{IsSplit, SplitsFrom, are_among}
+use Rattle.ip_reassembly.specs.declared.progress.Progress.{Progress}
+use Rattle.ip_reassembly.specs.declared.progress.Progress.TheVariants.{Whole, MoreWanted}
+use Rattle.ip_reassembly.proofs.FragmentLemmas.{is_same_self}
+use Rattle.ip_reassembly.proofs.MemberLemmas.{passing_one, any_from_member}
+use Rattle.ip_reassembly.proofs.SplitLemmas.{member_piece}
+use Rattle.ip_reassembly.proofs.GivenLemmas.{among_from, received_given, pieces_received, payload_of_pieces, outcome_of_piece}
 use Rattle.ip_defragmenter.specs.Ecn.{is_capable, are_mixed}
 use Rattle.ip_defragmenter.specs.FragmentOf.{FragmentParts}
 use Rattle.ip_defragmenter.specs.Memory.{Stored, FirstParts, AreJoinable, pieces_of, points_of, piece_of, first_of, first_after, exceeds, own_refusal, refusal_after, stored_refusal, stored_by, stored_none, stored_all, stored_outcome, outcome_by, stored_with}

@@ -8,8 +8,8 @@ use Rattle.std.proofs.lemmas.Nat.Bits.{bit_at_or, bit_at-lt}
 use Rattle.std.proofs.lemmas.Option.{none-some, same_Some}
 use Rattle.ip_base.specs.Ipv4Header.{version}
 use Rattle.ip_base.proofs.ChecksumLemmas.{word_len, word_other}
-use Rattle.ip_defrag.specs.Marks.{byte_mark}
-use Rattle.ip_defrag.proofs.ByteMarkLemmas.{mark_bits}
+use Rattle.ip_reassembly.specs.Marks.{byte_mark}
+use Rattle.ip_reassembly.proofs.ByteMarkLemmas.{mark_bits}
 use Rattle.ip_defragmenter.specs.Ecn.{are_mixed, is_congested, marked, point_of, whole_point, with_congestion}
 use Rattle.ip_defragmenter.specs.Whole.{are_headers, ipv4_whole, ipv6_whole, unchecked, whole_headers, whole_packet}
 

@@ -4,7 +4,7 @@ use Rattle.std.specs.Prelude.{Contains, slice_get, slice_set, if◌then◌else�
 use Rattle.std.proofs.lemmas.Bool.{cases_eq}
 use Rattle.std.proofs.lemmas.List.Elements.{All-cons}
 use Rattle.std.proofs.lemmas.Option.{none-some, same_Some, slice_get-get_or}
-use Rattle.ip_defrag.specs.declared.progress.Progress.{Progress}
+use Rattle.ip_reassembly.specs.declared.progress.Progress.{Progress}
 use Rattle.ip_defragmenter.specs.Added.{IsAddedAt, IsAddedBy, IsAddedUnless, freed, is_whole}
 use Rattle.ip_defragmenter.specs.FragmentOf.{FragmentParts}
 use Rattle.ip_defragmenter.specs.Key.{IsKey}

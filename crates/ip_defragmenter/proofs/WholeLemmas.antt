@@ -4,20 +4,20 @@ use Rattle.std.specs.Prelude.{Option, Some, None, Result, Ok, Err, is_some, â—Œâ
 use Rattle.std.specs.List.{list_any}
 use Rattle.std.proofs.lemmas.Bool.{cond-false, cases_Bool, ltb-false, le-leb}
 use Rattle.ip_base.specs.Ipv4Header.{version}
-use Rattle.ip_defrag.specs.Fragment.{Fragment, end_of, is_same}
-use Rattle.ip_defrag.specs.Payload.{payload_of}
-use Rattle.ip_defrag.specs.Received.{with_fragment}
-use Rattle.ip_defrag.specs.Reassembly.{AreConsistent, reach_of, is_ended}
-use Rattle.ip_defrag.proofs.PayloadLemmas.{first_bytes_each, payload_is, payload_without_end}
+use Rattle.ip_reassembly.specs.Fragment.{Fragment, end_of, is_same}
+use Rattle.ip_reassembly.specs.Payload.{payload_of}
+use Rattle.ip_reassembly.specs.Received.{with_fragment}
+use Rattle.ip_reassembly.specs.Reassembly.{AreConsistent, reach_of, is_ended}
+use Rattle.ip_reassembly.proofs.PayloadLemmas.{first_bytes_each, payload_is, payload_without_end}
 use Rattle.ip_defragmenter.specs.Ecn.{are_mixed}
 use Rattle.ip_defragmenter.specs.FragmentOf.{FragmentParts}
 use Rattle.ip_defragmenter.specs.Memory.{Stored, FirstParts, AreHeaders, HoldsStored, IsWritable, piece_of, first_after, exceeds, refusal_after, outcome_by, stored_by, stored_progress, is_complete, stored_with}
 use Rattle.ip_defragmenter.specs.Whole.{stated_by}
 use Rattle.ip_defragmenter.specs.declared.err.StoreError.{StoreError}
 use Rattle.ip_defragmenter.specs.declared.err.StoreError.TheVariants.{Payload, MixedEcn}
-use Rattle.ip_defrag.specs.declared.err.AddError.TheVariants.{TooLong, Abandoned}
-use Rattle.ip_defrag.specs.declared.progress.Progress.{Progress}
-use Rattle.ip_defrag.specs.declared.progress.Progress.TheVariants.{Whole, MoreWanted}
+use Rattle.ip_reassembly.specs.declared.err.AddError.TheVariants.{TooLong, Abandoned}
+use Rattle.ip_reassembly.specs.declared.progress.Progress.{Progress}
+use Rattle.ip_reassembly.specs.declared.progress.Progress.TheVariants.{Whole, MoreWanted}
 use Rattle.ip_defragmenter.specs.declared.memory.PacketMemory.{PacketMemory}
 use Rattle.ip_defragmenter.proofs.MemoryLemmas.{when_abandoned, when_mixed, when_too_long, reach_with}
 

@@ -1,7 +1,7 @@
 -- Codes of what became of packets, and counts by them.
 use Rattle.std.specs.Prelude.{ℕ, ◌+◌, ◌-◌, ◌^◌, min, List, replicate, slice_index, slice_set, Option, Some, None}
-use Rattle.ip_defrag.specs.declared.err.AddError.{AddError}
-use Rattle.ip_defrag.specs.declared.err.AddError.TheVariants.{Unaligned, TooLong, Overlap, TwoEnds, Abandoned}
+use Rattle.ip_reassembly.specs.declared.err.AddError.{AddError}
+use Rattle.ip_reassembly.specs.declared.err.AddError.TheVariants.{Unaligned, TooLong, Overlap, TwoEnds, Abandoned}
 use Rattle.ip_defragmenter.specs.declared.err.FragmentError.{FragmentError}
 use Rattle.ip_defragmenter.specs.declared.err.FragmentError.TheVariants.{Headers, NoLength, Missing}
 use Rattle.ip_defragmenter.specs.declared.err.StoreError.{StoreError}

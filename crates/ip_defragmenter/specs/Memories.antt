@@ -1,6 +1,6 @@
 -- The memories of packets.
 use Rattle.std.specs.Prelude.{◌≡◌, Bool, Option, Some, Result, if◌then◌else◌}
-use Rattle.ip_defrag.specs.declared.progress.Progress.{Progress}
+use Rattle.ip_reassembly.specs.declared.progress.Progress.{Progress}
 use Rattle.ip_defragmenter.specs.FragmentOf.{FragmentParts}
 use Rattle.ip_defragmenter.specs.Memory.{Stored, HoldsStored, stored_none, stored_outcome, stored_after}
 use Rattle.ip_defragmenter.specs.declared.err.StoreError.{StoreError}

@@ -2,14 +2,14 @@
 use Rattle.std.specs.List.{All}
 use Rattle.std.specs.Prelude.{◌≡◌, ℕ, ◌≤◌, Bool, true, false, map, ◌&&◌, ◌==◌, nat_lt, nat_le, max, List, [], ◌∷◌, length, take, drop, Option, Some, None, is_some, not, Result, Ok, Err, if◌then◌else◌}
 use Rattle.std.specs.Option.{option_map, option_map_or, option_or}
-use Rattle.ip_defrag.specs.Fragment.{Fragment, fragment_at, end_of, is_unaligned}
-use Rattle.ip_defrag.specs.Refusal.{refusal, is_conflict}
-use Rattle.ip_defrag.specs.Payload.{payload_of}
-use Rattle.ip_defrag.specs.Received.{Received, received_none, with_fragment, payload_in}
-use Rattle.ip_defrag.specs.Reassembly.{AreZeros, HasArrived, IsZero, is_set, reach_of}
-use Rattle.ip_defrag.specs.declared.err.AddError.TheVariants.{Unaligned, TooLong, Abandoned}
-use Rattle.ip_defrag.specs.declared.progress.Progress.{Progress}
-use Rattle.ip_defrag.specs.declared.progress.Progress.TheVariants.{MoreWanted, Whole}
+use Rattle.ip_reassembly.specs.Fragment.{Fragment, fragment_at, end_of, is_unaligned}
+use Rattle.ip_reassembly.specs.Refusal.{refusal, is_conflict}
+use Rattle.ip_reassembly.specs.Payload.{payload_of}
+use Rattle.ip_reassembly.specs.Received.{Received, received_none, with_fragment, payload_in}
+use Rattle.ip_reassembly.specs.Reassembly.{AreZeros, HasArrived, IsZero, is_set, reach_of}
+use Rattle.ip_reassembly.specs.declared.err.AddError.TheVariants.{Unaligned, TooLong, Abandoned}
+use Rattle.ip_reassembly.specs.declared.progress.Progress.{Progress}
+use Rattle.ip_reassembly.specs.declared.progress.Progress.TheVariants.{MoreWanted, Whole}
 use Rattle.ip_defragmenter.specs.Ecn.{are_mixed}
 use Rattle.ip_defragmenter.specs.Points.{HoldsPoints, no_points}
 use Rattle.ip_defragmenter.specs.FragmentOf.{FragmentParts}

@@ -1,7 +1,7 @@
 -- What is kept of the ECN code points of a packet's fragments.
 use Rattle.std.specs.Prelude.{◌≡◌, ℕ, ◌==◌, List}
 use Rattle.std.specs.List.{list_any}
-use Rattle.ip_defrag.specs.Reassembly.{is_set}
+use Rattle.ip_reassembly.specs.Reassembly.{is_set}
 use Rattle.ip_defragmenter.specs.Ecn.{is_capable, is_congested}
 use Rattle.ip_defragmenter.specs.declared.points.Points.{Points}
 

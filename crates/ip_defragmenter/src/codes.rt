@@ -6,7 +6,7 @@ ghost use Rattle.ip_defragmenter.specs.declared.outcome.DropReason.{DropReason a
 ghost use Rattle.ip_defragmenter.specs.declared.pending.LossReason.{LossReason as Reason};
 
 use crate::{DropReason, FragmentError, LossReason, Outcome, StoreError};
-use ip_defrag::AddError;
+use ip_reassembly::AddError;
 
 impl Outcome {
     /// Returns an outcome with this code (`Outcome::code`), or `None` if no outcome has it. A whole packet's index is 0.

@@ -3,7 +3,7 @@ ghost use Rattle.std.specs.Prelude.{◌≡◌, ◌<◌, ◌≤◌, length, slice
 ghost use Rattle.ip_defragmenter.specs.Counts.{outcome_code, error_code, store_error_code, drop_code, reason_code, loss_code, counted, counted_loss, one_more, no_counts};
 
 use crate::{Added, DropReason, FragmentError, Loss, LossReason, Outcome, StoreError};
-use ip_defrag::AddError;
+use ip_reassembly::AddError;
 
 /// The number of outcomes.
 const OUTCOMES: usize = 14;

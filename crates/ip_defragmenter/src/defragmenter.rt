@@ -15,7 +15,7 @@ use crate::{
     Added, DefragmenterCounts, DropReason, IpFragment, Outcome, PacketMemory, Settings, SlotTable,
     StoreError,
 };
-use ip_defrag::Progress;
+use ip_reassembly::Progress;
 
 /// Returns what became of a fragment, by what the memory with this index returned for it.
 #[inline(always)]

@@ -1,6 +1,6 @@
 //! Why fragments are dropped, and whole packets aren't written.
 
-use ip_defrag::AddError;
+use ip_reassembly::AddError;
 use thiserror::Error;
 
 /// A fragment can't be used, whatever other fragments there are.

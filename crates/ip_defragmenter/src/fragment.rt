@@ -5,7 +5,7 @@ ghost use Rattle.std.specs.Result.{result_map_both, result_err};
 ghost use Rattle.ip_spec.specs.Chain.{bytes_of};
 ghost use Rattle.ip_dissect.specs.Dissection.{dissected, DissectedParts};
 ghost use Rattle.ip_dissect.specs.declared.dissection.BaseHeader.TheVariants.{Ipv4, Ipv6};
-ghost use Rattle.ip_dissect.specs.Outline.{outline_of};
+ghost use Rattle.ip_dissect.specs.Summary.{summary_of};
 ghost use Rattle.ip_base.specs.Ipv4Header.{is_ipv4_fragmenting};
 ghost use Rattle.ip_base.specs.Ipv4HeaderSlice as ipv4_header;
 ghost use Rattle.ip_base.specs.Ipv6HeaderSlice as ipv6_header;
@@ -15,7 +15,7 @@ ghost use Rattle.ip_defragmenter.specs.FragmentOf.{parts_of, packet_fragment, ip
 use crate::finder::{Finder, FoundHeader};
 use crate::{FragmentError, FragmentKey};
 use ip_base::{IpFragOffset, IpNumber, Ipv4HeaderSlice, Ipv6HeaderSlice};
-use ip_dissect::{BaseHeader, Outline, Packet, PacketStart, PacketVisitor};
+use ip_dissect::{BaseHeader, Packet, PacketStart, PacketVisitor, Summary};
 
 /// A fragment of a packet, borrowed from its bytes.
 #[derive(Clone, Copy, Debug)]
@@ -94,7 +94,7 @@ impl<'a> Reading<'a> {
             self.fragment = Ok(None);
             return;
         }
-        match test(&packet.outline) {
+        match test(&packet.summary) {
             Ok(()) => self.fragment = Ok(Some(ipv4_fragment(packet, base))),
             Err(error) => self.fragment = Err(error),
         }
@@ -110,7 +110,7 @@ impl<'a> Reading<'a> {
             ≡ packet_fragment (dissected packet.now.bytes.now) }
     {
         match finder.header {
-            Some(header) => match test(&packet.outline) {
+            Some(header) => match test(&packet.summary) {
                 Ok(()) => self.fragment = Ok(Some(ipv6_fragment(packet, base, finder, &header))),
                 Err(error) => self.fragment = Err(error),
             },
@@ -150,19 +150,19 @@ impl<'a> PacketVisitor<'a> for Reading<'a> {
     }
 }
 
-/// Returns why a fragment can't be used, by the outline of its packet.
+/// Returns why a fragment can't be used, by the summary of its packet.
 #[inline(always)]
-fn test(outline: &Outline) -> Result<(), FragmentError>
-    ensures { (p : DissectedParts) → outline.now ≡ outline_of p
+fn test(summary: &Summary) -> Result<(), FragmentError>
+    ensures { (p : DissectedParts) → summary.now ≡ summary_of p
         → result_err result ≡ unusable p }
 {
-    if outline.has_error {
+    if summary.has_error {
         return Err(FragmentError::Headers);
     }
-    if outline.stated_len.is_none() {
+    if summary.stated_len.is_none() {
         return Err(FragmentError::NoLength);
     }
-    if outline.missing != 0 {
+    if summary.missing != 0 {
         return Err(FragmentError::Missing);
     }
     Ok(())
@@ -175,7 +175,7 @@ fn ipv4_fragment<'a>(packet: &Packet<'a>, base: Ipv4HeaderSlice<'a>) -> IpFragme
     requires fragments { is_ipv4_fragmenting (ipv4_header.bytes base) ≡ true }
     ensures { Some (parts_of result) ≡ ipv4_fragment_parts (dissected packet.now.bytes.now) }
 {
-    let start = packet.outline.base_len;
+    let start = packet.summary.base_len;
     IpFragment {
         key: FragmentKey::Ipv4 {
             source: base.source(),
@@ -250,5 +250,5 @@ fn end_of(packet: &Packet<'_>) -> usize
         + length (dissected packet.now.bytes.now).payload }
     ensures within { result ≤ length packet.now.bytes.now }
 {
-    packet.outline.base_len + packet.outline.extensions_len + packet.outline.payload_len
+    packet.summary.base_len + packet.summary.extensions_len + packet.summary.payload_len
 }

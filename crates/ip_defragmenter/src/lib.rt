@@ -50,7 +50,7 @@
 //! fragment header, which name what that header named and state the whole length. In IPv4 the more fragments flag is
 //! cleared and the checksum computed. If a fragment had the ECN code point CE, the packet has it
 //! (`whole_packets_have_their_code_point`). Otherwise it is the packet that was sent
-//! (`whole_packet_is_the_one_sent`); `ip_defrag_laws` proves this over whole runs.
+//! (`whole_packet_is_the_one_sent`); `ip_defragmenter_laws` proves this over whole runs.
 //!
 //! `whole_packet` in `check_uses/src/fragments.rt` adds a packet and writes the whole one, without a proof file.
 //! `packet_that_was_sent` in `check_uses/src/fragments.rt` writes the packet that was sent, by that law.

@@ -1,6 +1,6 @@
 //! The fragments of one packet.
 ghost use Rattle.std.specs.Prelude.{◌≡◌, ◌≤◌, nat_lt, length, None, false};
-ghost use Rattle.ip_defrag.specs.Fragment.{end_of, is_unaligned};
+ghost use Rattle.ip_reassembly.specs.Fragment.{end_of, is_unaligned};
 ghost use Rattle.ip_defragmenter.specs.FragmentOf.{parts_of};
 ghost use Rattle.ip_defragmenter.specs.Memory.{piece_of, own_refusal};
 ghost use Rattle.ip_defragmenter.specs.Whole.{stated_by};
@@ -9,7 +9,7 @@ use crate::points::{Points, is_congested, mixes, no_points, with_point};
 use crate::whole::{are_headers, is_too_long, put_front};
 use crate::{IpFragment, StoreError, WholeError, write_packet};
 use ip_base::IpNumber;
-use ip_defrag::{AddError, Progress, ReassemblyState};
+use ip_reassembly::{AddError, Progress, ReassemblyState};
 
 /// How long the headers of a first fragment can be, in bytes.
 const HEAD: usize = 4096;
@@ -113,10 +113,10 @@ impl PacketMemory {
     ghost use Rattle.std.specs.Prelude.{is_some, slice_index, ◌≡◌, ◌+◌, ◌*◌, ◌++◌, ◌<◌, ◌≤◌, ◌==◌, ◌||◌, ◌⊎◌, ℕ, List, [], ◌∷◌, length, max, true, false, None, Some, Ok, OnOk, OnErr, IfOk, IfSome, drop, if◌then◌else◌};
     ghost use Rattle.std.specs.List.{list_any};
     ghost use Rattle.std.specs.Result.{result_err, is_ok};
-    ghost use Rattle.ip_defrag.specs.Fragment.{Fragment, end_of};
-    ghost use Rattle.ip_defrag.specs.Reassembly.{is_set, reach_of};
-    ghost use Rattle.ip_defrag.specs.Received.{payload_in};
-    ghost use Rattle.ip_defrag.specs.Split.{IsSplit, are_among};
+    ghost use Rattle.ip_reassembly.specs.Fragment.{Fragment, end_of};
+    ghost use Rattle.ip_reassembly.specs.Reassembly.{is_set, reach_of};
+    ghost use Rattle.ip_reassembly.specs.Received.{payload_in};
+    ghost use Rattle.ip_reassembly.specs.Split.{IsSplit, are_among};
     ghost use Rattle.ip_defragmenter.specs.Ecn.{is_congested, marked};
     ghost use Rattle.ip_defragmenter.specs.Points.{HoldsPoints};
     ghost use Rattle.ip_defragmenter.specs.FragmentOf.{FragmentParts, parts_of};

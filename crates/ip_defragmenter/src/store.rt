@@ -6,7 +6,7 @@ ghost use Rattle.ip_defragmenter.specs.Memories.{IsStored, IsStoredIn, kept_in};
 ghost use Rattle.ip_defragmenter.specs.declared.memory.PacketMemory.{PacketMemory};
 
 use crate::{IpFragment, PacketMemory, StoreError};
-use ip_defrag::Progress;
+use ip_reassembly::Progress;
 
 /// Forgets what a memory holds, unless it is of the packet whose fragment comes.
 fn prepare(memory: &mut PacketMemory, is_known: bool)

@@ -16,7 +16,7 @@ use Rattle.ip_dissect.specs.Extent.{packet_bytes, after_base, ipv4_stated, ipv6_
 use Rattle.ip_dissect.specs.Dissection.{DissectedParts, HasParts, version_of, base_of, dissected}
 use Rattle.ip_base.specs.Ipv4HeaderSlice as ipv4_header
 use Rattle.ip_base.specs.Ipv6HeaderSlice as ipv6_header
-use Rattle.ip_dissect.specs.Outline.{IsBaseOf}
+use Rattle.ip_dissect.specs.Summary.{IsBaseOf}
 use Rattle.ip_dissect.specs.declared.dissection.BaseHeader.{BaseHeader}
 use Rattle.ip_dissect.specs.declared.dissection.BaseHeader.TheVariants.{Ipv4, Ipv6}
 use Rattle.ip_dissect.specs.declared.dissection.Dissection.{Dissection}

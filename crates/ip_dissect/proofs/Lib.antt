@@ -5,5 +5,5 @@ pub mod Ipv4Lemmas
 pub mod DissectedLemmas
 pub mod JoinedLemmas
 pub mod PacketLemmas
-pub mod OutlineLemmas
+pub mod SummaryLemmas
 pub mod PlainLemmas

@@ -1,29 +1,29 @@
--- Where the parts of a packet lie, by its outline.
+-- Where the parts of a packet lie, by its summary.
 use Rattle.ip_spec.proofs.Common.{◌≡◌, ℕ, ◌+◌, ◌-◌, List, length, take, drop, ap, ◌∙◌, Option, bytes_of, arith, common_steps}
 use Rattle.ip_dissect.specs.Dissection.{dissected}
-use Rattle.ip_dissect.specs.Outline.{outline_of, IsBaseOf}
+use Rattle.ip_dissect.specs.Summary.{summary_of, IsBaseOf}
 use Rattle.ip_dissect.specs.declared.dissection.BaseHeader.{BaseHeader}
-use Rattle.ip_dissect.specs.declared.outline.Outline.{Outline}
+use Rattle.ip_dissect.specs.declared.summary.Summary.{Summary}
 use Rattle.ip_dissect.proofs.JoinedLemmas as joined
 
 all_left : (s : List ℕ) (k : ℕ) → take (length s - k) (drop k s) ≡ drop k s
 all_left s k = grind (arith, common_steps)
 
-module _ (s : List ℕ) (b : Option BaseHeader) (o : Outline) (base : IsBaseOf s b) (is : o ≡ outline_of (dissected s)) where
+module _ (s : List ℕ) (b : Option BaseHeader) (o : Summary) (base : IsBaseOf s b) (is : o ≡ summary_of (dissected s)) where
   abbrev base_len : o.base_len ≡ length (dissected s).base
-  base_len = ap (λ (x : Outline). x.base_len) is
+  base_len = ap (λ (x : Summary). x.base_len) is
 
   abbrev extensions_len : o.extensions_len ≡ length (bytes_of (dissected s).headers)
-  extensions_len = ap (λ (x : Outline). x.extensions_len) is
+  extensions_len = ap (λ (x : Summary). x.extensions_len) is
 
   abbrev payload_len : o.payload_len ≡ length (dissected s).payload
-  payload_len = ap (λ (x : Outline). x.payload_len) is
+  payload_len = ap (λ (x : Summary). x.payload_len) is
 
   abbrev padding_len : o.padding_len ≡ length (dissected s).padding
-  padding_len = ap (λ (x : Outline). x.padding_len) is
+  padding_len = ap (λ (x : Summary). x.padding_len) is
 
-  pub outline_fits : o.base_len + o.extensions_len + o.payload_len + o.padding_len ≡ length s
-  outline_fits = joined.parts_fit _ _ _ _ s (joined.parts_joined s b base) _ _ _ _ base_len extensions_len payload_len padding_len
+  pub summary_fits : o.base_len + o.extensions_len + o.payload_len + o.padding_len ≡ length s
+  summary_fits = joined.parts_fit _ _ _ _ s (joined.parts_joined s b base) _ _ _ _ base_len extensions_len payload_len padding_len
 
   pub extensions_are : take (o.base_len + o.extensions_len - o.base_len) (drop o.base_len s) ≡ bytes_of (dissected s).headers
   extensions_are = joined.second_part _ _ _ _ s (joined.parts_joined s b base) _ _ _ _ base_len extensions_len payload_len padding_len

@@ -23,12 +23,12 @@ use Rattle.ip_dissect.specs.Fragment.{ipv4_fragment, ipv6_fragment}
 use Rattle.ip_dissect.specs.End.{has_error, exts_end, auth_end, is_too_short, ipv4_end, ipv6_end}
 use Rattle.ip_dissect.specs.Dissection.{DissectedParts, dissected, ipv4_dissected, ipv6_dissected}
 use Rattle.ip_dissect.proofs.DissectedLemmas.{BeginNone, begins_none, base_error}
-use Rattle.ip_dissect.specs.Outline.{is_plain, IsBaseOf}
+use Rattle.ip_dissect.specs.Summary.{is_plain, IsBaseOf}
 use Rattle.ip_dissect.specs.declared.fragment.Fragment.{Fragment}
 use Rattle.ip_dissect.specs.declared.end.End.{End}
 use Rattle.ip_dissect.specs.declared.end.End.TheVariants.{Payload, LaterFragment, Fault}
 use Rattle.ip_dissect.proofs.LaterLemmas.{chain_to_later-longest}
-use Rattle.ip_dissect.proofs.OutlineLemmas.{auth_end_fails, end_after, end_with}
+use Rattle.ip_dissect.proofs.SummaryLemmas.{auth_end_fails, end_after, end_with}
 
 pub plain_is : (c : List ExtHeader) (f : Option Fragment) (e : End) → c ≡ [] → f ≡ None → e ≡ Payload → (not (has_error e) && is_empty c && not (is_some f)) ≡ true
 plain_is c f e none whole ends = rw (none, whole, ends) refl

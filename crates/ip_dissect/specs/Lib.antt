@@ -5,5 +5,5 @@ pub mod Found
 pub mod Extent
 pub mod End
 pub mod Dissection
-pub mod Outline
+pub mod Summary
 pub mod Visited

@@ -1,7 +1,7 @@
 -- What is known of a packet after a visit.
 use Rattle.std.specs.Prelude.{◌≡◌, ℕ, List, true, false}
 use Rattle.ip_dissect.specs.Dissection.{dissected}
-use Rattle.ip_dissect.specs.Outline.{is_plain}
+use Rattle.ip_dissect.specs.Summary.{is_plain}
 use Rattle.ip_dissect.specs.declared.visitor.Visited.{Visited}
 use Rattle.ip_dissect.specs.declared.visitor.Visited.TheVariants.{Plain, Slow}
 

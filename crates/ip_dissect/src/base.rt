@@ -1,6 +1,6 @@
 //! The base header at the start of bytes.
 ghost use Rattle.std.specs.Prelude.{◌≡◌};
-ghost use Rattle.ip_dissect.specs.Outline.{IsBaseOf};
+ghost use Rattle.ip_dissect.specs.Summary.{IsBaseOf};
 
 use crate::BaseHeader;
 use ip_base::{Ipv4HeaderSlice, Ipv6HeaderSlice};

@@ -15,7 +15,7 @@ ghost use Rattle.ip_dissect.specs.declared.end.End.TheVariants.{Truncated, Fault
 
 use crate::End;
 use crate::fields::{ipv4_offset, ipv4_stated_len};
-use crate::outline::{is_too_short, packet_of};
+use crate::summary::{is_too_short, packet_of};
 use crate::walk::after;
 use ip_base::err::ip::{HeaderError, HeadersError, SliceError};
 use ip_base::err::{Layer, LenError};

@@ -6,7 +6,7 @@
 //! | To | Call |
 //! |---|---|
 //! | get all parts, and the error | `dissect` |
-//! | get lengths and numbers alone, of a packet without an error | `outline_packet` |
+//! | get lengths and numbers alone, of a packet without an error | `summarize_packet` |
 //! | get any packet, of which `end` makes the error only if it is asked for | `Packet::walk` |
 //! | do something with each extension header and then with the packet | `Packet::walk_through` |
 //! | treat plain packets in their own way, or return a result | `Packet::visit` |
@@ -37,8 +37,8 @@
 //! without a loop. Any other goes out of line to `visit_slow`, as a `PacketStart` with its base header parsed;
 //! `PacketStart::walk` returns the packet.
 //!
-//! A `Packet` keeps two facts by its type: its base header is that of its bytes (`IsBaseOf`), and its outline is
-//! `outline_of` their parts. `upper_layer` and `plain_payload` in `check_uses/src/dissections.rt` are callers without
+//! A `Packet` keeps two facts by its type: its base header is that of its bytes (`IsBaseOf`), and its summary is
+//! `summary_of` their parts. `upper_layer` and `plain_payload` in `check_uses/src/dissections.rt` are callers without
 //! proof files.
 #![tactic(auto)]
 
@@ -51,10 +51,10 @@ mod extensions;
 mod fields;
 mod fragment;
 mod ipv4_chain;
-mod outline;
 mod packet;
 mod plain;
 mod start;
+mod summary;
 mod visit;
 mod visitor;
 mod walk;
@@ -65,9 +65,9 @@ pub use dissect_laws::{one_chain_to_a_later_fragment, truncated_bytes_keep_whole
 pub use dissection::{BaseHeader, Dissection};
 pub use end::End;
 pub use fragment::{Fragment, FragmentKind};
-pub use outline::Outline;
 pub use packet::Packet;
 pub use start::PacketStart;
+pub use summary::Summary;
 pub use visitor::{HeaderVisitor, PacketVisitor, Visited};
 pub use walk_visitor::WalkVisitor;
-pub use walks::{dissect, outline_packet};
+pub use walks::{dissect, summarize_packet};

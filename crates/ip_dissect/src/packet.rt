@@ -3,10 +3,10 @@ ghost use Rattle.std.specs.Prelude.{◌≡◌, ◌+◌, true, length};
 ghost use Rattle.ip_spec.specs.Chain.{bytes_of};
 ghost use Rattle.ip_dissect.specs.End.{has_error};
 ghost use Rattle.ip_dissect.specs.Dissection.{dissected, HasParts};
-ghost use Rattle.ip_dissect.specs.Outline.{outline_of, IsBaseOf};
+ghost use Rattle.ip_dissect.specs.Summary.{summary_of, IsBaseOf};
 
 use crate::ends::{base_error, end_at_extension, ipv4_end};
-use crate::{BaseHeader, Dissection, End, Outline};
+use crate::{BaseHeader, Dissection, End, Summary};
 
 /// The packet at the start of some bytes, after one walk over its headers. The bytes may be any bytes, and the packet
 /// may be truncated, faulty or a fragment.
@@ -17,9 +17,9 @@ pub struct Packet<'a> {
     /// The base header, if the bytes start with a whole one.
     pub base: Option<BaseHeader<'a>>,
     /// The lengths and numbers of the parts.
-    pub outline: Outline,
+    pub summary: Summary,
     pub ghost base_is: { IsBaseOf bytes.now base },
-    pub ghost outline_is: { outline ≡ outline_of (dissected bytes.now) },
+    pub ghost summary_is: { summary ≡ summary_of (dissected bytes.now) },
 }
 
 impl<'a> Packet<'a> {
@@ -28,8 +28,8 @@ impl<'a> Packet<'a> {
     pub fn extensions(&self) -> &'a [u8]
         ensures { result.now ≡ bytes_of (dissected self.now.bytes.now).headers }
     {
-        let start = self.outline.base_len;
-        &self.bytes[start..start + self.outline.extensions_len]
+        let start = self.summary.base_len;
+        &self.bytes[start..start + self.summary.extensions_len]
     }
 
     /// Returns the packet's bytes after the headers.
@@ -37,8 +37,8 @@ impl<'a> Packet<'a> {
     pub fn payload(&self) -> &'a [u8]
         ensures { result.now ≡ (dissected self.now.bytes.now).payload }
     {
-        let start = self.outline.base_len + self.outline.extensions_len;
-        &self.bytes[start..start + self.outline.payload_len]
+        let start = self.summary.base_len + self.summary.extensions_len;
+        &self.bytes[start..start + self.summary.payload_len]
     }
 
     /// Returns the bytes after the packet.
@@ -46,7 +46,7 @@ impl<'a> Packet<'a> {
     pub fn padding(&self) -> &'a [u8]
         ensures { result.now ≡ (dissected self.now.bytes.now).padding }
     {
-        &self.bytes[self.bytes.len() - self.outline.padding_len..]
+        &self.bytes[self.bytes.len() - self.summary.padding_len..]
     }
 
     /// Returns why the headers end where they do. An error is made here, from where the walk stopped.
@@ -54,10 +54,10 @@ impl<'a> Packet<'a> {
     pub fn end(&self) -> End
         ensures { result ≡ (dissected self.now.bytes.now).end }
     {
-        if self.outline.has_error {
+        if self.summary.has_error {
             return self.error();
         }
-        if self.outline.is_later_fragment {
+        if self.summary.is_later_fragment {
             End::LaterFragment
         } else {
             End::Payload
@@ -73,10 +73,10 @@ impl<'a> Packet<'a> {
         match self.base {
             Some(BaseHeader::Ipv4(base)) => ipv4_end(base, self.bytes),
             Some(BaseHeader::Ipv6(_)) => end_at_extension(
-                self.outline.next_header,
+                self.summary.next_header,
                 self.payload(),
-                self.outline.extensions_len,
-                self.outline.stated_len,
+                self.summary.extensions_len,
+                self.summary.stated_len,
             ),
             None => base_error(self.bytes),
         }
@@ -89,13 +89,13 @@ impl<'a> Packet<'a> {
     {
         Dissection {
             base: self.base,
-            stated_len: self.outline.stated_len,
+            stated_len: self.summary.stated_len,
             extensions: self.extensions(),
-            header_count: self.outline.header_count,
-            fragment: self.outline.fragment,
-            next_header: self.outline.next_header,
+            header_count: self.summary.header_count,
+            fragment: self.summary.fragment,
+            next_header: self.summary.next_header,
             payload: self.payload(),
-            missing: self.outline.missing,
+            missing: self.summary.missing,
             padding: self.padding(),
             end: self.end(),
         }

@@ -1,11 +1,11 @@
 //! The walk over a packet: its base header, and then its extension headers, if there are any.
 ghost use Rattle.std.specs.Prelude.{◌≡◌, length};
 ghost use Rattle.ip_dissect.specs.Dissection.{dissected};
-ghost use Rattle.ip_dissect.specs.Outline.{outline_of, IsBaseOf};
+ghost use Rattle.ip_dissect.specs.Summary.{summary_of, IsBaseOf};
 
 use crate::base::base_header;
-use crate::outline::{ipv4_outline, ipv6_outline, no_outline};
-use crate::{BaseHeader, HeaderVisitor, Outline, Packet};
+use crate::summary::{ipv4_summary, ipv6_summary, no_summary};
+use crate::{BaseHeader, HeaderVisitor, Packet, Summary};
 
 /// The start of a packet: its base header is parsed, and its extension headers haven't been walked.
 #[derive(Clone, Copy, Debug)]
@@ -37,22 +37,22 @@ impl<'a> PacketStart<'a> {
             (dissected self.entry.bytes.now).headers visitor.new }
     {
         match self.base {
-            Some(BaseHeader::Ipv4(base)) => self.with(ipv4_outline(base, self.bytes, visitor)),
-            Some(BaseHeader::Ipv6(base)) => self.with(ipv6_outline(base, self.bytes, visitor)),
-            None => self.with(no_outline(self.bytes)),
+            Some(BaseHeader::Ipv4(base)) => self.with(ipv4_summary(base, self.bytes, visitor)),
+            Some(BaseHeader::Ipv6(base)) => self.with(ipv6_summary(base, self.bytes, visitor)),
+            None => self.with(no_summary(self.bytes)),
         }
     }
 
-    /// Returns the packet with this outline.
+    /// Returns the packet with this summary.
     #[inline(always)]
-    fn with(&self, outline: Outline) -> Packet<'a>
-        requires { outline ≡ outline_of (dissected self.now.bytes.now) }
+    fn with(&self, summary: Summary) -> Packet<'a>
+        requires { summary ≡ summary_of (dissected self.now.bytes.now) }
         ensures { result.bytes.now ≡ self.now.bytes.now }
     {
         Packet {
             bytes: self.bytes,
             base: self.base,
-            outline,
+            summary,
         }
     }
 }

@@ -4,7 +4,7 @@ ghost use Rattle.ip_base.specs.Prefix.{IsPrefix};
 ghost use Rattle.ip_base.specs.Ipv4HeaderSlice as ipv4_header;
 ghost use Rattle.ip_base.specs.Ipv6HeaderSlice as ipv6_header;
 ghost use Rattle.ip_dissect.specs.Dissection.{dissected};
-ghost use Rattle.ip_dissect.specs.Outline.{is_plain, IsBaseOf};
+ghost use Rattle.ip_dissect.specs.Summary.{is_plain, IsBaseOf};
 ghost use Rattle.ip_dissect.specs.Visited.{IsVisited};
 ghost use Rattle.ip_dissect.specs.declared.dissection.BaseHeader.TheVariants.{Ipv4, Ipv6};
 
@@ -52,10 +52,10 @@ fn visit_ipv4<'a, V: PacketVisitor<'a>>(
     ensures { IsVisited V.plain V.slow visitor.old bytes.now visitor.new result }
 {
     match ipv4_plain(base, bytes) {
-        Some(outline) => Visited::Plain(visitor.visit_plain(Packet {
+        Some(summary) => Visited::Plain(visitor.visit_plain(Packet {
             bytes,
             base: Some(BaseHeader::Ipv4(base)),
-            outline,
+            summary,
         })),
         None => Visited::Slow(slow_ipv4(base, bytes, visitor)),
     }
@@ -72,10 +72,10 @@ fn visit_ipv6<'a, V: PacketVisitor<'a>>(
     ensures { IsVisited V.plain V.slow visitor.old bytes.now visitor.new result }
 {
     match ipv6_plain(base, bytes) {
-        Some(outline) => Visited::Plain(visitor.visit_plain(Packet {
+        Some(summary) => Visited::Plain(visitor.visit_plain(Packet {
             bytes,
             base: Some(BaseHeader::Ipv6(base)),
-            outline,
+            summary,
         })),
         None => Visited::Slow(slow_ipv6(base, bytes, visitor)),
     }

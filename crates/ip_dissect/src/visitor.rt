@@ -3,7 +3,7 @@ ghost use Rattle.std.specs.Prelude.{◌≡◌, ◌+◌, ◌++◌, ◌∷◌, ℕ
 ghost use Rattle.ip_spec.specs.Header.{IsHeader};
 ghost use Rattle.ip_spec.specs.Chain.{ExtHeader, bytes_of};
 ghost use Rattle.ip_dissect.specs.Dissection.{dissected};
-ghost use Rattle.ip_dissect.specs.Outline.{is_plain};
+ghost use Rattle.ip_dissect.specs.Summary.{is_plain};
 
 use crate::{Packet, PacketStart};
 use ip_base::IpNumber;

@@ -1,10 +1,10 @@
-//! The calls that walk the packet at the start of any bytes: walked, dissected and outlined.
+//! The calls that walk the packet at the start of any bytes: walked, dissected and summarized.
 ghost use Rattle.std.specs.Prelude.{◌≡◌, ◌++◌, ◌+◌, not, is_some, length, IfSome};
 ghost use Rattle.ip_dissect.specs.End.{has_error};
 ghost use Rattle.ip_dissect.specs.Dissection.{HasParts, dissected, base_of};
-ghost use Rattle.ip_dissect.specs.Outline.{outline_of};
+ghost use Rattle.ip_dissect.specs.Summary.{summary_of};
 
-use crate::{Dissection, HeaderVisitor, Outline, Packet, PacketStart};
+use crate::{Dissection, HeaderVisitor, Packet, PacketStart, Summary};
 
 impl<'a> Packet<'a> {
     /// Walks the packet at the start of `bytes`, which may be any bytes: parses the base header, passes each extension
@@ -31,19 +31,19 @@ pub fn dissect(bytes: &[u8]) -> Dissection<'_>
     Packet::walk(bytes, &mut ()).dissection()
 }
 
-/// Outlines the packet at the start of `bytes`, which may be any bytes. Returns `None` exactly if its headers end with
+/// Summaries the packet at the start of `bytes`, which may be any bytes. Returns `None` exactly if its headers end with
 /// an error, or there is no base header; `dissect` says why. Otherwise returns the lengths and numbers of the parts
 /// that `dissect` returns, in less time.
 #[inline(always)]
-pub fn outline_packet(bytes: &[u8]) -> Option<Outline>
-    ensures parts { IfSome result (λ o. o ≡ outline_of (dissected bytes.now)) }
+pub fn summarize_packet(bytes: &[u8]) -> Option<Summary>
+    ensures parts { IfSome result (λ o. o ≡ summary_of (dissected bytes.now)) }
     ensures some { is_some result ≡ not (has_error (dissected bytes.now).end) }
     ensures within { IfSome result (λ o. o.base_len + o.extensions_len + o.payload_len
         + o.padding_len ≡ length bytes.now) }
 {
     let packet = Packet::walk(bytes, &mut ());
-    if packet.outline.has_error {
+    if packet.summary.has_error {
         return None;
     }
-    Some(packet.outline)
+    Some(packet.summary)
 }

@@ -2,7 +2,7 @@
 use Rattle.std.proofs.lemmas.List.{length-append, take_at}
 use Rattle.ip_spec.proofs.Common.{◌≡◌, ℕ, ◌-◌, ◌+◌, List, ◌++◌, length, take, sym, ap, ◌∙◌, arith, Option}
 use Rattle.ip_dissect.specs.Dissection.{dissected}
-use Rattle.ip_dissect.specs.Outline.{IsBaseOf}
+use Rattle.ip_dissect.specs.Summary.{IsBaseOf}
 use Rattle.ip_dissect.specs.declared.dissection.BaseHeader.{BaseHeader}
 use Rattle.ip_dissect.proofs.JoinedLemmas.{parts_joined}
 use Rattle.ip_filter.specs.Access.{bytes_of_packet}

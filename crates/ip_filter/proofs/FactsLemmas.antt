@@ -11,7 +11,7 @@ use Rattle.ip_base.specs.Ipv6HeaderSlice as ipv6_header
 use Rattle.ip_ext_slices.specs.Longest.{longest_chain}
 use Rattle.ip_ext_slices.proofs.LongestLemmas.{longest_chain-bytes_of}
 use Rattle.ip_dissect.specs.Dissection.{dissected}
-use Rattle.ip_dissect.specs.Outline.{IsBaseOf}
+use Rattle.ip_dissect.specs.Summary.{IsBaseOf}
 use Rattle.ip_dissect.specs.declared.dissection.BaseHeader.{BaseHeader}
 use Rattle.ip_dissect.specs.declared.dissection.BaseHeader.TheVariants.{Ipv4, Ipv6}
 use Rattle.ip_dissect.proofs.Ipv4Lemmas.{ipv4_prefix}

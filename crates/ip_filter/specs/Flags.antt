@@ -6,7 +6,7 @@ use Rattle.std.specs.Option.{option_map_or}
 use Rattle.ip_spec.specs.Chain.{ExtHeader}
 use Rattle.ip_dissect.specs.Dissection.{DissectedParts}
 use Rattle.ip_filter.specs.Truth.{is_version, is_first_kind, is_later_kind, says_fragment, some_fragment, is_truncated, fault_in, kind_index}
-use Rattle.ip_dissect.specs.declared.outline.Outline.{Outline}
+use Rattle.ip_dissect.specs.declared.summary.Summary.{Summary}
 use Rattle.ip_dissect.specs.declared.fragment.Fragment.{Fragment}
 use Rattle.ip_filter.specs.declared.flags.Flags.{Flags}
 
@@ -30,8 +30,8 @@ unfoldable pub any_flag : ℕ → ℕ → DissectedParts → Bool
 any_flag zero mask p = false
 any_flag (suc k) mask p = any_flag k mask p || ((bit_at mask k == 1) && flag_says k p)
 
--- which fragment an IPv4 packet with this outline is by its base header
-abbrev pub base_fragment : Outline → Option Fragment
+-- which fragment an IPv4 packet with this summary is by its base header
+abbrev pub base_fragment : Summary → Option Fragment
 base_fragment o = if o.version == 4 then o.fragment else None
 
 -- What the flag n says of headers: whether one has the number n, or is the fragment header of a first or later fragment.

@@ -33,7 +33,7 @@ impl<'a> Facts<'a> {
     pub(crate) fn bytes_of_version(&self, version: u8) -> &'a [u8]
         ensures { result.now ≡ bytes_from (from.Base version) (dissected self.now.packet.bytes.now) }
     {
-        if self.packet.outline.version == version {
+        if self.packet.summary.version == version {
             self.bytes_of_packet()
         } else {
             &[]
@@ -46,7 +46,7 @@ impl<'a> Facts<'a> {
         ensures { result.now ≡ bytes_of_packet (dissected self.now.packet.bytes.now) }
     {
         let bytes = self.packet.bytes;
-        &bytes[..bytes.len() - self.packet.outline.padding_len]
+        &bytes[..bytes.len() - self.packet.summary.padding_len]
     }
 
     /// Returns the bytes from the header of the protocol with this number on, if the headers lead to it.
@@ -67,11 +67,11 @@ impl<'a> Facts<'a> {
     fn leads_to_protocol(&self, number: u8) -> bool
         ensures { result ≡ leads_to_protocol number (dissected self.now.packet.bytes.now) }
     {
-        let outline = &self.packet.outline;
+        let summary = &self.packet.summary;
         match number {
-            protocol::ICMP => outline.version == 4 && outline.next_header.0 == protocol::ICMP,
-            protocol::ICMP6 => outline.version == 6 && outline.next_header.0 == protocol::ICMP6,
-            _ => outline.next_header.0 == number,
+            protocol::ICMP => summary.version == 4 && summary.next_header.0 == protocol::ICMP,
+            protocol::ICMP6 => summary.version == 6 && summary.next_header.0 == protocol::ICMP6,
+            _ => summary.next_header.0 == number,
         }
     }
 }

@@ -83,8 +83,8 @@ impl Test {
         ensures { result ≡ (has_base (dissected packet.now.bytes.now)
             && ((dissected packet.now.bytes.now).number == self.now.number)) }
     {
-        let outline = &packet.outline;
-        outline.version != 0 && u64::from(outline.next_header.0) == self.number
+        let summary = &packet.summary;
+        summary.version != 0 && u64::from(summary.next_header.0) == self.number
     }
 
     /// Returns whether the packet has the version of the test, and its headers lead to the protocol number of the test.
@@ -93,7 +93,7 @@ impl Test {
         ensures { result ≡ (((dissected packet.now.bytes.now).version == self.now.version)
             && ((dissected packet.now.bytes.now).number == self.now.number)) }
     {
-        let outline = &packet.outline;
-        outline.version == self.version && u64::from(outline.next_header.0) == self.number
+        let summary = &packet.summary;
+        summary.version == self.version && u64::from(summary.next_header.0) == self.number
     }
 }

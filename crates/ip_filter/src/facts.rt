@@ -2,7 +2,7 @@
 ghost use Rattle.std.specs.Prelude.{◌≡◌, ◌==◌, true};
 ghost use Rattle.std.specs.List.{list_any};
 ghost use Rattle.ip_dissect.specs.Dissection.{dissected};
-ghost use Rattle.ip_dissect.specs.Outline.{is_plain};
+ghost use Rattle.ip_dissect.specs.Summary.{is_plain};
 ghost use Rattle.ip_filter.specs.Flags.{AreKnown, any_flag};
 ghost use Rattle.ip_filter.specs.Facts.{number_after};
 ghost use Rattle.ip_filter.specs.HeaderConditions.{meets_condition};
@@ -43,7 +43,7 @@ impl<'a> Facts<'a> {
         ensures { result ≡ is_in_layer code (dissected self.now.packet.bytes.now).version
             (dissected self.now.packet.bytes.now).end }
     {
-        is_in_layer(self.packet.outline.version, &self.packet.end(), code)
+        is_in_layer(self.packet.summary.version, &self.packet.end(), code)
     }
 
     /// Returns whether an extension header meets the condition. Walks them again if there is one that can meet it.
@@ -79,10 +79,10 @@ impl<'a> Facts<'a> {
         ensures { result ≡ some_fragment (λ x. x.identification == number)
             (dissected self.now.packet.bytes.now) }
     {
-        if self.packet.outline.header_count > 1 {
+        if self.packet.summary.header_count > 1 {
             return self.has_header(HeaderCondition::Identification(number));
         }
-        match self.packet.outline.fragment {
+        match self.packet.summary.fragment {
             Some(fragment) => u64::from(fragment.identification) == number,
             None => false,
         }

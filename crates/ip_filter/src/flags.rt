@@ -11,7 +11,7 @@ use crate::FaultKind;
 use crate::facts::{fault_in, is_first_kind, is_later_kind, is_truncated};
 use crate::holds::kind_index;
 use ip_base::{IpNumber, ip_number};
-use ip_dissect::{End, Fragment, HeaderVisitor, Outline, Packet};
+use ip_dissect::{End, Fragment, HeaderVisitor, Packet, Summary};
 use ip_ext_headers::Ipv6FragmentHeaderSlice;
 
 /// The places of flags. That of an extension header is its number.
@@ -88,11 +88,11 @@ impl Flags {
         requires { AreOfHeaders (dissected packet.now.bytes.now).headers self }
         ensures { AreKnown (dissected packet.now.bytes.now) result }
     {
-        let outline = &packet.outline;
-        self.with(place::IPV4, outline.version == 4)
-            .with(place::IPV6, outline.version == 6)
-            .with_fragment(base_fragment(outline))
-            .with(place::INCOMPLETE, outline.missing != 0)
+        let summary = &packet.summary;
+        self.with(place::IPV4, summary.version == 4)
+            .with(place::IPV6, summary.version == 6)
+            .with_fragment(base_fragment(summary))
+            .with(place::INCOMPLETE, summary.missing != 0)
     }
 
     /// Returns these flags of a packet, and those of the end of its headers.
@@ -159,7 +159,7 @@ pub(crate) fn has_one_of(packet: &Packet<'_>, flags: Flags, mask: u64) -> bool
     requires { AreKnown (dissected packet.now.bytes.now) flags }
     ensures { result ≡ any_flag 64 mask (dissected packet.now.bytes.now) }
 {
-    if packet.outline.has_error && mask & mask::ERRORS != 0 {
+    if packet.summary.has_error && mask & mask::ERRORS != 0 {
         return flags.with_end(&packet.end()).has_one_of(mask);
     }
     flags.has_one_of(mask)
@@ -184,11 +184,11 @@ impl HeaderVisitor for Flags {
 
 /// Returns which fragment an IPv4 packet is by its base header.
 #[inline(always)]
-fn base_fragment(outline: &Outline) -> Option<Fragment>
-    ensures { result ≡ base_fragment outline.now }
+fn base_fragment(summary: &Summary) -> Option<Fragment>
+    ensures { result ≡ base_fragment summary.now }
 {
-    match outline.fragment {
-        Some(fragment) if outline.version == 4 => Some(fragment),
+    match summary.fragment {
+        Some(fragment) if summary.version == 4 => Some(fragment),
         _ => None,
     }
 }

@@ -41,7 +41,7 @@
 //!   bytes and faults are flags: a test of them is a mask, of which one flag has to be set (`flag`, `meets`). Several
 //!   terms are one test where one mask says the same.
 //! - Where the order doesn't matter, tests that the base header decides come first, then tests of flags.
-//! - Tests of flags, of the number after the headers and of payload bytes are brief: a `Brief` is what they ask of a
+//! - Tests of flags, of the number after the headers and of payload bytes ask metadata: a `Metadata` is what they ask of a
 //!   packet.
 #![tactic(auto)]
 
@@ -49,7 +49,6 @@ mod access;
 mod access_bits;
 mod access_words;
 mod arguments;
-mod brief;
 mod builder;
 mod by_base;
 mod compile;
@@ -65,6 +64,7 @@ mod keyword;
 mod laws;
 mod layers;
 mod meets;
+mod metadata;
 mod network;
 mod networks;
 mod numbers;
@@ -85,9 +85,9 @@ mod test_of;
 mod transport;
 mod words;
 
-pub use brief::Brief;
 pub use filter::{Filter, Test};
 pub use laws::{bytes_after_the_packet_change_nothing, errors_lie_in_their_layers};
+pub use metadata::Metadata;
 pub use network::Network;
 pub use parse_error::{Expected, ParseError};
 pub use term::{

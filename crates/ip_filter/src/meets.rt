@@ -140,7 +140,7 @@ impl Test {
             kind::ICMP6_TYPE => self.is_number(facts.icmp6_byte(ICMP_TYPE)),
             kind::ICMP6_CODE => self.is_number(facts.icmp6_byte(ICMP_CODE)),
             kind::TCP_FLAGS => {
-                self.has_tcp_flags(facts.packet.outline.next_header.0, facts.transport())
+                self.has_tcp_flags(facts.packet.summary.next_header.0, facts.transport())
             },
             kind::TRANSPORT_ACCESS => self.reads(facts.bytes_of_protocol(self.version)),
             _ => false,
@@ -209,7 +209,7 @@ impl Test {
         ensures { result ≡ option_map_or (λ n. n == self.now.number)
             (esp_spi (dissected facts.now.packet.bytes.now)) false }
     {
-        facts.packet.outline.next_header.0 == protocol::ESP && self.is_esp_spi(facts.transport())
+        facts.packet.summary.next_header.0 == protocol::ESP && self.is_esp_spi(facts.transport())
     }
 
     /// Returns whether a payload of ESP begins with the security parameters index of the test. Not inlined, as `has_tcp_flags`.

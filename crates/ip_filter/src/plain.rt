@@ -1,7 +1,7 @@
 //! Tests of plain packets: those without extension headers that are no fragment and have no error.
 ghost use Rattle.std.specs.Prelude.{◌≡◌, ◌≤◌, length, true, if◌then◌else◌};
 ghost use Rattle.ip_dissect.specs.Dissection.{dissected};
-ghost use Rattle.ip_dissect.specs.Outline.{is_plain};
+ghost use Rattle.ip_dissect.specs.Summary.{is_plain};
 ghost use Rattle.ip_filter.specs.Tests.{meets};
 ghost use Rattle.ip_filter.specs.Program.{passes};
 

@@ -13,14 +13,14 @@ impl Facts<'_> {
     pub(crate) fn quantity(&self, quantity: Quantity) -> Option<u64>
         ensures { result ≡ quantity_of quantity (dissected self.now.packet.bytes.now) }
     {
-        let outline = &self.packet.outline;
+        let summary = &self.packet.summary;
         match quantity {
-            Quantity::Headers => self.of_packet(outline.header_count),
-            Quantity::ChainBytes => self.of_packet(outline.extensions_len),
-            Quantity::Payload => self.of_packet(outline.payload_len),
-            Quantity::Length => match outline.stated_len {
+            Quantity::Headers => self.of_packet(summary.header_count),
+            Quantity::ChainBytes => self.of_packet(summary.extensions_len),
+            Quantity::Payload => self.of_packet(summary.payload_len),
+            Quantity::Length => match summary.stated_len {
                 Some(len) => Some(len as u64),
-                None => self.of_packet(self.packet.bytes.len() - outline.padding_len),
+                None => self.of_packet(self.packet.bytes.len() - summary.padding_len),
             },
             Quantity::HopLimit => hop_limit(&start_of(&self.packet)),
             Quantity::Dscp => dscp(&start_of(&self.packet)),
@@ -34,10 +34,10 @@ impl Facts<'_> {
     pub(crate) fn lacks_length(&self) -> bool
         ensures { result ≡ lacks_length (dissected self.now.packet.bytes.now) }
     {
-        let outline = &self.packet.outline;
-        outline.version != 0
-            && outline.stated_len.is_none()
-            && (outline.header_count > 0 || outline.payload_len > 0)
+        let summary = &self.packet.summary;
+        summary.version != 0
+            && summary.stated_len.is_none()
+            && (summary.header_count > 0 || summary.payload_len > 0)
     }
 
     /// Returns the number, if there is a base header.
@@ -45,7 +45,7 @@ impl Facts<'_> {
     fn of_packet(&self, number: usize) -> Option<u64>
         ensures { result ≡ of_packet number (dissected self.now.packet.bytes.now) }
     {
-        if self.packet.outline.version == 0 {
+        if self.packet.summary.version == 0 {
             None
         } else {
             Some(number as u64)

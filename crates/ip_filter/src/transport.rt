@@ -55,7 +55,7 @@ impl<'a> Facts<'a> {
         requires { offset ≤ 2 }
         ensures { result ≡ port_at offset (dissected self.now.packet.bytes.now) }
     {
-        if !has_ports(self.packet.outline.next_header.0) {
+        if !has_ports(self.packet.summary.next_header.0) {
             return None;
         }
         let transport = self.transport();
@@ -70,9 +70,9 @@ impl<'a> Facts<'a> {
     pub(crate) fn lacks_transport(&self) -> bool
         ensures { result ≡ lacks_transport (dissected self.now.packet.bytes.now) }
     {
-        let outline = &self.packet.outline;
+        let summary = &self.packet.summary;
         self.is_at_payload()
-            && lacks_upper_layer(outline.version, outline.next_header.0, self.transport())
+            && lacks_upper_layer(summary.version, summary.next_header.0, self.transport())
     }
 
     /// Returns the byte at an offset from the start of an ICMP message, if the payload of an IPv4 packet is one and the byte
@@ -81,8 +81,8 @@ impl<'a> Facts<'a> {
     pub(crate) fn icmp_byte(&self, offset: usize) -> Option<u8>
         ensures { result ≡ icmp_byte offset (dissected self.now.packet.bytes.now) }
     {
-        let outline = &self.packet.outline;
-        if outline.version == 4 && outline.next_header.0 == protocol::ICMP {
+        let summary = &self.packet.summary;
+        if summary.version == 4 && summary.next_header.0 == protocol::ICMP {
             self.transport_byte(offset)
         } else {
             None
@@ -95,8 +95,8 @@ impl<'a> Facts<'a> {
     pub(crate) fn icmp6_byte(&self, offset: usize) -> Option<u8>
         ensures { result ≡ icmp6_byte offset (dissected self.now.packet.bytes.now) }
     {
-        let outline = &self.packet.outline;
-        if outline.version == 6 && outline.next_header.0 == protocol::ICMP6 {
+        let summary = &self.packet.summary;
+        if summary.version == 6 && summary.next_header.0 == protocol::ICMP6 {
             self.transport_byte(offset)
         } else {
             None
@@ -133,7 +133,7 @@ impl<'a> Facts<'a> {
     fn is_at_payload(&self) -> bool
         ensures { result ≡ is_at_payload (dissected self.now.packet.bytes.now).end }
     {
-        !self.packet.outline.has_error && !self.packet.outline.is_later_fragment
+        !self.packet.summary.has_error && !self.packet.summary.is_later_fragment
     }
 }
 

@@ -3,7 +3,7 @@ use Rattle.ip_spec.proofs.Common.{zero, suc, ◌≡◌, ℕ, ◌+◌, ◌≤◌,
 use Rattle.ip_dissect.specs.Fragment.{fragments, ipv6_fragment}
 use Rattle.ip_dissect.specs.declared.fragment.Fragment.{Fragment}
 use Rattle.ip_dissect.specs.Dissection.{DissectedParts, dissected}
-use Rattle.ip_dissect.specs.Outline.{is_later_end}
+use Rattle.ip_dissect.specs.Summary.{is_later_end}
 use Rattle.ip_rewrite.specs.Headers.{number_of_first, leading_to, linked_headers, is_options}
 use Rattle.ip_rewrite.specs.Base.{length_field}
 use Rattle.ip_rewrite.specs.Jumbogram.{following_len, is_unstated, jumbo_offset, is_jumbogram, stating_at}

@@ -4,7 +4,7 @@ use Rattle.ip_base.specs.Ipv4HeaderSlice as ipv4_header
 use Rattle.ip_base.specs.Ipv6HeaderSlice as ipv6_header
 use Rattle.ip_dissect.specs.End.{has_error}
 use Rattle.ip_dissect.specs.Dissection.{DissectedParts, dissected}
-use Rattle.ip_dissect.specs.Outline.{IsBaseOf}
+use Rattle.ip_dissect.specs.Summary.{IsBaseOf}
 use Rattle.ip_dissect.specs.declared.dissection.BaseHeader.{BaseHeader}
 use Rattle.ip_dissect.specs.declared.dissection.BaseHeader.TheVariants.{Ipv4, Ipv6}
 use Rattle.ip_dissect.proofs.DissectedLemmas.{BeginIpv4, begins4, BeginIpv6, begins6, BeginNone, begins_none, base_error}

@@ -7,7 +7,7 @@ use Rattle.ip_spec.proofs.StepLemmas.{bytes_of-more}
 use Rattle.ip_dissect.specs.LaterDemand.{is_later, has_later, NothingAfterLater}
 use Rattle.ip_dissect.specs.Fragment.{fragments}
 use Rattle.ip_dissect.specs.Dissection.{DissectedParts, dissected}
-use Rattle.ip_dissect.specs.Outline.{IsBaseOf, is_later_end}
+use Rattle.ip_dissect.specs.Summary.{IsBaseOf, is_later_end}
 use Rattle.ip_dissect.specs.declared.dissection.BaseHeader.{BaseHeader}
 use Rattle.ip_rewrite.specs.Jumbogram.{jumbo_offset}
 use Rattle.ip_rewrite.specs.Rewritten.{rewritten, rewritten_parts}

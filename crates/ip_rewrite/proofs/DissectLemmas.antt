@@ -22,13 +22,13 @@ use Rattle.ip_dissect.specs.Extent.{after_base, ipv4_stated, ipv6_stated, ipv4_c
 use Rattle.ip_dissect.specs.End.{has_error, auth_end, exts_end, is_too_short, ipv6_rest, ipv6_error, ipv6_end}
 use Rattle.ip_dissect.specs.Fragment.{fragments}
 use Rattle.ip_dissect.specs.Dissection.{DissectedParts, ipv4_dissected, ipv6_dissected, dissected}
-use Rattle.ip_dissect.specs.Outline.{IsBaseOf, is_later_end}
+use Rattle.ip_dissect.specs.Summary.{IsBaseOf, is_later_end}
 use Rattle.ip_dissect.specs.declared.dissection.BaseHeader.{BaseHeader}
 use Rattle.ip_dissect.specs.declared.dissection.BaseHeader.TheVariants.{Ipv4, Ipv6}
 use Rattle.ip_dissect.specs.declared.end.End.{End}
 use Rattle.ip_dissect.specs.declared.end.End.TheVariants.{Payload, LaterFragment, Truncated, Fault}
 use Rattle.ip_dissect.proofs.LaterLemmas.{chain_to_later-longest, may_follow, met}
-use Rattle.ip_dissect.proofs.OutlineLemmas.{auth_end_fails, end_with}
+use Rattle.ip_dissect.proofs.SummaryLemmas.{auth_end_fails, end_with}
 use Rattle.ip_dissect.proofs.DissectedLemmas.{BeginIpv4, begins4, BeginIpv6, begins6, BeginNone, begins_none, base_error}
 use Rattle.ip_rewrite.specs.Headers.{number_of_first, linked_headers}
 use Rattle.ip_rewrite.specs.Base.{number_offset, without_checksum, ipv4_stating, length_field, base_stating}

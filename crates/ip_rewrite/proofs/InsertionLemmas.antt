@@ -3,7 +3,7 @@ use Rattle.ip_spec.proofs.Common.{zero, suc, ◌≡◌, ◌≢◌, ℕ, ◌+◌,
 use Rattle.ip_dissect.specs.LaterDemand.{is_later, has_later, NothingAfterLater}
 use Rattle.ip_dissect.specs.Fragment.{fragments, is_fragment_header}
 use Rattle.ip_dissect.specs.Dissection.{DissectedParts, dissected}
-use Rattle.ip_dissect.specs.Outline.{IsBaseOf}
+use Rattle.ip_dissect.specs.Summary.{IsBaseOf}
 use Rattle.ip_dissect.specs.declared.dissection.BaseHeader.{BaseHeader}
 use Rattle.ip_rewrite.specs.Jumbogram.{jumbo_offset}
 use Rattle.ip_rewrite.specs.Rewritten.{rewritten, rewritten_parts, jumbo_fault}

@@ -3,7 +3,7 @@ use Rattle.ip_spec.proofs.Common.{◌≡◌, ℕ, ◌⊎◌, List, [], ◌∷◌
 use Rattle.ip_dissect.specs.LaterDemand.{is_later, has_later}
 use Rattle.ip_dissect.specs.Fragment.{fragments}
 use Rattle.ip_dissect.specs.Dissection.{DissectedParts, dissected}
-use Rattle.ip_dissect.specs.Outline.{IsBaseOf, is_later_end}
+use Rattle.ip_dissect.specs.Summary.{IsBaseOf, is_later_end}
 use Rattle.ip_dissect.specs.declared.dissection.BaseHeader.{BaseHeader}
 use Rattle.std.specs.Prelude.{Option}
 use Rattle.ip_dissect.proofs.LaterLemmas.{met}

@@ -1,7 +1,7 @@
 -- Another payload after the headers of a packet.
 use Rattle.ip_spec.proofs.Common.{◌≡◌, ℕ, ◌≤◌, List, [], ◌∷◌, length, inl, inr, subst, refl, sym, ◌∙◌, arith, common_steps, Bool, true, false, false≢true, cases_Bool, eq-eqb, ◌==◌, ◌↔◌, IsTrue, Option, None, IsExtensionNumber, ExtHeader, is_empty}
 use Rattle.ip_dissect.specs.Dissection.{DissectedParts, dissected}
-use Rattle.ip_dissect.specs.Outline.{IsBaseOf}
+use Rattle.ip_dissect.specs.Summary.{IsBaseOf}
 use Rattle.ip_dissect.specs.declared.dissection.BaseHeader.{BaseHeader}
 use Rattle.ip_rewrite.specs.Rewritten.{is_extension, is_read_on, rewritten, rewritten_parts}
 use Rattle.ip_rewrite.specs.Without.{packet_fault}

@@ -2,7 +2,7 @@
 use Rattle.ip_spec.proofs.Common.{◌≡◌, ℕ, ◌+◌, List, [], ◌∷◌, inl, inr, subst, refl, sym, ◌∙◌, ap, Bool, true, false, false≢true, cases_Bool, cond-true, cond-false, ◌||◌, ◌&&◌, list_any, nat_le, Option, None, AllByRecursion, cleared_chain, ExtHeader}
 use Rattle.ip_dissect.specs.LaterDemand.{is_later}
 use Rattle.ip_dissect.specs.Dissection.{DissectedParts, dissected}
-use Rattle.ip_dissect.specs.Outline.{IsBaseOf, is_later_end}
+use Rattle.ip_dissect.specs.Summary.{IsBaseOf, is_later_end}
 use Rattle.ip_dissect.specs.declared.dissection.BaseHeader.{BaseHeader}
 use Rattle.ip_rewrite.specs.Jumbogram.{jumbo_offset}
 use Rattle.ip_rewrite.specs.Rewritten.{jumbo_fault}

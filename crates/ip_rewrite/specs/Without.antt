@@ -6,7 +6,7 @@ use Rattle.ip_spec.specs.Numbers.{ROUTING, FRAGMENT, AUTHENTICATION}
 use Rattle.ip_spec.specs.Chain.{ExtHeader}
 use Rattle.ip_dissect.specs.Fragment.{fragments}
 use Rattle.ip_dissect.specs.End.{has_error}
-use Rattle.ip_dissect.specs.Outline.{is_later_end}
+use Rattle.ip_dissect.specs.Summary.{is_later_end}
 use Rattle.ip_dissect.specs.Dissection.{DissectedParts}
 use Rattle.ip_rewrite.specs.Rewritten.{rewritten, rewritten_len, rewritten_parts, jumbo_fault, room_fault}
 use Rattle.ip_rewrite.specs.Selection.{selects, selects_first, kept, any_selected, selects_fragmented}

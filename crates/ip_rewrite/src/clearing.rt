@@ -164,11 +164,11 @@ fn test(
     ensures base { OnOk result ((if (dissected packet.now.bytes.now).version == 4 then 20 else 40)
         ≤ length (dissected packet.now.bytes.now).base) }
 {
-    let outline = &packet.outline;
-    test_packet(outline)?;
-    let is_fragment = is_ipv4_fragment(outline);
+    let summary = &packet.summary;
+    test_packet(summary)?;
+    let is_fragment = is_ipv4_fragment(summary);
     test_reserved(is_fragment, reserved, authentication)?;
-    test_room(packet, outline.extensions_len, outline.payload_len, room)
+    test_room(packet, summary.extensions_len, summary.payload_len, room)
 }
 
 /// Writes the base header and the extension headers of a packet, with their reserved bits cleared.
@@ -205,15 +205,15 @@ fn write_cleared(packet: &Packet<'_>, last: usize, field: u16, out: &mut [u8])
         ++ drop (rewritten_len (dissected packet.now.bytes.now)
         (cleared_chain (dissected packet.now.bytes.now).headers) (dissected packet.now.bytes.now).payload) out.old }
 {
-    let outline = &packet.outline;
-    let link = link_after(outline, last);
+    let summary = &packet.summary;
+    let link = link_after(summary, last);
     let payload = packet.payload();
     write_headers(packet, out);
     finish(
         packet,
-        outline.extensions_len,
+        summary.extensions_len,
         link,
-        outline.next_header,
+        summary.next_header,
         payload,
         field,
         out,
@@ -221,7 +221,7 @@ fn write_cleared(packet: &Packet<'_>, last: usize, field: u16, out: &mut [u8])
 }
 
 /// Returns whether a reserved bit of an extension header is 1 (RFC 8200, section 4.5; RFC 4302, section 2.3): whether
-/// `cleared` would change a header. If the headers end with an error, those before it count.
+/// `clear_reserved_bits` would change a header. If the headers end with an error, those before it count.
 #[tactic(auto, using(crate::proofs::ReservedLemmas::unchanged))]
 pub fn has_reserved_bits(packet: &[u8]) -> bool
     ensures found { result ≡ list_any has_reserved (dissected packet.now).headers }
@@ -235,7 +235,7 @@ pub fn has_reserved_bits(packet: &[u8]) -> bool
 /// Writes a packet to the front of `out` with the reserved bits of its extension headers set to zero (RFC 8200,
 /// section 4.5; RFC 4302, section 2.3), and nothing else changed.
 #[tactic(auto, using(crate::proofs::ClearingLemmas::cleared_len))]
-pub fn cleared(
+pub fn clear_reserved_bits(
     packet: &[u8],
     authentication: Authentication,
     out: &mut [u8],
@@ -255,8 +255,8 @@ pub fn cleared(
     let packet = Packet::walk(packet, &mut reserved);
     match test(&packet, &reserved, authentication, out.len()) {
         Ok(field) => {
-            let outline = &packet.outline;
-            let len = outline.base_len + outline.extensions_len + outline.payload_len;
+            let summary = &packet.summary;
+            let len = summary.base_len + summary.extensions_len + summary.payload_len;
             write_cleared(&packet, reserved.last, field, out);
             Ok(Rewritten {
                 len,

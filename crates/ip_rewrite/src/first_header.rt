@@ -26,7 +26,7 @@ pub(crate) fn selected_first(packet: &Packet<'_>, which: Which, kept_len: usize)
     ensures { IfSome result (λ len. SelectsFirst which (dissected packet.now.bytes.now).headers len) }
 {
     let base = base_of(packet);
-    let number = IpNumber(base[number_offset(packet.outline.version)]);
+    let number = IpNumber(base[number_offset(packet.summary.version)]);
     let headers = packet.extensions();
     if !which.selects(number, 0) {
         return None;
@@ -55,9 +55,9 @@ fn bytes_after<'a>(packet: &Packet<'a>, len: usize) -> &'a [u8]
     ensures { result.now ≡ drop len (bytes_of (dissected packet.now.bytes.now).headers)
         ++ (dissected packet.now.bytes.now).payload }
 {
-    let outline = &packet.outline;
-    let start = outline.base_len + len;
-    let end = outline.base_len + outline.extensions_len + outline.payload_len;
+    let summary = &packet.summary;
+    let start = summary.base_len + len;
+    let end = summary.base_len + summary.extensions_len + summary.payload_len;
     &packet.bytes[start..end]
 }
 
@@ -106,13 +106,13 @@ pub(crate) fn write_after_first(
     ensures { out.new ≡ without which (dissected packet.now.bytes.now)
         ++ drop (len_without which (dissected packet.now.bytes.now)) out.old }
 {
-    let outline = &packet.outline;
+    let summary = &packet.summary;
     let base = base_of(packet);
     let (first, _) = packet.extensions().split_at(len);
     put_base(out, base);
-    set(out, number_offset(outline.version), next_number(first));
+    set(out, number_offset(summary.version), next_number(first));
     put(out, base.len(), bytes_after(packet, len));
-    state_length(outline, field, out);
+    state_length(summary, field, out);
 }
 
 /// Writes the packet of which these headers are kept, whose length is `kept_len`; `field` is the number for the length field.

@@ -67,7 +67,7 @@ pub(crate) fn survey_first(packet: &Packet<'_>, later: &Later) -> Survey
     ensures { result ≡ surveyed (no_survey (Index 0)) (dissected packet.now.bytes.now).headers }
 {
     let base = base_of(packet);
-    let number = IpNumber(base[number_offset(packet.outline.version)]);
+    let number = IpNumber(base[number_offset(packet.summary.version)]);
     let headers = packet.extensions();
     let survey = Survey::new(Which::Index(0));
     match header_len_at(true, number, headers) {
@@ -94,7 +94,7 @@ pub(crate) fn first_len(packet: &Packet<'_>, survey: &Survey) -> Option<usize>
     ensures { IfSome result (λ len. SelectsFirst (Index 0) (dissected packet.now.bytes.now).headers len) }
 {
     if survey.selects {
-        Some(packet.outline.extensions_len - survey.kept_len)
+        Some(packet.summary.extensions_len - survey.kept_len)
     } else {
         None
     }

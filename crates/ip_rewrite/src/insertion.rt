@@ -7,7 +7,7 @@ ghost use Rattle.ip_spec.specs.Header.{IsHeader};
 ghost use Rattle.ip_spec.specs.Chain.{ExtHeader, bytes_of};
 ghost use Rattle.ip_dissect.specs.Dissection.{DissectedParts, dissected};
 ghost use Rattle.ip_dissect.specs.Fragment.{fragments};
-ghost use Rattle.ip_dissect.specs.Outline.{outline_of};
+ghost use Rattle.ip_dissect.specs.Summary.{summary_of};
 ghost use Rattle.ip_rewrite.specs.Rewritten.{rewritten, rewritten_len, rewritten_field, rewritten_parts};
 ghost use Rattle.ip_rewrite.specs.Without.{is_authentication, has_segments, packet_fault};
 ghost use Rattle.ip_rewrite.specs.Headers.{is_options};
@@ -23,7 +23,7 @@ use crate::survey::{fragments, has_segments};
 use crate::write::{base_of, finish, number_offset, test_room};
 use crate::{Authentication, RewriteError, Rewritten};
 use ip_base::{IpNumber, ip_number};
-use ip_dissect::{HeaderVisitor, Outline, Packet};
+use ip_dissect::{HeaderVisitor, Packet, Summary};
 
 /// What was seen of the headers around a place in the chain.
 #[derive(Clone, Copy, Debug)]
@@ -136,15 +136,15 @@ impl HeaderVisitor for Inserter<'_, '_> {
 
 /// Returns whether the header can't be at its place.
 #[inline(always)]
-fn is_misplaced(outline: &Outline, around: &Around, number: IpNumber) -> bool
-    ensures { (p : DissectedParts) (h : ExtHeader) → outline.now ≡ outline_of p → h.number ≡ number.0
+fn is_misplaced(summary: &Summary, around: &Around, number: IpNumber) -> bool
+    ensures { (p : DissectedParts) (h : ExtHeader) → summary.now ≡ summary_of p → h.number ≡ number.0
         → around.now.starts_with_options ≡ list_any is_options (take 1 p.headers)
         → result ≡ is_misplaced around.now.index h p }
 {
-    if outline.header_count < around.index {
+    if summary.header_count < around.index {
         return true;
     }
-    if outline.version == 4 && outline.header_count != 0 {
+    if summary.version == 4 && summary.header_count != 0 {
         return true;
     }
     if around.index == 0 {
@@ -157,13 +157,13 @@ fn is_misplaced(outline: &Outline, around: &Around, number: IpNumber) -> bool
 /// Returns why the header can't be inserted.
 #[inline(always)]
 fn test_header(
-    outline: &Outline,
+    summary: &Summary,
     around: &Around,
     number: IpNumber,
     header: &[u8],
     authentication: Authentication,
 ) -> Result<(), RewriteError>
-    ensures fault { (p : DissectedParts) (h : ExtHeader) → outline.now ≡ outline_of p
+    ensures fault { (p : DissectedParts) (h : ExtHeader) → summary.now ≡ summary_of p
         → h ≡ record { number = number.0; bytes = header.now }
         → around.now.starts_with_options ≡ list_any is_options (take 1 p.headers)
         → around.now.is_fragmented ≡ list_any fragments (take around.now.index p.headers)
@@ -171,20 +171,20 @@ fn test_header(
         → result_err result ≡ header_fault authentication around.now.index h p }
     ensures header { OnOk result (is_header number.0 header.now ≡ true) }
 {
-    let is_ipv4 = outline.version == 4;
+    let is_ipv4 = summary.version == 4;
     if !is_header(number, header) || is_ipv4 && number != ip_number::AUTH {
         return Err(RewriteError::NotAHeader);
     }
     if fragments(number, header) {
         return Err(RewriteError::FragmentHeader);
     }
-    if is_misplaced(outline, around, number) {
+    if is_misplaced(summary, around, number) {
         return Err(RewriteError::Misplaced);
     }
-    if is_ipv4 & outline.fragment.is_some() | around.is_fragmented {
+    if is_ipv4 & summary.fragment.is_some() | around.is_fragmented {
         return Err(RewriteError::Fragmented);
     }
-    let has_authentication = around.has_authentication | authentication_follows(outline);
+    let has_authentication = around.has_authentication | authentication_follows(summary);
     if has_authentication && authentication == Authentication::Valid {
         return Err(RewriteError::Authenticated);
     }
@@ -221,12 +221,12 @@ fn test(
         ≤ length (dissected packet.now.bytes.now).base) }
     ensures header { OnOk result (is_header number.0 header.now ≡ true) }
 {
-    let outline = &packet.outline;
-    test_packet(outline)?;
-    test_header(outline, around, number, header, authentication)?;
+    let summary = &packet.summary;
+    test_packet(summary)?;
+    test_header(summary, around, number, header, authentication)?;
     test_jumbogram(packet, number == ip_number::IPV6_FRAG)?;
-    let exts_len = outline.extensions_len + header.len();
-    test_room(packet, exts_len, outline.payload_len, room)
+    let exts_len = summary.extensions_len + header.len();
+    test_room(packet, exts_len, summary.payload_len, room)
 }
 
 /// How far the headers are written.
@@ -297,7 +297,7 @@ fn write_headers(
         + length (bytes_of (inserted index h (dissected packet.now.bytes.now).headers))) result }
 {
     let written = write_so_far(packet, index, number, header, offset, out);
-    let count = packet.outline.header_count;
+    let count = packet.summary.header_count;
     if index == count {
         append(out, written.len, written.link, number, header);
         return written.len;
@@ -337,16 +337,16 @@ fn write_inserted(
         ++ drop (rewritten_len (dissected packet.now.bytes.now)
         (inserted index h (dissected packet.now.bytes.now).headers) (dissected packet.now.bytes.now).payload) out.old }
 {
-    let outline = &packet.outline;
-    let offset = number_offset(outline.version);
+    let summary = &packet.summary;
+    let offset = number_offset(summary.version);
     let link = write_headers(packet, index, number, header, offset, out);
     let payload = packet.payload();
-    let exts_len = outline.extensions_len + header.len();
+    let exts_len = summary.extensions_len + header.len();
     finish(
         packet,
         exts_len,
         link,
-        outline.next_header,
+        summary.next_header,
         payload,
         field,
         out,
@@ -388,9 +388,9 @@ pub fn with_header(
     let packet = Packet::walk(packet, &mut around);
     match test(&packet, &around, number, header, authentication, out.len()) {
         Ok(field) => {
-            let outline = &packet.outline;
-            let exts_len = outline.extensions_len + header.len();
-            let len = outline.base_len + exts_len + outline.payload_len;
+            let summary = &packet.summary;
+            let exts_len = summary.extensions_len + header.len();
+            let len = summary.base_len + exts_len + summary.payload_len;
             let keeps_checksums = !has_segments(number, header);
             write_inserted(&packet, index, number, header, field, out);
             Ok(Rewritten {

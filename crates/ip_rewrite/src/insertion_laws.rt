@@ -9,7 +9,7 @@ ghost use Rattle.ip_rewrite.specs.Without.{packet_fault, without, without_fault}
 ghost use Rattle.ip_rewrite.specs.Insertion.{inserted, insertion_fault};
 ghost use Rattle.ip_rewrite.specs.declared.which.Which.TheVariants.{Index};
 
-/// Proves that `without` can leave out the header that `with_header` inserted, and writes the old packet: without padding,
+/// Proves that `remove_header` can leave out the header that `with_header` inserted, and writes the old packet: without padding,
 /// and with the length and IPv4's checksum stated anew. That is the old packet byte by byte in IPv6, and in IPv4 if its
 /// length was stated and its checksum was right.
 pub fn what_was_inserted_can_be_left_out()

@@ -97,9 +97,9 @@ fn offset_stating(header: &[u8], len: usize) -> Option<usize>
 pub(crate) fn jumbo_offset(packet: &Packet<'_>) -> Option<usize>
     ensures { result ≡ jumbo_offset (dissected packet.now.bytes.now) }
 {
-    let outline = &packet.outline;
-    let len = outline.extensions_len + outline.payload_len;
-    if outline.stated_len.is_some() || outline.fragment.is_some() {
+    let summary = &packet.summary;
+    let len = summary.extensions_len + summary.payload_len;
+    if summary.stated_len.is_some() || summary.fragment.is_some() {
         return None;
     }
     if len <= 0xffff || len >= 0x1_0000_0000 {
@@ -115,7 +115,7 @@ pub(crate) fn jumbo_offset(packet: &Packet<'_>) -> Option<usize>
 pub(crate) fn test_jumbogram(packet: &Packet<'_>, ends: bool) -> Result<(), RewriteError>
     ensures { result_err result ≡ jumbo_fault ends (dissected packet.now.bytes.now) }
 {
-    if ends && packet.outline.stated_len.is_none() && jumbo_offset(packet).is_some() {
+    if ends && packet.summary.stated_len.is_none() && jumbo_offset(packet).is_some() {
         return Err(RewriteError::NotAJumbogram);
     }
     Ok(())
@@ -127,9 +127,9 @@ pub(crate) fn test_jumbogram(packet: &Packet<'_>, ends: bool) -> Result<(), Rewr
 pub(crate) fn test_unstated(packet: &Packet<'_>, len: usize) -> Result<(), RewriteError>
     ensures { result_err result ≡ unstated_fault (dissected packet.now.bytes.now) len }
 {
-    let outline = &packet.outline;
+    let summary = &packet.summary;
     if jumbo_offset(packet).is_none() {
-        if len == outline.extensions_len + outline.payload_len {
+        if len == summary.extensions_len + summary.payload_len {
             return Ok(());
         }
         return Err(RewriteError::NoLength);
@@ -154,6 +154,6 @@ pub(crate) fn state_jumbo(packet: &Packet<'_>, len: usize, out: &mut [u8])
 {
     if let Some(offset) = jumbo_offset(packet) {
         let option = jumbo_payload(len);
-        put_at(out, packet.outline.base_len + offset, &option);
+        put_at(out, packet.summary.base_len + offset, &option);
     }
 }

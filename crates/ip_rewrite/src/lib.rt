@@ -2,10 +2,10 @@
 //!
 //! | To | Call |
 //! |---|---|
-//! | leave out headers: the one with an index, or all with a number or several | `without`, with a `Which` |
+//! | leave out headers: the one with an index, or all with a number or several | `remove_header`, with a `Which` |
 //! | insert a header before the one with an index | `with_header`; `recommended_index` returns the index in the recommended order |
 //! | write another payload after the same headers | `with_payload` |
-//! | set the reserved bits of fragment and authentication headers to zero | `cleared` |
+//! | set the reserved bits of fragment and authentication headers to zero | `clear_reserved_bits` |
 //! | put the headers in the order that RFC 8200, section 4.1, recommends | `in_order` |
 //! | ask whether these two would change headers | `has_reserved_bits`, `is_in_order` |
 //! | leave out headers of several numbers, clear bits and put in order at once, where there is something to change | `rewrite` |
@@ -54,7 +54,7 @@ mod write;
 mod writer;
 
 pub use checksum_laws::written_checksums_are_right;
-pub use clearing::{cleared, has_reserved_bits};
+pub use clearing::{clear_reserved_bits, has_reserved_bits};
 pub use err::RewriteError;
 pub use insertion::with_header;
 pub use insertion_laws::what_was_inserted_can_be_left_out;
@@ -62,7 +62,7 @@ pub use order::{in_order, is_in_order};
 pub use order_laws::headers_are_put_in_order;
 pub use payload::with_payload;
 pub use place::recommended_index;
-pub use removal::{Rewritten, without};
+pub use removal::{Rewritten, remove_header};
 pub use request::Request;
 pub use rewriting::rewrite;
 pub use which::{Authentication, HeaderSet, Which};

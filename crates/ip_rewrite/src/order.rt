@@ -6,7 +6,7 @@ ghost use Rattle.std.proofs.Common.{rules, refl, subst, sym, append-nil};
 ghost use Rattle.ip_spec.specs.Chain.{ExtHeader, bytes_of};
 ghost use Rattle.ip_dissect.specs.Dissection.{DissectedParts, dissected};
 ghost use Rattle.ip_dissect.specs.Fragment.{fragments};
-ghost use Rattle.ip_dissect.specs.Outline.{outline_of};
+ghost use Rattle.ip_dissect.specs.Summary.{summary_of};
 ghost use Rattle.ip_rewrite.specs.Rewritten.{rewritten, rewritten_len, rewritten_field, rewritten_parts};
 ghost use Rattle.ip_rewrite.specs.Without.{is_authentication};
 ghost use Rattle.ip_rewrite.specs.Order.{in_order, is_in_order, order_fault, ordering_fault};
@@ -19,7 +19,7 @@ use crate::survey::fragments;
 use crate::write::{base_of, finish, number_offset, test_room};
 use crate::{Authentication, RewriteError, Rewritten};
 use ip_base::{IpNumber, ip_number};
-use ip_dissect::{HeaderVisitor, Outline, Packet};
+use ip_dissect::{HeaderVisitor, Packet, Summary};
 
 /// How many ranks there are.
 pub(crate) const RANKS: u8 = 5;
@@ -252,11 +252,11 @@ fn test(
     ensures base { OnOk result ((if (dissected packet.now.bytes.now).version == 4 then 20 else 40)
         ≤ length (dissected packet.now.bytes.now).base) }
 {
-    let outline = &packet.outline;
-    test_packet(outline)?;
+    let summary = &packet.summary;
+    test_packet(summary)?;
     let ordered = are_in_order(packet, contents.last_routing);
     test_order(contents, ordered, authentication)?;
-    test_room(packet, outline.extensions_len, outline.payload_len, room)
+    test_room(packet, summary.extensions_len, summary.payload_len, room)
 }
 
 /// Writes the packet with its headers in the recommended order.
@@ -277,15 +277,15 @@ fn write_ordered(packet: &Packet<'_>, last_routing: usize, field: u16, out: &mut
         ++ drop (rewritten_len (dissected packet.now.bytes.now)
         (in_order (dissected packet.now.bytes.now).headers) (dissected packet.now.bytes.now).payload) out.old }
 {
-    let outline = &packet.outline;
-    let offset = number_offset(outline.version);
+    let summary = &packet.summary;
+    let offset = number_offset(summary.version);
     let link = write_headers(packet, last_routing, offset, out);
     let payload = packet.payload();
     finish(
         packet,
-        outline.extensions_len,
+        summary.extensions_len,
         link,
-        outline.next_header,
+        summary.next_header,
         payload,
         field,
         out,
@@ -328,8 +328,8 @@ pub fn in_order(
     let packet = Packet::walk(packet, &mut contents);
     match test(&packet, &contents, authentication, out.len()) {
         Ok(field) => {
-            let outline = &packet.outline;
-            let len = outline.base_len + outline.extensions_len + outline.payload_len;
+            let summary = &packet.summary;
+            let len = summary.base_len + summary.extensions_len + summary.payload_len;
             write_ordered(&packet, contents.last_routing, field, out);
             Ok(Rewritten {
                 len,

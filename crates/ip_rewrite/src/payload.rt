@@ -4,7 +4,7 @@ ghost use Rattle.std.specs.List.{list_any};
 ghost use Rattle.std.specs.Result.{result_err};
 ghost use Rattle.std.proofs.Common.{rules};
 ghost use Rattle.ip_dissect.specs.Dissection.{DissectedParts, dissected};
-ghost use Rattle.ip_dissect.specs.Outline.{outline_of};
+ghost use Rattle.ip_dissect.specs.Summary.{summary_of};
 ghost use Rattle.ip_rewrite.specs.Rewritten.{is_extension, is_read_on, rewritten, rewritten_len, rewritten_field, rewritten_parts};
 ghost use Rattle.ip_rewrite.specs.Without.{is_authentication, packet_fault};
 ghost use Rattle.ip_rewrite.specs.Payload.{is_non_atomic, replacement_fault, payload_fault};
@@ -14,7 +14,7 @@ use crate::removal::test_packet;
 use crate::write::{copy_headers, finish, link_after, test_room};
 use crate::{Authentication, RewriteError, Rewritten};
 use ip_base::{IpNumber, ip_number};
-use ip_dissect::{FragmentKind, HeaderVisitor, Outline, Packet};
+use ip_dissect::{FragmentKind, HeaderVisitor, Packet, Summary};
 use ip_ext_slices::is_extension;
 
 /// What was seen of the headers before a payload.
@@ -42,10 +42,10 @@ impl HeaderVisitor for Seen {
 
 /// Returns whether a packet is a fragment, but not a whole packet with a fragment header.
 #[inline(always)]
-fn is_non_atomic(outline: &Outline) -> bool
-    ensures { (p : DissectedParts) → outline.now ≡ outline_of p → result ≡ is_non_atomic p }
+fn is_non_atomic(summary: &Summary) -> bool
+    ensures { (p : DissectedParts) → summary.now ≡ summary_of p → result ≡ is_non_atomic p }
 {
-    match outline.fragment {
+    match summary.fragment {
         Some(fragment) => !matches!(fragment.kind, FragmentKind::Atomic),
         None => false,
     }
@@ -62,12 +62,12 @@ pub(crate) fn is_extension_number(number: IpNumber) -> bool
 /// Returns whether bytes that start with this number would be read as one more header.
 #[tactic(auto, using(crate::proofs::PayloadLemmas::empty_count))]
 #[inline(always)]
-fn is_read_on(outline: &Outline, number: IpNumber) -> bool
-    ensures { (p : DissectedParts) → outline.now ≡ outline_of p
+fn is_read_on(summary: &Summary, number: IpNumber) -> bool
+    ensures { (p : DissectedParts) → summary.now ≡ summary_of p
         → result ≡ is_read_on p.version p.headers number.0 }
 {
-    if outline.version == 4 {
-        return outline.header_count == 0 && number == ip_number::AUTH;
+    if summary.version == 4 {
+        return summary.header_count == 0 && number == ip_number::AUTH;
     }
     is_extension_number(number)
 }
@@ -75,22 +75,22 @@ fn is_read_on(outline: &Outline, number: IpNumber) -> bool
 /// Returns why the payload can't be replaced by one with this number.
 #[inline(always)]
 fn test_replacement(
-    outline: &Outline,
+    summary: &Summary,
     has_authentication: bool,
     authentication: Authentication,
     number: IpNumber,
 ) -> Result<(), RewriteError>
-    ensures { (p : DissectedParts) → outline.now ≡ outline_of p
+    ensures { (p : DissectedParts) → summary.now ≡ summary_of p
         → has_authentication ≡ list_any is_authentication p.headers
         → result_err result ≡ replacement_fault authentication number.0 p }
 {
-    if is_non_atomic(outline) {
+    if is_non_atomic(summary) {
         return Err(RewriteError::Fragmented);
     }
     if has_authentication && authentication == Authentication::Valid {
         return Err(RewriteError::Authenticated);
     }
-    if is_read_on(outline, number) {
+    if is_read_on(summary, number) {
         return Err(RewriteError::HeaderFollows);
     }
     Ok(())
@@ -118,10 +118,10 @@ fn test(
     ensures base { OnOk result ((if (dissected packet.now.bytes.now).version == 4 then 20 else 40)
         ≤ length (dissected packet.now.bytes.now).base) }
 {
-    let outline = &packet.outline;
-    test_packet(outline)?;
-    test_replacement(outline, has_authentication, authentication, number)?;
-    test_room(packet, outline.extensions_len, payload.len(), room)
+    let summary = &packet.summary;
+    test_packet(summary)?;
+    test_replacement(summary, has_authentication, authentication, number)?;
+    test_room(packet, summary.extensions_len, payload.len(), room)
 }
 
 /// Writes the headers of a packet and this payload, to which `last`, the offset of the last header, leads.
@@ -148,12 +148,12 @@ fn write_payload(
         ++ drop (rewritten_len (dissected packet.now.bytes.now)
         (dissected packet.now.bytes.now).headers payload.now) out.old }
 {
-    let outline = &packet.outline;
-    let link = link_after(outline, last);
+    let summary = &packet.summary;
+    let link = link_after(summary, last);
     copy_headers(packet, out);
     finish(
         packet,
-        outline.extensions_len,
+        summary.extensions_len,
         link,
         number,
         payload,
@@ -197,8 +197,8 @@ pub fn with_payload(
         out.len(),
     ) {
         Ok(field) => {
-            let outline = &packet.outline;
-            let len = outline.base_len + outline.extensions_len + payload.len();
+            let summary = &packet.summary;
+            let len = summary.base_len + summary.extensions_len + payload.len();
             write_payload(&packet, seen.last, number, payload, field, out);
             Ok(Rewritten {
                 len,

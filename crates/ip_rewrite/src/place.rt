@@ -51,5 +51,5 @@ pub fn recommended_index(packet: &[u8], number: IpNumber) -> usize
         index: None,
     };
     Packet::walk(packet.bytes, &mut place);
-    place.index.unwrap_or(packet.outline.header_count)
+    place.index.unwrap_or(packet.summary.header_count)
 }

@@ -100,7 +100,7 @@ fn test_leaving(packet: &Packet<'_>, plan: &Plan, request: Request) -> Result<()
     if !plan.survey.selects {
         return Ok(());
     }
-    test_selection(&packet.outline, &plan.survey, request.authentication)?;
+    test_selection(&packet.summary, &plan.survey, request.authentication)?;
     let ends = request.without.selects(ip_number::IPV6_HOP_BY_HOP, 0);
     test_jumbogram(packet, ends)
 }
@@ -114,7 +114,7 @@ fn test_clearing(packet: &Packet<'_>, plan: &Plan, request: Request) -> Result<(
     if !request.clears {
         return Ok(());
     }
-    let is_fragment = is_ipv4_fragment(&packet.outline);
+    let is_fragment = is_ipv4_fragment(&packet.summary);
     test_reserved(is_fragment, &plan.reserved, request.authentication)
 }
 
@@ -147,10 +147,10 @@ pub(crate) fn test(
     ensures base { OnOk result ((if (dissected packet.now.bytes.now).version == 4 then 20 else 40)
         ≤ length (dissected packet.now.bytes.now).base) }
 {
-    let outline = &packet.outline;
-    test_packet(outline)?;
+    let summary = &packet.summary;
+    test_packet(summary)?;
     test_leaving(packet, plan, request)?;
     test_clearing(packet, plan, request)?;
     test_ordering(packet, plan, request)?;
-    test_room(packet, plan.survey.kept_len, outline.payload_len, room)
+    test_room(packet, plan.survey.kept_len, summary.payload_len, room)
 }

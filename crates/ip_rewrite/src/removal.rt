@@ -3,7 +3,7 @@ ghost use Rattle.std.specs.Prelude.{◌≡◌, ◌≤◌, ◌<◌, ◌+◌, ◌^
 ghost use Rattle.std.specs.Result.{result_err};
 ghost use Rattle.ip_dissect.specs.Dissection.{DissectedParts, dissected};
 ghost use Rattle.ip_spec.specs.Numbers.{AUTHENTICATION};
-ghost use Rattle.ip_dissect.specs.Outline.{is_later_end, outline_of};
+ghost use Rattle.ip_dissect.specs.Summary.{is_later_end, summary_of};
 ghost use Rattle.ip_rewrite.specs.Rewritten.{rewritten_field};
 ghost use Rattle.ip_rewrite.specs.Selection.{kept};
 ghost use Rattle.ip_rewrite.specs.Without.{packet_fault, is_ipv4_fragment, selection_fault, without, len_without, parts_without, without_fault, keeps_checksums};
@@ -17,7 +17,7 @@ use crate::survey::Survey;
 use crate::write::test_room;
 use crate::{Authentication, RewriteError, Which};
 use ip_base::ip_number;
-use ip_dissect::{Outline, Packet};
+use ip_dissect::{Packet, Summary};
 
 /// A packet that was written.
 #[derive(Clone, Copy, Debug, PartialEq, Eq)]
@@ -30,17 +30,17 @@ pub struct Rewritten {
 
 /// Returns why no packet can be made of this one, whatever is changed.
 #[inline(always)]
-pub(crate) fn test_packet(outline: &Outline) -> Result<(), RewriteError>
-    ensures fault { (p : DissectedParts) → outline.now ≡ outline_of p → result_err result ≡ packet_fault p }
-    ensures whole { OnOk result (outline.now.has_error ≡ false) }
+pub(crate) fn test_packet(summary: &Summary) -> Result<(), RewriteError>
+    ensures fault { (p : DissectedParts) → summary.now ≡ summary_of p → result_err result ≡ packet_fault p }
+    ensures whole { OnOk result (summary.now.has_error ≡ false) }
 {
-    if outline.has_error {
+    if summary.has_error {
         return Err(RewriteError::Headers);
     }
-    if outline.missing != 0 {
+    if summary.missing != 0 {
         return Err(RewriteError::Missing);
     }
-    if outline.version == 4 && outline.is_later_fragment {
+    if summary.version == 4 && summary.is_later_fragment {
         return Err(RewriteError::LaterFragment);
     }
     Ok(())
@@ -48,48 +48,48 @@ pub(crate) fn test_packet(outline: &Outline) -> Result<(), RewriteError>
 
 /// Returns whether an authentication header follows the headers in the part that is fragmented.
 #[inline(always)]
-pub(crate) fn authentication_follows(outline: &Outline) -> bool
-    ensures { (p : DissectedParts) → outline.now ≡ outline_of p
+pub(crate) fn authentication_follows(summary: &Summary) -> bool
+    ensures { (p : DissectedParts) → summary.now ≡ summary_of p
         → result ≡ (is_later_end p.end && (p.number == AUTHENTICATION)) }
 {
-    outline.is_later_fragment && outline.next_header == ip_number::AUTH
+    summary.is_later_fragment && summary.next_header == ip_number::AUTH
 }
 
 /// Returns whether the packet is an IPv4 fragment, by its base header.
 #[inline(always)]
-pub(crate) fn is_ipv4_fragment(outline: &Outline) -> bool
-    ensures { (p : DissectedParts) → outline.now ≡ outline_of p → result ≡ is_ipv4_fragment p }
+pub(crate) fn is_ipv4_fragment(summary: &Summary) -> bool
+    ensures { (p : DissectedParts) → summary.now ≡ summary_of p → result ≡ is_ipv4_fragment p }
 {
-    outline.version == 4 && outline.fragment.is_some()
+    summary.version == 4 && summary.fragment.is_some()
 }
 
 /// Returns why the headers that are selected can't be left out.
 #[inline(always)]
 pub(crate) fn test_selection(
-    outline: &Outline,
+    summary: &Summary,
     survey: &Survey,
     authentication: Authentication,
 ) -> Result<(), RewriteError>
-    ensures { (p : DissectedParts) → outline.now ≡ outline_of p
+    ensures { (p : DissectedParts) → summary.now ≡ summary_of p
         → survey.now ≡ surveyed (no_survey survey.now.which) p.headers
         → result_err result ≡ selection_fault survey.now.which authentication p }
 {
-    let is_ipv4 = outline.version == 4;
+    let is_ipv4 = summary.version == 4;
     if !survey.selects {
         return Err(RewriteError::NoHeader);
     }
     if survey.selects_fragmenting {
         return Err(RewriteError::FragmentHeader);
     }
-    if is_ipv4 & outline.fragment.is_some() | survey.selects_fragmented {
+    if is_ipv4 & summary.fragment.is_some() | survey.selects_fragmented {
         return Err(RewriteError::Fragmented);
     }
-    let has_authentication = survey.keeps_authentication | authentication_follows(outline);
+    let has_authentication = survey.keeps_authentication | authentication_follows(summary);
     let is_covered = has_authentication & survey.selects_covered;
     if is_covered && authentication == Authentication::Valid {
         return Err(RewriteError::Authenticated);
     }
-    if is_ipv4 && outline.next_header == ip_number::AUTH {
+    if is_ipv4 && summary.next_header == ip_number::AUTH {
         return Err(RewriteError::HeaderFollows);
     }
     Ok(())
@@ -113,12 +113,12 @@ fn test(
     ensures base { OnOk result ((if (dissected packet.now.bytes.now).version == 4 then 20 else 40)
         ≤ length (dissected packet.now.bytes.now).base) }
 {
-    let outline = &packet.outline;
-    test_packet(outline)?;
-    test_selection(outline, survey, authentication)?;
+    let summary = &packet.summary;
+    test_packet(summary)?;
+    test_selection(summary, survey, authentication)?;
     let ends = survey.which.selects(ip_number::IPV6_HOP_BY_HOP, 0);
     test_jumbogram(packet, ends)?;
-    test_room(packet, survey.kept_len, outline.payload_len, room)
+    test_room(packet, survey.kept_len, summary.payload_len, room)
 }
 
 /// Writes the packet without the extension headers that are selected, by what a survey holds after all headers. `first` is
@@ -146,8 +146,8 @@ fn write_surveyed(
     ensures stays { OnErr result (out.new ≡ out.old) }
 {
     let field = test(packet, survey, authentication, out.len())?;
-    let outline = &packet.outline;
-    let len = outline.base_len + survey.kept_len + outline.payload_len;
+    let summary = &packet.summary;
+    let len = summary.base_len + survey.kept_len + summary.payload_len;
     write_without(packet, survey.which, first, survey.kept_len, field, out);
     Ok(Rewritten {
         len,
@@ -175,14 +175,14 @@ fn without_first(
 {
     let mut later = Later::new();
     let packet = Packet::walk(packet, &mut later);
-    test_packet(&packet.outline)?;
+    test_packet(&packet.summary)?;
     let survey = survey_first(&packet, &later);
     let first = first_len(&packet, &survey);
     write_surveyed(&packet, &survey, first, authentication, out)
 }
 
 /// Writes a packet to the front of `out` without the extension headers that are selected, and nothing else changed.
-pub fn without(
+pub fn remove_header(
     packet: &[u8],
     which: Which,
     authentication: Authentication,
@@ -204,7 +204,7 @@ pub fn without(
     }
     let mut survey = Survey::new(which);
     let packet = Packet::walk(packet, &mut survey);
-    test_packet(&packet.outline)?;
+    test_packet(&packet.summary)?;
     let first = selected_first(&packet, which, survey.kept_len);
     write_surveyed(&packet, &survey, first, authentication, out)
 }

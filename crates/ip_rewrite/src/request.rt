@@ -7,7 +7,7 @@ use crate::{Authentication, Which};
 pub struct Request {
     /// The headers that are left out: none for `Which::Headers(HeaderSet::default())`.
     pub without: Which,
-    /// The reserved bits of the others are set to zero, as by `cleared`.
+    /// The reserved bits of the others are set to zero, as by `clear_reserved_bits`.
     pub clears: bool,
     /// The others are put in the recommended order, as by `in_order`.
     pub orders: bool,

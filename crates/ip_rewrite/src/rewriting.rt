@@ -31,15 +31,15 @@ fn write(packet: &Packet<'_>, plan: &Plan, request: Request, field: u16, out: &m
     ensures { out.new ≡ requested request (dissected packet.now.bytes.now)
         ++ drop (requested_len request (dissected packet.now.bytes.now)) out.old }
 {
-    let outline = &packet.outline;
-    let offset = number_offset(outline.version);
+    let summary = &packet.summary;
+    let offset = number_offset(summary.version);
     let link = write_changed(packet, request, plan.contents.last_routing, offset, out);
     let payload = packet.payload();
     finish(
         packet,
         plan.survey.kept_len,
         link,
-        outline.next_header,
+        summary.next_header,
         payload,
         field,
         out,
@@ -68,8 +68,8 @@ fn write_planned(
     ensures stays { OnErr result (out.new ≡ out.old) }
 {
     let field = test(packet, plan, request, out.len())?;
-    let outline = &packet.outline;
-    let len = outline.base_len + plan.survey.kept_len + outline.payload_len;
+    let summary = &packet.summary;
+    let len = summary.base_len + plan.survey.kept_len + summary.payload_len;
     write(packet, plan, request, field, out);
     Ok(Rewritten {
         len,

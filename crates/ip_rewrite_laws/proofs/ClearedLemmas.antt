@@ -5,7 +5,7 @@ use Rattle.std.proofs.lemmas.List.{set_comm}
 use Rattle.ip_spec.proofs.FragmentBitLemmas.{packed_reserved}
 use Rattle.ip_dissect.specs.Dissection.{DissectedParts}
 use Rattle.ip_dissect.specs.Fragment.{fragments}
-use Rattle.ip_defrag_laws.specs.Ipv6.{fragment_header_bytes}
+use Rattle.ip_defragmenter_laws.specs.Ipv6.{fragment_header_bytes}
 use Rattle.ip_rewrite.specs.Headers.{number_of_first, leading_to, linked_headers}
 use Rattle.ip_rewrite.specs.Clearing.{has_reserved, reserved_fragmented, reserved_fault, clearing_fault}
 use Rattle.ip_rewrite.specs.Without.{packet_fault}

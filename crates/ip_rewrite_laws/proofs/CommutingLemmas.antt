@@ -14,16 +14,16 @@ use Rattle.ip_dissect.specs.Dissection.{DissectedParts, dissected}
 use Rattle.ip_dissect.specs.End.{has_error}
 use Rattle.ip_dissect.specs.Fragment.{fragments, is_fragment_header}
 use Rattle.ip_dissect.specs.Later.{chain_to_later}
-use Rattle.ip_dissect.specs.Outline.{IsBaseOf}
+use Rattle.ip_dissect.specs.Summary.{IsBaseOf}
 use Rattle.ip_dissect.specs.declared.dissection.BaseHeader.TheVariants.{Ipv6}
 use Rattle.ip_dissect.proofs.DissectedLemmas.{base_some6}
 use Rattle.ip_dissect.proofs.LaterLemmas.{may_follow, met}
 use Rattle.ip_defragmenter.specs.Sent.{IsSentIpv6}
 use Rattle.ip_defragmenter.specs.Split.{link_after}
-use Rattle.ip_defrag_laws.specs.Piece.{piece_from}
-use Rattle.ip_defrag_laws.specs.Ipv6.{IsIpv6Fragment, IsIpv6Part, fragment_header_bytes, ipv6_fragment_bytes}
-use Rattle.ip_defrag_laws.proofs.Ipv6Lemmas.{begins_chain, none_later, short6}
-use Rattle.ip_defrag_laws.proofs.Ipv6FragmentLemmas.{flag_is, ipv6_made, offset_is}
+use Rattle.ip_defragmenter_laws.specs.Piece.{piece_from}
+use Rattle.ip_defragmenter_laws.specs.Ipv6.{IsIpv6Fragment, IsIpv6Part, fragment_header_bytes, ipv6_fragment_bytes}
+use Rattle.ip_defragmenter_laws.proofs.Ipv6Lemmas.{begins_chain, none_later, short6}
+use Rattle.ip_defragmenter_laws.proofs.Ipv6FragmentLemmas.{flag_is, ipv6_made, offset_is}
 use Rattle.ip_spec.proofs.ClearedLemmas.{cleared_is_chain}
 use Rattle.ip_rewrite.specs.Base.{length_field}
 use Rattle.ip_rewrite.specs.Clearing.{reserved_fragmented, clearing_fault}

@@ -6,7 +6,7 @@ use Rattle.ip_base.specs.Checksum.{with_word}
 use Rattle.ip_base.proofs.ChecksumLemmas.{word_len}
 use Rattle.ip_defragmenter.specs.Sent.{ipv6_first}
 use Rattle.ip_defragmenter.specs.Split.{link_after}
-use Rattle.ip_defrag_laws.specs.Ipv6.{fragment_header_bytes, ipv6_fragment_bytes}
+use Rattle.ip_defragmenter_laws.specs.Ipv6.{fragment_header_bytes, ipv6_fragment_bytes}
 use Rattle.ip_rewrite.specs.Headers.{number_of_first, linked_headers}
 use Rattle.ip_rewrite.specs.Writing.{front_with, link_of}
 use Rattle.ip_rewrite.proofs.ChainLemmas.{AreHeaders}

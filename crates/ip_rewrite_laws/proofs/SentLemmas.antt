@@ -8,7 +8,7 @@ use Rattle.ip_spec.proofs.HeaderLemmas.{header-least}
 use Rattle.ip_dissect.specs.Fragment.{is_fragment_header}
 use Rattle.ip_defragmenter.specs.Sent.{IsSentIpv6}
 use Rattle.ip_defragmenter.specs.Split.{link_after}
-use Rattle.ip_defrag_laws.specs.Ipv6.{IsIpv6Part}
+use Rattle.ip_defragmenter_laws.specs.Ipv6.{IsIpv6Part}
 use Rattle.ip_rewrite.specs.Headers.{is_options, number_of_first, linked_headers}
 use Rattle.ip_rewrite.specs.Insertion.{inserted}
 use Rattle.ip_rewrite.specs.Selection.{selects, kept_from}

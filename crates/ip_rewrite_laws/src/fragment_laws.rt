@@ -13,12 +13,12 @@ ghost use Rattle.ip_rewrite.specs.Selection.{kept};
 ghost use Rattle.ip_rewrite.specs.Without.{without, without_fault};
 ghost use Rattle.ip_rewrite.specs.declared.which.Authentication.{Authentication};
 ghost use Rattle.ip_rewrite.specs.declared.which.Which.{Which};
-ghost use Rattle.ip_defrag_laws.specs.Ipv6.{IsIpv6Fragment, IsIpv6Part, ipv6_fragment_bytes};
-ghost use Rattle.ip_defrag_laws.specs.Piece.{piece_from};
+ghost use Rattle.ip_defragmenter_laws.specs.Ipv6.{IsIpv6Fragment, IsIpv6Part, ipv6_fragment_bytes};
+ghost use Rattle.ip_defragmenter_laws.specs.Piece.{piece_from};
 
 /// Proves that a packet that is fragmented after the extension headers `c` can be rewritten before or after that, if all headers
 /// that are selected are among `c`: a fragment without them is the same fragment of the packet without them. So with the laws
-/// of `ip_defrag_laws` the fragments without these headers make the packet without them whole. A header that is no fragment
+/// of `ip_defragmenter_laws` the fragments without these headers make the packet without them whole. A header that is no fragment
 /// header can be inserted before or after fragmentation, too, if the packet isn't too long for its length field then, and
 /// reserved bits can be cleared if none is 1 in the fragmented part.
 pub fn fragments_are_rewritten_as_their_packet()

@@ -1,6 +1,6 @@
 //! Laws of `ip_rewrite`. One is for IPv6 packets that are fragmented (RFC 8200, section 4.5): headers before the fragment
 //! header can be left out or inserted, or their reserved bits cleared, in the packet or in each fragment. Both give the
-//! same fragments of the rewritten packet, which by `ip_defrag_laws` make it whole.
+//! same fragments of the rewritten packet, which by `ip_defragmenter_laws` make it whole.
 //!
 //! | Clauses of `fragments_are_rewritten_as_their_packet` | What they say |
 //! |---|---|

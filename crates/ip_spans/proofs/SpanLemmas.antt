@@ -3,9 +3,9 @@ use Rattle.ip_spec.proofs.Common.{◌≡◌, ℕ, ◌+◌, ◌<◌, ◌≤◌, L
 use Rattle.std.proofs.Common.{set, add-zero}
 use Rattle.ip_spans.specs.HeaderSpan.{header_span, spans_from, filled}
 use Rattle.ip_dissect.specs.Dissection.{dissected}
-use Rattle.ip_dissect.specs.Outline.{outline_of, IsBaseOf}
+use Rattle.ip_dissect.specs.Summary.{summary_of, IsBaseOf}
 use Rattle.ip_dissect.specs.declared.dissection.BaseHeader.{BaseHeader}
-use Rattle.ip_dissect.proofs.PacketLemmas.{outline_fits}
+use Rattle.ip_dissect.proofs.PacketLemmas.{summary_fits}
 use Rattle.ip_spans.specs.DissectionParts.{dissection_parts}
 use Rattle.ip_spans.specs.declared.header_span.HeaderSpan.{HeaderSpan}
 use Rattle.ip_spans.specs.declared.dissection_parts.DissectionParts.{DissectionParts}
@@ -52,4 +52,4 @@ module _ (old xs : List HeaderSpan) (k i j : ℕ) (c : List ExtHeader) (h : ExtH
   span_left full = before ∙ no_room (header_span j h) (spans_from k c) old (omega (arith, full, at, len)) ∙ more
 
 pub dissection_fits : (s : List ℕ) (b : Option BaseHeader) (x : DissectionParts) → IsBaseOf s b → x ≡ dissection_parts (dissected s) → x.payload_offset + x.payload_len + x.padding ≡ length s
-dissection_fits s b x base is = ap (λ (y : DissectionParts). y.payload_offset + y.payload_len + y.padding) is ∙ outline_fits s b (outline_of (dissected s)) base refl
+dissection_fits s b x base is = ap (λ (y : DissectionParts). y.payload_offset + y.payload_len + y.padding) is ∙ summary_fits s b (summary_of (dissected s)) base refl

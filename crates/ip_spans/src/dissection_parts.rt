@@ -107,19 +107,19 @@ impl DissectionParts {
     pub fn put(&mut self, packet: &Packet<'_>)
         ensures { self.new ≡ dissection_parts (dissected packet.now.bytes.now) }
     {
-        let outline = &packet.outline;
-        self.base_len = outline.base_len;
-        self.stated_len = outline.stated_len.unwrap_or(0);
-        self.headers = outline.header_count;
-        self.payload_offset = outline.base_len + outline.extensions_len;
-        self.payload_len = outline.payload_len;
-        self.missing = outline.missing;
-        self.padding = outline.padding_len;
-        self.put_fragment(outline.fragment);
-        self.version = u16::from(outline.version);
-        self.payload_number = u16::from(outline.next_header.0);
+        let summary = &packet.summary;
+        self.base_len = summary.base_len;
+        self.stated_len = summary.stated_len.unwrap_or(0);
+        self.headers = summary.header_count;
+        self.payload_offset = summary.base_len + summary.extensions_len;
+        self.payload_len = summary.payload_len;
+        self.missing = summary.missing;
+        self.padding = summary.padding_len;
+        self.put_fragment(summary.fragment);
+        self.version = u16::from(summary.version);
+        self.payload_number = u16::from(summary.next_header.0);
         // In two branches, so that an error's fields are read where they were stored, and aren't moved first.
-        if outline.has_error {
+        if summary.has_error {
             let end = packet.end();
             self.fault
                 .put(FaultFields::of_end(self.payload_offset, &end));

@@ -10,7 +10,7 @@ use crate::headers::count_none;
 use crate::lengths::count_length;
 use ip_codes::{end_code_of, kind_code_of};
 use ip_dissect::FragmentKind::{Atomic, First, Last, Middle};
-use ip_dissect::{End, Fragment, FragmentKind, Outline, Packet, WalkVisitor};
+use ip_dissect::{End, Fragment, FragmentKind, Packet, Summary, WalkVisitor};
 
 /// The codes of ends.
 mod at {
@@ -48,7 +48,7 @@ fn payload_bytes(end: &End, len: usize) -> u64
 impl Statistics {
     ghost use Rattle.std.specs.Prelude.{ℕ, List, ◌∷◌};
     ghost use Rattle.ip_dissect.specs.Dissection.{DissectedParts, dissected};
-    ghost use Rattle.ip_dissect.specs.Outline.{outline_of};
+    ghost use Rattle.ip_dissect.specs.Summary.{summary_of};
     ghost use Rattle.ip_statistics.specs.Packet.{counts_of};
     ghost use Rattle.ip_statistics.specs.Statistics.{merged};
     ghost use Rattle.ip_statistics.specs.Lists.{statistics_of};
@@ -75,26 +75,26 @@ impl Statistics {
         Packet::walk_through(bytes, &mut (self, visitor));
     }
 
-    /// Adds all counts of a packet with this outline and end but those of its extension headers by number.
+    /// Adds all counts of a packet with this summary and end but those of its extension headers by number.
     #[inline(always)]
-    fn add_outline(&mut self, outline: &Outline, end: &End)
-        ensures { (p : DissectedParts) → outline.now ≡ outline_of p → end.now ≡ p.end
+    fn add_summary(&mut self, summary: &Summary, end: &End)
+        ensures { (p : DissectedParts) → summary.now ≡ summary_of p → end.now ≡ p.end
             → self.new ≡ record (merged self.old (counts_of p)) { headers = self.old.headers } }
     {
-        count_if(&mut self.ipv6, outline.version == 6);
-        count_if(&mut self.ipv4, outline.version == 4);
-        count_if(&mut self.without_header, outline.version == 0);
+        count_if(&mut self.ipv6, summary.version == 6);
+        count_if(&mut self.ipv4, summary.version == 4);
+        count_if(&mut self.without_header, summary.version == 0);
         add(&mut self.packets, 1);
-        count_if(&mut self.incomplete, outline.missing != 0);
-        let fragment = outline.fragment;
+        count_if(&mut self.incomplete, summary.missing != 0);
+        let fragment = summary.fragment;
         count_if(&mut self.atomic_fragments, is_of_kind(fragment, Atomic));
         count_if(&mut self.first_fragments, is_of_kind(fragment, First));
         count_if(&mut self.middle_fragments, is_of_kind(fragment, Middle));
         count_if(&mut self.last_fragments, is_of_kind(fragment, Last));
-        let has_chain = outline.version != 0;
-        let header_count = outline.header_count.min(16);
+        let has_chain = summary.version != 0;
+        let header_count = summary.header_count.min(16);
         count_at(&mut self.chain_headers, header_count, has_chain);
-        count_length(&mut self.chain_bytes, outline.extensions_len, has_chain);
+        count_length(&mut self.chain_bytes, summary.extensions_len, has_chain);
         let code = end_code_of(end);
         count_if(&mut self.at_payload, code == at::PAYLOAD);
         count_if(&mut self.at_later_fragment, code == at::LATER_FRAGMENT);
@@ -109,9 +109,9 @@ impl Statistics {
         count_at(&mut self.faults, index_of(end), code == at::FAULT);
         add(
             &mut self.payload_bytes,
-            payload_bytes(end, outline.payload_len),
+            payload_bytes(end, summary.payload_len),
         );
-        let number = usize::from(outline.next_header.0);
+        let number = usize::from(summary.next_header.0);
         count_at(&mut self.payload_numbers, number, code == at::PAYLOAD);
         count_at(
             &mut self.later_fragment_numbers,
@@ -132,6 +132,6 @@ impl WalkVisitor for Statistics {
     /// Adds all counts of the packet but those of its extension headers by number, which `visit` has added.
     #[inline(always)]
     fn end(&mut self, packet: &Packet<'_>) {
-        self.add_outline(&packet.outline, &packet.end());
+        self.add_summary(&packet.summary, &packet.end());
     }
 }

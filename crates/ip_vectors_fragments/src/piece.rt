@@ -2,7 +2,7 @@
 use crate::text::Words;
 use anyhow::{Context, Result, bail};
 use ip_base::IpFragOffset;
-use ip_defrag::{AddError, Progress, Reassembly};
+use ip_reassembly::{AddError, Progress, Reassembly};
 
 /// A fragment: its offset in units of 8 bytes, its flag, its length, and which of two payloads its bytes are from.
 #[derive(Clone, Copy, Debug, PartialEq, Eq)]

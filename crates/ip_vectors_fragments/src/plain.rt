@@ -1,7 +1,7 @@
 //! Lists of fragments in every order and at random, compared with a plain program that looks at each byte.
 use crate::piece::{Piece, add, byte_at, has_payload};
 use anyhow::{Context, Result, ensure};
-use ip_defrag::Reassembly;
+use ip_reassembly::Reassembly;
 
 /// No fragment.
 const NO_PIECE: Piece = Piece {

@@ -5,7 +5,7 @@ use crate::plain::{every_order, random_lists, shuffles};
 use crate::report::Report;
 use crate::text::{Words, yes};
 use anyhow::{Result, bail, ensure};
-use ip_defrag::Reassembly;
+use ip_reassembly::Reassembly;
 use std::alloc::{AllocError, Global};
 
 /// Returns a reassembly that abandons its packet by itself after a conflict, or doesn't.

@@ -6,8 +6,8 @@ use crate::text::{Words, yes};
 use anyhow::{Result, bail, ensure};
 use ip_base::IpNumber;
 use ip_rewrite::{
-    Authentication, RewriteError, Rewritten, Which, cleared, has_reserved_bits, in_order,
-    is_in_order, recommended_index, with_header, with_payload, without,
+    Authentication, RewriteError, Rewritten, Which, clear_reserved_bits, has_reserved_bits,
+    in_order, is_in_order, recommended_index, remove_header, with_header, with_payload,
 };
 use std::alloc::Global;
 
@@ -117,9 +117,9 @@ fn write(
     Ok(match call {
         "without" => {
             let which = which(words)?;
-            without(&names.bytes(words)?, which, authentication, out)
+            remove_header(&names.bytes(words)?, which, authentication, out)
         }
-        "cleared" => cleared(&names.bytes(words)?, authentication, out),
+        "cleared" => clear_reserved_bits(&names.bytes(words)?, authentication, out),
         "in-order" => in_order(&names.bytes(words)?, authentication, out),
         "with-header" => {
             let number = number(words)?;

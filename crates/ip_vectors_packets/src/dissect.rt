@@ -1,6 +1,6 @@
 //! Whole packets dissected: each part of each row is worked out by hand from RFC 791, RFC 4302 and RFC 8200.
 use crate::checks::assert_same;
-use crate::plain_outline::plain_outline;
+use crate::plain_summary::plain_summary;
 use crate::samples::{ipv4_bytes, ipv6_bytes, len_error_at};
 use etherparse_ip::LenSource;
 use etherparse_ip::err::ip::{HeadersError, SliceError};
@@ -53,17 +53,17 @@ fn check(
     assert_same(rt, name, plain_numbers(bytes), wanted);
 }
 
-/// Returns the parts of a packet without extension headers that is no fragment, by its outline.
+/// Returns the parts of a packet without extension headers that is no fragment, by its summary.
 fn plain_numbers(bytes: &[u8]) -> Option<Numbers> {
-    let outline = plain_outline(bytes)?;
+    let summary = plain_summary(bytes)?;
     Some((
-        outline.base_len,
-        outline.stated_len,
-        outline.extensions_len,
-        outline.next_header.0,
-        outline.payload_len,
-        outline.missing,
-        outline.padding_len,
+        summary.base_len,
+        summary.stated_len,
+        summary.extensions_len,
+        summary.next_header.0,
+        summary.payload_len,
+        summary.missing,
+        summary.padding_len,
     ))
 }
 

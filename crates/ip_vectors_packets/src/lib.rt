@@ -24,9 +24,9 @@ mod options;
 #[cfg(test)]
 mod packets;
 #[cfg(test)]
-mod plain_outline;
-#[cfg(test)]
 mod plain_packets;
+#[cfg(test)]
+mod plain_summary;
 #[cfg(test)]
 mod ports;
 #[cfg(test)]

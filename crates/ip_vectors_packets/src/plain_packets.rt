@@ -1,7 +1,7 @@
 //! Packets without extension headers beside others that differ in little, and what filters say of each. What holds of
 //! each packet is worked out by hand from RFC 791, RFC 4302 and RFC 8200.
 use crate::checks::assert_same;
-use crate::plain_outline::plain_outline;
+use crate::plain_summary::plain_summary;
 use crate::samples::{ipv4_bytes, ipv6_bytes};
 use ip_filter::Filter;
 use std::alloc::Global;
@@ -29,7 +29,7 @@ fn check_formula(rt: &impl Abort, name: &str, text: &str, bytes: &[u8], wanted: 
 
 /// Checks the row.
 fn check(rt: &impl Abort, row: &Row<'_>, bytes: &[u8]) {
-    let is_plain = plain_outline(bytes).is_some();
+    let is_plain = plain_summary(bytes).is_some();
     assert_same(rt, row.name, is_plain, row.is_plain);
     for text in row.holding {
         check_formula(rt, row.name, text, bytes, true);

@@ -6,13 +6,13 @@ use crate::errors::add_chain_error;
 use crate::filter::parsed;
 use crate::lines::{Lines, add_answers};
 use crate::packets::{Packet, ipv6};
-use crate::parse::{add_chain, add_dissection, add_outline, add_packet};
+use crate::parse::{add_chain, add_dissection, add_packet, add_summary};
 use crate::random::{Random, Weyl};
 use crate::rewrite::{read, rewrite, rewrite_runs};
 use crate::statistics::add_statistics;
 use anyhow::Result;
 use ip_base::IpNumber;
-use ip_dissect::{dissect, outline_packet};
+use ip_dissect::{dissect, summarize_packet};
 use ip_ext_chains::Ipv6Extensions;
 use ip_filter::Filter;
 use ip_statistics::Statistics;
@@ -118,7 +118,7 @@ fn add_all(packet: &Packet, filter: &Filter, counts: &mut Statistics, digest: &m
     counts.count_packet(bytes);
     add_packet(digest, bytes);
     add_dissection(digest, &dissect(bytes));
-    add_outline(digest, &outline_packet(bytes));
+    add_summary(digest, &summarize_packet(bytes));
     let (start, rest) = packet.after_base();
     add_chain(digest, start, rest);
 }

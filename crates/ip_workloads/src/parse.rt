@@ -1,4 +1,4 @@
-//! A program parses packets: as a whole, their chains alone with each header, as a dissection and as an outline.
+//! A program parses packets: as a whole, their chains alone with each header, as a dissection and as a summary.
 use crate::digest::Digest;
 use crate::errors::{add_fault, add_layer, add_packet_error, add_truncated};
 use crate::packets::{Packet, mixed, with_headers};
@@ -6,7 +6,7 @@ use crate::random::{Random, Weyl};
 use anyhow::Result;
 use etherparse_ip::IpSlice;
 use ip_base::IpNumber;
-use ip_dissect::{Dissection, End, Outline, dissect, outline_packet};
+use ip_dissect::{Dissection, End, Summary, dissect, summarize_packet};
 use ip_ext_slices::Ipv6ExtensionsSlice;
 use std::alloc::Global;
 
@@ -73,20 +73,20 @@ pub fn add_dissection(digest: &mut Digest, packet: &Dissection<'_>) {
     add_end(digest, &packet.end);
 }
 
-/// Adds the lengths of an outline.
+/// Adds the lengths of a summary.
 #[inline(always)]
-pub fn add_outline(digest: &mut Digest, outline: &Option<Outline>) {
-    match outline {
-        Some(outline) => {
-            let number = usize::from(outline.next_header.0);
-            let is_later = usize::from(outline.is_later_fragment);
+pub fn add_summary(digest: &mut Digest, summary: &Option<Summary>) {
+    match summary {
+        Some(summary) => {
+            let number = usize::from(summary.next_header.0);
+            let is_later = usize::from(summary.is_later_fragment);
             digest.add_four([
-                outline.payload_len,
+                summary.payload_len,
                 number,
-                outline.extensions_len,
+                summary.extensions_len,
                 is_later,
             ]);
-            digest.add_len(outline.header_count);
+            digest.add_len(summary.header_count);
         }
         None => digest.add(256),
     }
@@ -100,7 +100,7 @@ fn pass(packets: &mut [Packet], weyl: &mut Weyl, digest: &mut Digest) {
         let bytes = packet.bytes();
         add_packet(digest, bytes);
         add_dissection(digest, &dissect(bytes));
-        add_outline(digest, &outline_packet(bytes));
+        add_summary(digest, &summarize_packet(bytes));
         if packet.base_len == 40 {
             let (start, rest) = packet.after_base();
             add_chain(digest, start, rest);

@@ -1,13 +1,14 @@
 //! A border takes extension headers out of packets, inserts one, sets reserved bits to zero, and replaces payloads.
 use crate::digest::Digest;
 use crate::packets::{Packet, ipv4, with_headers};
-use crate::parse::add_outline;
+use crate::parse::add_summary;
 use crate::random::{Random, Weyl};
 use anyhow::Result;
 use ip_base::{IpNumber, ip_number};
-use ip_dissect::outline_packet;
+use ip_dissect::summarize_packet;
 use ip_rewrite::{
-    Authentication, RewriteError, Rewritten, Which, cleared, with_header, with_payload, without,
+    Authentication, RewriteError, Rewritten, Which, clear_reserved_bits, remove_header,
+    with_header, with_payload,
 };
 use std::alloc::{AllocError, Global};
 
@@ -55,13 +56,13 @@ fn add_rewritten(
 pub fn rewrite(packet: &Packet, index: usize, out: &mut [u8], digest: &mut Digest) {
     let bytes = packet.bytes();
     let headers_len = packet.base_len.saturating_add(packet.chain_len);
-    add_outline(digest, &outline_packet(bytes));
-    let kept = without(bytes, Which::Index(index), Authentication::Invalid, out);
+    add_summary(digest, &summarize_packet(bytes));
+    let kept = remove_header(bytes, Which::Index(index), Authentication::Invalid, out);
     add_rewritten(digest, &kept, headers_len, out);
     let number = ip_number::IPV6_DEST_OPTIONS;
     let inserted = with_header(bytes, number, &OPTIONS, index, Authentication::Invalid, out);
     add_rewritten(digest, &inserted, headers_len, out);
-    let zeroed = cleared(bytes, Authentication::Invalid, out);
+    let zeroed = clear_reserved_bits(bytes, Authentication::Invalid, out);
     add_rewritten(digest, &zeroed, headers_len, out);
     let replaced = with_payload(bytes, IpNumber(17), &PAYLOAD, Authentication::Invalid, out);
     add_rewritten(digest, &replaced, headers_len, out);

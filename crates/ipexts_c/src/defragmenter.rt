@@ -2,7 +2,7 @@
 ghost use Rattle.std.specs.Prelude.{◌≡◌, ◌≤◌, ◌<◌, ◌+◌, ◌++◌, ◌∷◌, ◌↔◌, ℕ, List, [], length, drop, slice_get, slice_set, if◌then◌else◌, true, false, IsTrue, Ok, Err, Some, None};
 ghost use Rattle.std.specs.List.{range_with_len};
 ghost use Rattle.ip_dissect.specs.Dissection.{dissected};
-ghost use Rattle.ip_defrag.specs.Received.{payload_in};
+ghost use Rattle.ip_reassembly.specs.Received.{payload_in};
 ghost use Rattle.ip_lists.specs.Moves.{without};
 ghost use Rattle.ip_defragmenter.specs.FragmentOf.{FragmentParts, packet_fragment};
 ghost use Rattle.ip_defragmenter.specs.Added.{IsAdded, added_nothing};

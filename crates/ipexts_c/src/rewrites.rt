@@ -19,8 +19,9 @@ ghost use Rattle.ipexts_c.specs.Rewrites.{with_number, authentication, refusal_c
 use crate::bytes::Bytes;
 use ip_base::IpNumber;
 use ip_rewrite::{
-    Authentication, HeaderSet, Request, RewriteError, Rewritten, Which, cleared, has_reserved_bits,
-    in_order, is_in_order, recommended_index, rewrite, with_header, with_payload, without,
+    Authentication, HeaderSet, Request, RewriteError, Rewritten, Which, clear_reserved_bits,
+    has_reserved_bits, in_order, is_in_order, recommended_index, remove_header, rewrite,
+    with_header, with_payload,
 };
 
 /// A packet that was written, or why none was, as numbers.
@@ -199,7 +200,7 @@ fn stored(outcome: Result<Rewritten, RewriteError>, rewritten: &mut RewrittenFie
     }
 }
 
-/// Calls `without`, as `wolfaren_without_number` does. With one caller `without` is inlined, and its result isn't moved.
+/// Calls `remove_header`, as `wolfaren_remove_headers` does. With one caller `remove_header` is inlined, and its result isn't moved.
 fn write_without(
     bytes: &[u8],
     which: Which,
@@ -219,14 +220,14 @@ fn write_without(
         ≡ Some e) }
     ensures same { result ≡ false → out.new ≡ out.old }
 {
-    let outcome = without(bytes, which, authentication(may_be_invalid), out);
+    let outcome = remove_header(bytes, which, authentication(may_be_invalid), out);
     stored(outcome, rewritten)
 }
 
-/// Calls `without` for all headers with a number. Returns whether the packet was written, and stores its length or why it
+/// Calls `remove_header` for all headers with a number. Returns whether the packet was written, and stores its length or why it
 /// wasn't written in `rewritten`.
 #[unsafe(no_mangle)]
-pub extern "C" fn wolfaren_without_number(
+pub extern "C" fn wolfaren_remove_headers(
     bytes: Bytes<'_>,
     number: u8,
     may_be_invalid: bool,
@@ -250,9 +251,9 @@ pub extern "C" fn wolfaren_without_number(
     write_without(bytes.slice(), which, may_be_invalid, out, rewritten)
 }
 
-/// Calls `without` for the header with an index, as `wolfaren_without_number` does for those with a number.
+/// Calls `remove_header` for the header with an index, as `wolfaren_remove_headers` does for those with a number.
 #[unsafe(no_mangle)]
-pub extern "C" fn wolfaren_without_index(
+pub extern "C" fn wolfaren_remove_header(
     bytes: Bytes<'_>,
     index: usize,
     may_be_invalid: bool,
@@ -276,7 +277,7 @@ pub extern "C" fn wolfaren_without_index(
     write_without(bytes.slice(), which, may_be_invalid, out, rewritten)
 }
 
-/// Calls `with_header`, as `wolfaren_without_number` calls `without`.
+/// Calls `with_header`, as `wolfaren_remove_headers` calls `remove_header`.
 #[unsafe(no_mangle)]
 pub extern "C" fn wolfaren_with_header(
     bytes: Bytes<'_>,
@@ -323,7 +324,7 @@ pub extern "C" fn wolfaren_recommended_index(bytes: Bytes<'_>, number: u8) -> us
     recommended_index(bytes.slice(), IpNumber(number))
 }
 
-/// Calls `with_payload`, as `wolfaren_without_number` calls `without`.
+/// Calls `with_payload`, as `wolfaren_remove_headers` calls `remove_header`.
 #[unsafe(no_mangle)]
 pub extern "C" fn wolfaren_with_payload(
     bytes: Bytes<'_>,
@@ -364,9 +365,9 @@ pub extern "C" fn wolfaren_has_reserved_bits(bytes: Bytes<'_>) -> bool
     has_reserved_bits(bytes.slice())
 }
 
-/// Calls `cleared`, as `wolfaren_without_number` calls `without`.
+/// Calls `clear_reserved_bits`, as `wolfaren_remove_headers` calls `remove_header`.
 #[unsafe(no_mangle)]
-pub extern "C" fn wolfaren_cleared(
+pub extern "C" fn wolfaren_clear_reserved_bits(
     bytes: Bytes<'_>,
     may_be_invalid: bool,
     out: &mut [u8],
@@ -386,7 +387,7 @@ pub extern "C" fn wolfaren_cleared(
         (dissected bytes.entry.slice.now) (length out.old) ≡ Some e) }
     ensures same { result ≡ false → out.new ≡ out.old }
 {
-    let outcome = cleared(bytes.slice(), authentication(may_be_invalid), out);
+    let outcome = clear_reserved_bits(bytes.slice(), authentication(may_be_invalid), out);
     stored(outcome, rewritten)
 }
 
@@ -400,7 +401,7 @@ pub extern "C" fn wolfaren_is_in_order(bytes: Bytes<'_>) -> bool
     is_in_order(bytes.slice())
 }
 
-/// Calls `in_order`, as `wolfaren_without_number` calls `without`.
+/// Calls `in_order`, as `wolfaren_remove_headers` calls `remove_header`.
 #[unsafe(no_mangle)]
 pub extern "C" fn wolfaren_in_order(
     bytes: Bytes<'_>,
@@ -426,7 +427,7 @@ pub extern "C" fn wolfaren_in_order(
     stored(outcome, rewritten)
 }
 
-/// Calls `rewrite`, as `wolfaren_without_number` calls `without`. If the request changes no header, the refusal is 0.
+/// Calls `rewrite`, as `wolfaren_remove_headers` calls `remove_header`. If the request changes no header, the refusal is 0.
 #[unsafe(no_mangle)]
 pub extern "C" fn wolfaren_rewrite(
     bytes: Bytes<'_>,

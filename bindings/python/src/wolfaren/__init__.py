@@ -9,8 +9,8 @@ from ._dissection import (Dissection, End, ExtensionHeader, Fault, FaultKind, Fr
                           LenSource, UnknownOption, dissect, protocol_name)
 from ._filter import Filter, FilterError
 from ._many import SpanError, dissect_many
-from ._rewrite import (Refusal, RewriteError, Rewritten, cleared, has_reserved_bits, in_order, is_in_order, rewrite,
-                       with_header, with_payload, without)
+from ._rewrite import (Refusal, RewriteError, Rewritten, clear_reserved_bits, has_reserved_bits, in_order, is_in_order,
+                       remove_header, rewrite, with_header, with_payload)
 from ._statistics import MOST, CaptureError, CaptureOSError, CaptureWarning, Statistics, statistics_of
 from ._table import table
 
@@ -19,5 +19,6 @@ __version__ = "0.1.0"
 __all__ = ["MOST", "CaptureError", "CaptureOSError", "CaptureWarning", "Defragmenter", "Dissection", "End",
            "ExtensionHeader", "Fault", "FaultKind", "Filter", "FilterError", "Fragment", "FragmentKind", "HeaderOption",
            "Layer", "LenSource", "Packet", "Refusal", "RewriteError", "Rewritten", "SpanError", "Statistics",
-           "UnknownOption", "Written", "cleared", "dissect", "dissect_many", "has_reserved_bits", "in_order", "is_in_order",
-           "packets", "protocol_name", "rewrite", "statistics_of", "table", "with_header", "with_payload", "without"]
+           "UnknownOption", "Written", "clear_reserved_bits", "dissect", "dissect_many", "has_reserved_bits",
+           "in_order", "is_in_order", "packets", "protocol_name", "remove_header", "rewrite", "statistics_of",
+           "table", "with_header", "with_payload"]

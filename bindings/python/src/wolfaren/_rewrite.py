@@ -74,7 +74,7 @@ def _rewritten(call: Any, packet: Buffer, *change: Any, may_be_invalid: bool, ad
     return Rewritten(bytes(ffi.buffer(out, done.len)), bool(done.keeps_checksums))
 
 
-def without(packet: Buffer, *, number: int | None = None, index: int | None = None, may_be_invalid: bool = False) -> Rewritten:
+def remove_header(packet: Buffer, *, number: int | None = None, index: int | None = None, may_be_invalid: bool = False) -> Rewritten:
     """Returns the packet at the start of the bytes without its extension headers of a number, or without the one with an index.
 
     One of `number` and `index` is given; `index` counts the extension headers from 0. All else stays as it is, except the
@@ -87,7 +87,7 @@ def without(packet: Buffer, *, number: int | None = None, index: int | None = No
     """
     if (number is None) == (index is None):
         raise TypeError("either number or index must be given")
-    call, value = (lib.wolfaren_without_index, index) if number is None else (lib.wolfaren_without_number, number)
+    call, value = (lib.wolfaren_remove_header, index) if number is None else (lib.wolfaren_remove_headers, number)
     return _rewritten(call, packet, value, may_be_invalid=may_be_invalid)
 
 
@@ -96,9 +96,9 @@ def with_header(packet: Buffer, number: int, header: Buffer, index: int | None =
 
     The header has this number and these bytes, of which the first, its next header field, is replaced. It is inserted before
     the header with this index, or after all of them if there are as many. Without an index, it is inserted where RFC 8200,
-    section 4.1, recommends it, destination options last. All else stays as it is, as with `without`.
+    section 4.1, recommends it, destination options last. All else stays as it is, as with `remove_header`.
 
-    Raises `RewriteError` if that can't be, also for an authentication header as `without` does.
+    Raises `RewriteError` if that can't be, also for an authentication header as `remove_header` does.
     """
     new = ffi.from_buffer("uint8_t[]", header)
     if index is None:
@@ -110,9 +110,9 @@ def with_header(packet: Buffer, number: int, header: Buffer, index: int | None =
 def with_payload(packet: Buffer, number: int, payload: Buffer, *, may_be_invalid: bool = False) -> Rewritten:
     """Returns the packet at the start of the bytes with all of its extension headers and another payload of this number.
 
-    All else stays as it is, as with `without`. A checksum in the payload is the caller's.
+    All else stays as it is, as with `remove_header`. A checksum in the payload is the caller's.
 
-    Raises `RewriteError` if that can't be, also for an authentication header as `without` does.
+    Raises `RewriteError` if that can't be, also for an authentication header as `remove_header` does.
     """
     new = ffi.from_buffer("uint8_t[]", payload)
     return _rewritten(lib.wolfaren_with_payload, packet, number, new, len(new), may_be_invalid=may_be_invalid, added=len(new))
@@ -121,21 +121,21 @@ def with_payload(packet: Buffer, number: int, payload: Buffer, *, may_be_invalid
 def has_reserved_bits(packet: Buffer) -> bool:
     """Returns whether a reserved bit is 1 in an extension header of the packet at the start of the bytes.
 
-    `cleared` would then change a header. If the headers end with an error, those before it count.
+    `clear_reserved_bits` would then change a header. If the headers end with an error, those before it count.
     """
     data = ffi.from_buffer("uint8_t[]", packet)
     return bool(lib.wolfaren_has_reserved_bits(data, len(data)))
 
 
-def cleared(packet: Buffer, *, may_be_invalid: bool = False) -> Rewritten:
+def clear_reserved_bits(packet: Buffer, *, may_be_invalid: bool = False) -> Rewritten:
     """Returns the packet at the start of the bytes with the reserved bits of its fragment and authentication headers set to zero.
 
-    These are defined in RFC 8200, section 4.5, and RFC 4302, section 2.3. All else stays as it is, as with `without`.
+    These are defined in RFC 8200, section 4.5, and RFC 4302, section 2.3. All else stays as it is, as with `remove_header`.
 
     Raises `RewriteError` if that can't be. If one of these bits is 1 in an authentication header, or after one, the packet can
     only be changed if `may_be_invalid` is true.
     """
-    return _rewritten(lib.wolfaren_cleared, packet, may_be_invalid=may_be_invalid)
+    return _rewritten(lib.wolfaren_clear_reserved_bits, packet, may_be_invalid=may_be_invalid)
 
 
 def is_in_order(packet: Buffer) -> bool:
@@ -151,7 +151,8 @@ def in_order(packet: Buffer, *, may_be_invalid: bool = False) -> Rewritten:
     """Returns the packet at the start of the bytes with its extension headers in the order that RFC 8200, section 4.1, recommends.
 
     That is hop-by-hop options, routing headers and the destination options before any of them, fragment headers, authentication
-    headers, other destination options. Headers of one such group keep their order. All else stays as it is, as with `without`.
+    headers, other destination options. Headers of one such group keep their order. All else stays as it is, as with
+    `remove_header`.
 
     Raises `RewriteError` if that can't be. The order of a packet with an authentication header can only be changed if
     `may_be_invalid` is true.
@@ -172,11 +173,12 @@ def rewrite(packet: Buffer, *, without: Iterable[int] = (), clears: bool = False
             may_be_invalid: bool = False) -> Rewritten | None:
     """Returns the packet at the start of the bytes with several changes at once, or `None` if they change no extension header.
 
-    Headers with the numbers in `without` are left out. Then, if `clears` is true, the reserved bits of the others are set to zero,
-    as by `cleared`, and if `orders` is true, these are put in order, as by `in_order`. All else stays as it is, as with `without`.
+    Headers with the numbers in `without` are left out. Then, if `clears` is true, the reserved bits of the others are set to
+    zero, as by `clear_reserved_bits`, and if `orders` is true, these are put in order, as by `in_order`. All else stays as it is,
+    as with `remove_header`.
 
     Raises `RewriteError` if one of the changes can't be made, with the refusal of the first, also for an authentication header as
-    `without` does; and `ValueError` for a number of no extension header.
+    `remove_header` does; and `ValueError` for a number of no extension header.
     """
     data = ffi.from_buffer("uint8_t[]", packet)
     request = ffi.new("struct wolfaren_request *", {"clears": clears, "orders": orders, "may_be_invalid": may_be_invalid})

@@ -1,14 +1,14 @@
 //! Whole packets dissected, and their payload found: the parts are read that a filter needs.
 use crate::digests::chains::with;
 use crate::measured::whole_packets::{NO_PACKET, Packet, over_each};
-use ip_dissect::{Dissection, End, dissect, outline_packet};
+use ip_dissect::{Dissection, End, dissect, summarize_packet};
 use ip_spans::find_payload;
 
 /// A packet, dissected with its errors.
 pub struct Dissected;
 
 /// A packet, dissected without its errors.
-pub struct Outlined;
+pub struct Summarized;
 
 /// A packet whose payload is found.
 pub struct Found;
@@ -34,9 +34,9 @@ impl Dissected {
     }
 }
 
-impl Packet for Outlined {
+impl Packet for Summarized {
     fn digest(bytes: &[u8]) -> u64 {
-        match outline_packet(bytes) {
+        match summarize_packet(bytes) {
             Some(packet) if packet.missing == 0 => of_place(
                 u64::from(packet.next_header.0),
                 packet.extensions_len,
@@ -74,8 +74,8 @@ pub extern "C" fn ipexts_dissect_packets(packets: &[u8], ends: &[usize]) -> u64 
 
 /// Dissects packets without their errors; reads the parts that a filter needs.
 #[unsafe(no_mangle)]
-pub extern "C" fn ipexts_outline_packets(packets: &[u8], ends: &[usize]) -> u64 {
-    over_each::<Outlined>(packets, ends)
+pub extern "C" fn ipexts_summarize_packets(packets: &[u8], ends: &[usize]) -> u64 {
+    over_each::<Summarized>(packets, ends)
 }
 
 /// Finds the payload of each packet; reads the parts that a filter needs.

@@ -1,11 +1,11 @@
 use Rattle.std.proofs.Common.{ℕ, ◌≤◌, List, [], ◌∷◌, length, refl, arith, Some, None}
 use Rattle.std.specs.Prelude.{drop}
-use Rattle.ip_defrag.specs.Fragment.{Fragment}
+use Rattle.ip_reassembly.specs.Fragment.{Fragment}
 use Rattle.ip_defragmenter.specs.Slots.{HasRoomForSlots}
 use Rattle.ip_defragmenter.specs.declared.key.FragmentKey.{FragmentKey}
-use Rattle.ip_defrag_laws.specs.Ipv6.{ipv6_key}
-use Rattle.ip_defrag_laws.specs.Room.{PacketName}
-use Rattle.ip_defrag_laws.specs.Run.{Adds, Call, Clears, GiveUp, GivesUp, IsCallRun, Step, TableState}
+use Rattle.ip_defragmenter_laws.specs.Ipv6.{ipv6_key}
+use Rattle.ip_defragmenter_laws.specs.Room.{PacketName}
+use Rattle.ip_defragmenter_laws.specs.Run.{Adds, Call, Clears, GiveUp, GivesUp, IsCallRun, Step, TableState}
 use Rattle.check_uses.proofs.TwoFragmentLemmas.{one_missing, both_there, first_among, second_among, named, timely}
 use Rattle.check_uses.proofs.fragments.two_fragments_after_others.Goals as goal
 

@@ -1,7 +1,7 @@
 use Rattle.std.proofs.Common.{◌≡◌, ◌++◌, false, [], ◌∷◌, length, min, None, Some, sym, ap, ◌∙◌, arith}
 use Rattle.std.proofs.lemmas.List.{length-append}
 use Rattle.std.proofs.lemmas.Option.{same_Some, none-some}
-use Rattle.ip_defrag.specs.Fragment.{fragment_at}
+use Rattle.ip_reassembly.specs.Fragment.{fragment_at}
 use Rattle.check_uses.proofs.ReassemblyLemmas.{two_fragments, made_offset, whole_from_both}
 use Rattle.check_uses.proofs.reassembly.last_fragment_first.Goals as goal
 

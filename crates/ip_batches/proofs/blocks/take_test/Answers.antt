@@ -6,7 +6,7 @@ use Rattle.ip_batches.proofs.blocks.take_test.Goals as goal
 
 pub packets-preserved : goal.packets-preserved
 packets-preserved c =
-    let briefs = c.args.briefs.now in
-    one_led c.args.test.now c.args.index briefs c.args.next.now c.packets.next c.packets.place c.index_after.result (search rules) c.packets.invariant.0 c.packets.invariant.1
+    let metadata = c.args.metadata.now in
+    one_led c.args.test.now c.args.index metadata c.args.next.now c.packets.next c.packets.place c.index_after.result (search rules) c.packets.invariant.0 c.packets.invariant.1
     (λ d. c.index_after.ensures ∙ ap (λ b. after_test c.args.test.now c.args.index b (get_or c.packets.next c.packets.place 0))
-    (c.index-briefs-place.is ∙ get_or_default briefs c.packets.place _ d c.packets-test.true))
+    (c.index-metadata-place.is ∙ get_or_default metadata c.packets.place _ d c.packets-test.true))

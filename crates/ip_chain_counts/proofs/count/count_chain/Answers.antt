@@ -1,6 +1,6 @@
 use Rattle.std.proofs.Common.{◌≡◌, ◌≢◌, ◌++◌, List, ℕ, refl, sym, ap, ◌∙◌, subst}
 use Rattle.ip_dissect.specs.Dissection.{DissectedParts, dissected}
-use Rattle.ip_dissect.specs.declared.outline.Outline.{Outline}
+use Rattle.ip_dissect.specs.declared.summary.Summary.{Summary}
 use Rattle.ip_key_counts.specs.Counts.{counted}
 use Rattle.ip_key_counts.specs.Table.{counts_in, room_of}
 use Rattle.ip_chain_counts.specs.Chain.{chain_of, numbers_of}
@@ -10,8 +10,8 @@ use Rattle.ip_chain_counts.proofs.count.count_chain.Goals as goal
 
 pub returns-then-packet-eq0-clause-counts : goal.returns-then-packet-eq0-clause-counts
 returns-then-packet-eq0-clause-counts c = λ table.
-    let version : c.walk-packet.result.outline.version ≡ (dissected c.args.bytes.now).version =
-    ap (λ (o : Outline). o.version) c.walk-packet.result.outline_is ∙ ap (λ (s : List ℕ). (dissected s).version) c.walk-packet.ensures.bytes in
+    let version : c.walk-packet.result.summary.version ≡ (dissected c.args.bytes.now).version =
+    ap (λ (o : Summary). o.version) c.walk-packet.result.summary_is ∙ ap (λ (s : List ℕ). (dissected s).version) c.walk-packet.ensures.bytes in
     none_counted (room_of c.args.counts.now) (counts_in c.args.counts.now) c.args.path.now (dissected c.args.bytes.now) (sym version ∙ c.if-packet-eq0.true)
 
 pub returns-then-packet-eq0-clause-packets : goal.returns-then-packet-eq0-clause-packets
@@ -23,8 +23,8 @@ returns-in-Some-clause-counts c = λ table.
     let p : DissectedParts = dissected c.args.bytes.now in
     let bytes = c.walk-packet.ensures.bytes in
     let path : List ℕ = c.args.path.now in
-    let version : c.walk-packet.result.outline.version ≡ p.version =
-    ap (λ (o : Outline). o.version) c.walk-packet.result.outline_is ∙ ap (λ (s : List ℕ). (dissected s).version) bytes in
+    let version : c.walk-packet.result.summary.version ≡ p.version =
+    ap (λ (o : Summary). o.version) c.walk-packet.result.summary_is ∙ ap (λ (s : List ℕ). (dissected s).version) bytes in
     let apart : p.version ≢ 0 = λ none. c.if-packet-eq0.false (version ∙ none) in
     let P : List ℕ → Type 0 = λ s. HasBytes c.walk-packet.new.visitor (numbers_of (dissected s).headers) in
     let numbers = c.key_after.ensures (subst P (sym bytes) (c.walk-packet.ensures.visited _ c.new-numbers.ensures)) in
@@ -42,8 +42,8 @@ returns-in-None-clause-counts c = λ table.
     let p : DissectedParts = dissected c.args.bytes.now in
     let bytes = c.walk-packet.ensures.bytes in
     let path : List ℕ = c.args.path.now in
-    let version : c.walk-packet.result.outline.version ≡ p.version =
-    ap (λ (o : Outline). o.version) c.walk-packet.result.outline_is ∙ ap (λ (s : List ℕ). (dissected s).version) bytes in
+    let version : c.walk-packet.result.summary.version ≡ p.version =
+    ap (λ (o : Summary). o.version) c.walk-packet.result.summary_is ∙ ap (λ (s : List ℕ). (dissected s).version) bytes in
     let apart : p.version ≢ 0 = λ none. c.if-packet-eq0.false (version ∙ none) in
     let P : List ℕ → Type 0 = λ s. HasBytes c.walk-packet.new.visitor (numbers_of (dissected s).headers) in
     let numbers = c.key_after.ensures (subst P (sym bytes) (c.walk-packet.ensures.visited _ c.new-numbers.ensures)) in

@@ -1,6 +1,6 @@
 use Rattle.std.proofs.Common.{◌≡◌, Ok, Result, rules, sym, subst}
-use Rattle.ip_defrag.specs.declared.progress.Progress.{Progress}
-use Rattle.ip_defrag.specs.declared.progress.Progress.TheVariants.{Whole}
+use Rattle.ip_reassembly.specs.declared.progress.Progress.{Progress}
+use Rattle.ip_reassembly.specs.declared.progress.Progress.TheVariants.{Whole}
 use Rattle.ip_defragmenter.specs.declared.err.StoreError.{StoreError}
 use Rattle.ip_defragmenter.specs.Added.{is_whole, free_with, used_without}
 use Rattle.ip_defragmenter.specs.Slots.{HoldsPackets}

@@ -5,13 +5,13 @@ use Rattle.ip_base.specs.declared.ip_number_impl.IpNumber.{IpNumber}
 use Rattle.ip_defragmenter.specs.declared.key.FragmentKey.TheVariants as key
 use Rattle.ip_base.specs.Ipv4HeaderSlice as ipv4_header
 use Rattle.ip_dissect.specs.Dissection.{dissected}
-use Rattle.ip_dissect.specs.Outline.{IsBaseOf}
-use Rattle.ip_dissect.specs.declared.outline.Outline.{Outline}
+use Rattle.ip_dissect.specs.Summary.{IsBaseOf}
+use Rattle.ip_dissect.specs.declared.summary.Summary.{Summary}
 use Rattle.ip_defragmenter.proofs.FragmentLemmas.{ipv4_bytes, same_parts}
 use Rattle.ip_defragmenter.proofs.fragment.ipv4_fragment.Goals as goal
 
 pub part-requires-clause-ordered : goal.part-requires-clause-ordered
-part-requires-clause-ordered c = omega (arith, c.end_of.ensures.is, ap (λ (o : Outline). o.base_len) c.args.packet.now.outline_is)
+part-requires-clause-ordered c = omega (arith, c.end_of.ensures.is, ap (λ (o : Summary). o.base_len) c.args.packet.now.summary_is)
 
 pub part-requires-clause-within : goal.part-requires-clause-within
 part-requires-clause-within c = c.end_of.ensures.within
@@ -26,7 +26,7 @@ pub returns : goal.returns
 returns c =
     let s = c.args.packet.now.bytes.now in
     let base : ipv4_header.bytes c.args.base ≡ (dissected c.args.packet.now.bytes.now).base = (subst (IsBaseOf c.args.packet.now.bytes.now) c.requires.base c.args.packet.now.base_is).base in
-    let bytes = c.part.ensures ∙ ipv4_bytes s c.args.packet.now.base c.args.packet.now.base_is c.args.packet.now.outline.base_len c.end_of.result (ap (λ (o : Outline). o.base_len) c.args.packet.now.outline_is) c.end_of.ensures.is in
+    let bytes = c.part.ensures ∙ ipv4_bytes s c.args.packet.now.base c.args.packet.now.base_is c.args.packet.now.summary.base_len c.end_of.result (ap (λ (o : Summary). o.base_len) c.args.packet.now.summary_is) c.end_of.ensures.is in
     let of = λ (b : List ℕ). key.Ipv4 (ipv4_source_octets b) (ipv4_destination_octets b) (record { 0 = protocol b }) (ipv4_identification b) in
     ap Some (same_parts _ (record {
       key = of (dissected s).base;

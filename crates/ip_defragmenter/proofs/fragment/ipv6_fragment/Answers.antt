@@ -3,7 +3,7 @@ use Rattle.ip_base.specs.BaseHeaderFields.{ipv6_traffic_class}
 use Rattle.ip_base.specs.Ipv6Header.{ipv6_source_octets, ipv6_destination_octets}
 use Rattle.ip_base.specs.Ipv6HeaderSlice as ipv6_header
 use Rattle.ip_dissect.specs.Dissection.{dissected}
-use Rattle.ip_dissect.specs.Outline.{IsBaseOf}
+use Rattle.ip_dissect.specs.Summary.{IsBaseOf}
 use Rattle.ip_defragmenter.specs.FragmentOf.{ipv6_fragment_parts_by}
 use Rattle.ip_defragmenter.specs.declared.key.FragmentKey.TheVariants as key
 use Rattle.ip_defragmenter.specs.declared.finder.FoundHeader.{FoundHeader}

@@ -2,7 +2,7 @@ use Rattle.ip_spec.proofs.Common.{sym, ◌∙◌, rules, IsExtensionNumber}
 use Rattle.ip_base.specs.Ipv6HeaderSlice.{bytes}
 use Rattle.ip_base.specs.Ipv6Header.{ipv6_next_header}
 use Rattle.ip_dissect.specs.Extent.{ipv6_stated}
-use Rattle.ip_dissect.proofs.OutlineLemmas.{plain_outlined}
+use Rattle.ip_dissect.proofs.SummaryLemmas.{plain_summarized}
 use Rattle.ip_dissect.proofs.PlainLemmas.{plain_is, ipv6_none, ipv6_whole, ipv6_payload, ipv6_not_plain}
 use Rattle.ip_dissect.proofs.plain.ipv6_plain.Goals as goal
 
@@ -19,5 +19,5 @@ returns c =
     let no = rw c.next_header-number.ensures at other in
     record {
       plain = sym (plain_is _ _ _ (ipv6_none b s no) (ipv6_whole b s no) (ipv6_payload b s no));
-      outline = c.plain_outline.ensures ∙ rw (c.slice.ensures.bytes, c.ipv6_stated_len.ensures) (plain_outlined 6 b s (ipv6_stated b) (ipv6_next_header b) _ _ _ _ c.next_header-number.ensures (ipv6_none b s no) (ipv6_whole b s no) (ipv6_payload b s no));
+      summary = c.plain_summary.ensures ∙ rw (c.slice.ensures.bytes, c.ipv6_stated_len.ensures) (plain_summarized 6 b s (ipv6_stated b) (ipv6_next_header b) _ _ _ _ c.next_header-number.ensures (ipv6_none b s no) (ipv6_whole b s no) (ipv6_payload b s no));
     }

@@ -12,6 +12,6 @@ returns c =
     let bits = c.args.flags.bits in
     let are : AreFlags c.args.mask p c.args.flags = elim c.else-packet.branch [
       | else-packet-via-then-packet+else-mask-ne0 w ↦ none_of_errors p bits c.args.mask c.requires w.if-mask-ne0.false
-      | else-packet-via-else-packet w ↦ without_error p bits c.args.mask c.requires (sym (ap (λ o. o.has_error) packet.outline_is) ∙ w.if-packet.false)
+      | else-packet-via-else-packet w ↦ without_error p bits c.args.mask c.requires (sym (ap (λ o. o.has_error) packet.summary_is) ∙ w.if-packet.false)
     ] in
     c.has_one_of-2.ensures p are

@@ -1,8 +1,8 @@
 use Rattle.ip_spec.proofs.Common.{◌≡◌, ◌≤◌, length, false, sym, ◌∙◌, ap, arith, List, None, cleared_chain, ExtHeader, bytes_of}
 use Rattle.ip_dissect.specs.Dissection.{DissectedParts, dissected}
 use Rattle.ip_dissect.specs.End.{has_error}
-use Rattle.ip_dissect.specs.declared.outline.Outline.{Outline}
-use Rattle.ip_dissect.proofs.PacketLemmas.{outline_fits}
+use Rattle.ip_dissect.specs.declared.summary.Summary.{Summary}
+use Rattle.ip_dissect.proofs.PacketLemmas.{summary_fits}
 use Rattle.ip_rewrite.specs.Rewritten.{rewritten_field, rewritten_len, room_fault}
 use Rattle.ip_rewrite.specs.Without.{packet_fault}
 use Rattle.ip_rewrite.specs.Clearing.{reserved_fault}
@@ -13,44 +13,44 @@ use Rattle.ip_rewrite.proofs.clearing.test.Goals as goal
 
 pub test_room-requires-clause-new : goal.test_room-requires-clause-new
 test_room-requires-clause-new c =
-    let all = outline_fits c.args.packet.now.bytes.now c.args.packet.now.base c.args.packet.now.outline c.args.packet.now.base_is c.args.packet.now.outline_is in
+    let all = summary_fits c.args.packet.now.bytes.now c.args.packet.now.base c.args.packet.now.summary c.args.packet.now.base_is c.args.packet.now.summary_is in
     omega (arith, all, c.requires.small)
 
 pub test_room-requires-clause-old : goal.test_room-requires-clause-old
 test_room-requires-clause-old c =
-    let all = outline_fits c.args.packet.now.bytes.now c.args.packet.now.base c.args.packet.now.outline c.args.packet.now.base_is c.args.packet.now.outline_is in
+    let all = summary_fits c.args.packet.now.bytes.now c.args.packet.now.base c.args.packet.now.summary c.args.packet.now.base_is c.args.packet.now.summary_is in
     omega (arith, all, c.requires.small)
 
 pub returns-clause-fault : goal.returns-clause-fault
 returns-clause-fault c =
     let p : DissectedParts = dissected c.args.packet.now.bytes.now in
     let d : List ExtHeader = cleared_chain p.headers in
-    let packet : packet_fault p ≡ None = sym (c.in_ok-test_packet.ensures.fault p c.args.packet.now.outline_is) in
-    let reserved : reserved_fault c.args.authentication p ≡ None = sym (c.in_ok-test_reserved.ensures p (c.is_ipv4_fragment-is_fragment.ensures p c.args.packet.now.outline_is) c.requires.set c.requires.fragmented c.requires.covered) in
-    let size : c.args.packet.now.outline.extensions_len ≡ length (bytes_of d) = ap (λ (o : Outline). o.extensions_len) c.args.packet.now.outline_is ∙ sym (cleared_len p.headers) in
-    let payload : c.args.packet.now.outline.payload_len ≡ length p.payload = ap (λ (o : Outline). o.payload_len) c.args.packet.now.outline_is in
+    let packet : packet_fault p ≡ None = sym (c.in_ok-test_packet.ensures.fault p c.args.packet.now.summary_is) in
+    let reserved : reserved_fault c.args.authentication p ≡ None = sym (c.in_ok-test_reserved.ensures p (c.is_ipv4_fragment-is_fragment.ensures p c.args.packet.now.summary_is) c.requires.set c.requires.fragmented c.requires.covered) in
+    let size : c.args.packet.now.summary.extensions_len ≡ length (bytes_of d) = ap (λ (o : Summary). o.extensions_len) c.args.packet.now.summary_is ∙ sym (cleared_len p.headers) in
+    let payload : c.args.packet.now.summary.payload_len ≡ length p.payload = ap (λ (o : Summary). o.payload_len) c.args.packet.now.summary_is in
     c.test_room.ensures.fault d p.payload size payload ∙ sym (both_none (packet_fault p) (reserved_fault c.args.authentication p) (room_fault p d p.payload c.args.room) packet reserved)
 
 pub returns-clause-field : goal.returns-clause-field
 returns-clause-field c =
     let p : DissectedParts = dissected c.args.packet.now.bytes.now in
     let d : List ExtHeader = cleared_chain p.headers in
-    let packet : packet_fault p ≡ None = sym (c.in_ok-test_packet.ensures.fault p c.args.packet.now.outline_is) in
-    let size : c.args.packet.now.outline.extensions_len ≡ length (bytes_of d) = ap (λ (o : Outline). o.extensions_len) c.args.packet.now.outline_is ∙ sym (cleared_len p.headers) in
-    let payload : c.args.packet.now.outline.payload_len ≡ length p.payload = ap (λ (o : Outline). o.payload_len) c.args.packet.now.outline_is in
+    let packet : packet_fault p ≡ None = sym (c.in_ok-test_packet.ensures.fault p c.args.packet.now.summary_is) in
+    let size : c.args.packet.now.summary.extensions_len ≡ length (bytes_of d) = ap (λ (o : Summary). o.extensions_len) c.args.packet.now.summary_is ∙ sym (cleared_len p.headers) in
+    let payload : c.args.packet.now.summary.payload_len ≡ length p.payload = ap (λ (o : Summary). o.payload_len) c.args.packet.now.summary_is in
     weaker _ (λ n. n ≡ rewritten_field p d p.payload) c.test_room.result (λ n f. f d p.payload size payload) c.test_room.ensures.field
 
 pub returns-clause-fits : goal.returns-clause-fits
 returns-clause-fits c =
     let p : DissectedParts = dissected c.args.packet.now.bytes.now in
     let d : List ExtHeader = cleared_chain p.headers in
-    let packet : packet_fault p ≡ None = sym (c.in_ok-test_packet.ensures.fault p c.args.packet.now.outline_is) in
-    let base : c.args.packet.now.outline.base_len ≡ length p.base = ap (λ (o : Outline). o.base_len) c.args.packet.now.outline_is in
-    let size : c.args.packet.now.outline.extensions_len ≡ length (bytes_of d) = ap (λ (o : Outline). o.extensions_len) c.args.packet.now.outline_is ∙ sym (cleared_len p.headers) in
-    let payload : c.args.packet.now.outline.payload_len ≡ length p.payload = ap (λ (o : Outline). o.payload_len) c.args.packet.now.outline_is in
+    let packet : packet_fault p ≡ None = sym (c.in_ok-test_packet.ensures.fault p c.args.packet.now.summary_is) in
+    let base : c.args.packet.now.summary.base_len ≡ length p.base = ap (λ (o : Summary). o.base_len) c.args.packet.now.summary_is in
+    let size : c.args.packet.now.summary.extensions_len ≡ length (bytes_of d) = ap (λ (o : Summary). o.extensions_len) c.args.packet.now.summary_is ∙ sym (cleared_len p.headers) in
+    let payload : c.args.packet.now.summary.payload_len ≡ length p.payload = ap (λ (o : Summary). o.payload_len) c.args.packet.now.summary_is in
     weaker _ (λ n. rewritten_len p d p.payload ≤ c.args.room) c.test_room.result (λ n f. omega (arith, f, base, size, payload)) c.test_room.ensures.fits
 
 pub returns-clause-base : goal.returns-clause-base
 returns-clause-base c =
-    let none : has_error (dissected c.args.packet.now.bytes.now).end ≡ false = sym (ap (λ (o : Outline). o.has_error) c.args.packet.now.outline_is) ∙ c.in_ok-test_packet.ensures.whole in
+    let none : has_error (dissected c.args.packet.now.bytes.now).end ≡ false = sym (ap (λ (o : Summary). o.has_error) c.args.packet.now.summary_is) ∙ c.in_ok-test_packet.ensures.whole in
     on_ok c.test_room.result (base_there c.args.packet.now.bytes.now c.args.packet.now.base c.args.packet.now.base_is none)

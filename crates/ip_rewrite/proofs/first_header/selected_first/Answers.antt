@@ -1,6 +1,6 @@
 use Rattle.ip_spec.proofs.Common.{◌≡◌, ℕ, List, ExtHeader, IsChain, IsHeader, slice_index, take, ap, sym, ◌∙◌, subst, true}
 use Rattle.ip_dissect.specs.Dissection.{DissectedParts, dissected}
-use Rattle.ip_dissect.specs.declared.outline.Outline.{Outline}
+use Rattle.ip_dissect.specs.declared.summary.Summary.{Summary}
 use Rattle.ip_rewrite.specs.Base.{number_offset}
 use Rattle.ip_rewrite.specs.Selection.{selects}
 use Rattle.ip_rewrite.proofs.DissectLemmas.{IsWholeChain, whole_chain}
@@ -15,7 +15,7 @@ returns-then-headers-len c =
     let e : List ℕ = c.extensions-headers.result.now in
     let n : ℕ = slice_index r c.number_offset.result in
     let chain : IsWholeChain p = whole_chain s c.args.packet.now.base c.args.packet.now.base_is c.requires.whole in
-    let version : c.args.packet.now.outline.version ≡ p.version = ap (λ (x : Outline). x.version) c.args.packet.now.outline_is in
+    let version : c.args.packet.now.summary.version ≡ p.version = ap (λ (x : Summary). x.version) c.args.packet.now.summary_is in
     let offset : c.number_offset.result ≡ number_offset p.version = c.number_offset.ensures ∙ ap number_offset version in
     let at : n ≡ slice_index p.base (number_offset p.version) = ap (λ (x : List ℕ). slice_index x c.number_offset.result) c.base_of-base.ensures ∙ ap (slice_index p.base) offset in
     let whole : IsChain n p.headers = subst (λ (k : ℕ). IsChain k p.headers) (sym at) chain.chain in

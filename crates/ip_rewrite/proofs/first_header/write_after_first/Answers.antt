@@ -1,7 +1,7 @@
 use Rattle.ip_spec.proofs.Common.{◌≡◌, ℕ, ◌+◌, ◌≤◌, ◌<◌, ◌++◌, ◌∷◌, List, length, take, drop, slice_set, slice_index, ap, sym, ◌∙◌, subst, arith, take-append_seam, length-append, drop-append_seam, next_header, ExtHeader, IsChain, AreLinked, bytes_of, leads_to}
 use Rattle.ip_spec.proofs.HeaderLemmas.{header-least}
 use Rattle.ip_dissect.specs.Dissection.{DissectedParts, dissected}
-use Rattle.ip_dissect.specs.declared.outline.Outline.{Outline}
+use Rattle.ip_dissect.specs.declared.summary.Summary.{Summary}
 use Rattle.ip_rewrite.specs.Base.{number_offset}
 use Rattle.ip_rewrite.specs.Jumbogram.{jumbo_offset}
 use Rattle.ip_rewrite.specs.Rewritten.{joined, rewritten, rewritten_len, rewritten_field}
@@ -26,7 +26,7 @@ pub returns : goal.returns
 returns c =
     let s : List ℕ = c.args.packet.now.bytes.now in
     let p : DissectedParts = dissected s in
-    let o : Outline = c.args.packet.now.outline in
+    let o : Summary = c.args.packet.now.summary in
     let f = c.requires.first in
     let b : List ℕ = p.base in
     let q : List ℕ = p.payload in
@@ -41,7 +41,7 @@ returns c =
     let here : IsChain (slice_index b l) (f.first ∷ d) = subst (IsChain (slice_index b l)) f.all chain.chain in
     let links : AreLinked k d = here.links.1 in
     let number : p.number ≡ leads_to k d = chain.number ∙ ap (leads_to (slice_index b l)) f.all in
-    let version : o.version ≡ p.version = ap (λ (x : Outline). x.version) c.args.packet.now.outline_is in
+    let version : o.version ≡ p.version = ap (λ (x : Summary). x.version) c.args.packet.now.summary_is in
     let offset : c.number_offset.result ≡ l = c.number_offset.ensures ∙ ap number_offset version in
     let base : r ≡ b = c.base_of-base.ensures in
     let exts : c.extensions.result.now ≡ f.first.bytes ++ bytes_of d = c.extensions.ensures ∙ ap bytes_of f.all in
@@ -63,7 +63,7 @@ returns c =
     let begins = written_after l b buffer d k q e x y less links others set_is y_put in
     let named : y ≡ front_with l b d p.number ++ q ++ drop (length b + length (bytes_of d) + length q) buffer = subst (λ (m : ℕ). y ≡ front_with l b d m ++ q ++ drop (length b + length (bytes_of d) + length q) buffer) (sym number) begins in
     let field : c.args.field ≡ rewritten_field p d q = c.requires.field ∙ ap (λ (x : List ExtHeader). rewritten_field p x q) f.kept in
-    let done = c.state_length.ensures p d p.number q buffer c.args.packet.now.outline_is field named in
+    let done = c.state_length.ensures p d p.number q buffer c.args.packet.now.summary_is field named in
     let has : HasOption (jumbo_offset p) d = subst (HasOption (jumbo_offset p)) f.kept c.requires.option in
     done ∙ (ap (λ (x : List ExtHeader). joined p x p.number q ++ drop (rewritten_len p d q) buffer) (sym (no_option (jumbo_offset p) (length (bytes_of d) + length q) d has here.zero_only_first))
     ∙ ap (λ (x : List ExtHeader). rewritten p x p.number q ++ drop (rewritten_len p x q) buffer) (sym f.kept))

@@ -1,7 +1,7 @@
 use Rattle.ip_spec.proofs.Common.{◌≡◌, ℕ, [], ◌∷◌, List, ExtHeader, IsChain, slice_index, take, drop, length, list_any, ◌-◌, ◌||◌, refl, ap, true, false, sym, ◌∙◌, subst}
 use Rattle.ip_dissect.specs.Fragment.{fragments}
 use Rattle.ip_dissect.specs.Dissection.{DissectedParts, dissected}
-use Rattle.ip_dissect.specs.declared.outline.Outline.{Outline}
+use Rattle.ip_dissect.specs.declared.summary.Summary.{Summary}
 use Rattle.ip_rewrite.specs.Base.{number_offset}
 use Rattle.ip_rewrite.specs.Without.{is_authentication}
 use Rattle.ip_rewrite.specs.Writing.{surveyed, no_survey}
@@ -20,7 +20,7 @@ returns-in-Some c =
     let n : ℕ = slice_index r c.number_offset.result in
     let len : ℕ = c.in-Some.len in
     let chain : IsWholeChain p = whole_chain s c.args.packet.now.base c.args.packet.now.base_is c.requires.whole in
-    let version : c.args.packet.now.outline.version ≡ p.version = ap (λ (x : Outline). x.version) c.args.packet.now.outline_is in
+    let version : c.args.packet.now.summary.version ≡ p.version = ap (λ (x : Summary). x.version) c.args.packet.now.summary_is in
     let offset : c.number_offset.result ≡ number_offset p.version = c.number_offset.ensures ∙ ap number_offset version in
     let at : n ≡ slice_index p.base (number_offset p.version) = ap (λ (x : List ℕ). slice_index x c.number_offset.result) c.base_of-base.ensures ∙ ap (slice_index p.base) offset in
     let whole : IsChain n p.headers = subst (λ (k : ℕ). IsChain k p.headers) (sym at) chain.chain in
@@ -53,7 +53,7 @@ returns-in-None c =
     let r : List ℕ = c.base_of-base.result.now in
     let n : ℕ = slice_index r c.number_offset.result in
     let chain : IsWholeChain p = whole_chain s c.args.packet.now.base c.args.packet.now.base_is c.requires.whole in
-    let version : c.args.packet.now.outline.version ≡ p.version = ap (λ (x : Outline). x.version) c.args.packet.now.outline_is in
+    let version : c.args.packet.now.summary.version ≡ p.version = ap (λ (x : Summary). x.version) c.args.packet.now.summary_is in
     let offset : c.number_offset.result ≡ number_offset p.version = c.number_offset.ensures ∙ ap number_offset version in
     let at : n ≡ slice_index p.base (number_offset p.version) = ap (λ (x : List ℕ). slice_index x c.number_offset.result) c.base_of-base.ensures ∙ ap (slice_index p.base) offset in
     let whole : IsChain n p.headers = subst (λ (k : ℕ). IsChain k p.headers) (sym at) chain.chain in

@@ -1,6 +1,6 @@
 use Rattle.ip_spec.proofs.Common.{◌≡◌, ◌+◌, ◌≤◌, ℕ, [], ◌∷◌, ◌++◌, length, subst, sym, ◌∙◌, ap, arith, List, ExtHeader, bytes_of}
 use Rattle.ip_dissect.specs.Dissection.{DissectedParts, dissected}
-use Rattle.ip_dissect.specs.declared.outline.Outline.{Outline}
+use Rattle.ip_dissect.specs.declared.summary.Summary.{Summary}
 use Rattle.ip_rewrite.specs.Insertion.{inserted}
 use Rattle.ip_rewrite.specs.Writing.{AreWritten, inserted_so_far}
 use Rattle.ip_rewrite.proofs.FrontLemmas.{more_len}
@@ -18,7 +18,7 @@ returns-then-index-count c = λ h is.
     let buffer : List ℕ = c.args.out.now in
     let d : List ExtHeader = inserted i h p.headers in
     let e : List ExtHeader = inserted_so_far i h p.headers in
-    let count : c.args.packet.now.outline.header_count ≡ length p.headers = ap (λ (o : Outline). o.header_count) c.args.packet.now.outline_is in
+    let count : c.args.packet.now.summary.header_count ≡ length p.headers = ap (λ (o : Summary). o.header_count) c.args.packet.now.summary_is in
     let so : d ≡ e ++ h ∷ [] = so_far_end i p.headers h (c.if-index-count.true ∙ count) in
     let bytes : length h.bytes ≡ length c.args.header.now = ap (λ (g : ExtHeader). length g.bytes) is in
     let all : length (bytes_of d) ≡ length (bytes_of (e ++ h ∷ [])) = ap (λ (x : List ExtHeader). length (bytes_of x)) so in
@@ -35,7 +35,7 @@ returns c = λ h is.
     let i : ℕ = c.args.index in
     let b : List ℕ = p.base in
     let d : List ExtHeader = inserted i h p.headers in
-    let count : c.args.packet.now.outline.header_count ≡ length p.headers = ap (λ (o : Outline). o.header_count) c.args.packet.now.outline_is in
+    let count : c.args.packet.now.summary.header_count ≡ length p.headers = ap (λ (o : Summary). o.header_count) c.args.packet.now.summary_is in
     let so : inserted_so_far i h p.headers ≡ d = so_far_whole i p.headers h c.requires.index (λ e. c.if-index-count.false (e ∙ sym count)) in
     let w : AreWritten c.args.offset b c.args.out.now d c.write_so_far-written.new.out c.write_so_far-written.result.len c.write_so_far-written.result.link =
     subst (λ (x : List ExtHeader). AreWritten c.args.offset b c.args.out.now x c.write_so_far-written.new.out c.write_so_far-written.result.len c.write_so_far-written.result.link) so (c.write_so_far-written.ensures h is) in

@@ -1,6 +1,6 @@
 use Rattle.ip_spec.proofs.Common.{◌≡◌, ◌+◌, ◌≤◌, ℕ, [], ◌++◌, drop, length, subst, sym, ◌∙◌, ap, arith, List, ExtHeader, bytes_of}
 use Rattle.ip_dissect.specs.Dissection.{DissectedParts, dissected}
-use Rattle.ip_dissect.specs.declared.outline.Outline.{Outline}
+use Rattle.ip_dissect.specs.declared.summary.Summary.{Summary}
 use Rattle.ip_rewrite.specs.Base.{number_offset}
 use Rattle.ip_rewrite.specs.Rewritten.{rewritten, rewritten_len, rewritten_field}
 use Rattle.ip_rewrite.specs.Insertion.{inserted}
@@ -13,17 +13,17 @@ pub returns : goal.returns
 returns c = λ h is.
     let p : DissectedParts = dissected c.args.packet.now.bytes.now in
     let d : List ExtHeader = inserted c.args.index h p.headers in
-    let o : Outline = c.args.packet.now.outline in
+    let o : Summary = c.args.packet.now.summary in
     let b : List ℕ = p.base in
     let l : ℕ = number_offset p.version in
     let n : ℕ = length b + length (bytes_of d) in
     let m : ℕ = o.base_len + (o.extensions_len + length c.args.header.now) in
     let z : List ℕ = c.write_headers-link.new.out in
     let link : ℕ = c.write_headers-link.result in
-    let version : o.version ≡ p.version = ap (λ (x : Outline). x.version) c.args.packet.now.outline_is in
-    let size : o.base_len ≡ length b = ap (λ (x : Outline). x.base_len) c.args.packet.now.outline_is in
-    let number : o.next_header.0 ≡ p.number = ap (λ (x : Outline). x.next_header.0) c.args.packet.now.outline_is in
-    let exts : o.extensions_len + length c.args.header.now ≡ length (bytes_of d) = omega (arith, ap (λ (x : Outline). x.extensions_len) c.args.packet.now.outline_is, inserted_len c.args.index p.headers h, ap (λ (g : ExtHeader). length g.bytes) is) in
+    let version : o.version ≡ p.version = ap (λ (x : Summary). x.version) c.args.packet.now.summary_is in
+    let size : o.base_len ≡ length b = ap (λ (x : Summary). x.base_len) c.args.packet.now.summary_is in
+    let number : o.next_header.0 ≡ p.number = ap (λ (x : Summary). x.next_header.0) c.args.packet.now.summary_is in
+    let exts : o.extensions_len + length c.args.header.now ≡ length (bytes_of d) = omega (arith, ap (λ (x : Summary). x.extensions_len) c.args.packet.now.summary_is, inserted_len c.args.index p.headers h, ap (λ (g : ExtHeader). length g.bytes) is) in
     let offset : c.number_offset-offset.result ≡ l = c.number_offset-offset.ensures ∙ ap number_offset version in
     let here : AreWritten l b c.args.out.now d z n link = subst (λ (k : ℕ). AreWritten k b c.args.out.now d z n link) offset (c.write_headers-link.ensures h is) in
     let at : n ≡ m = omega (arith, size, exts) in

@@ -1,6 +1,6 @@
 use Rattle.ip_spec.proofs.Common.{◌≡◌, refl, sym, ap, ◌∙◌, Bool, true, false, not, None, is_some}
 use Rattle.ip_dissect.specs.Dissection.{DissectedParts, dissected}
-use Rattle.ip_dissect.specs.declared.outline.Outline.{Outline}
+use Rattle.ip_dissect.specs.declared.summary.Summary.{Summary}
 use Rattle.ip_rewrite.specs.Jumbogram.{jumbo_offset}
 use Rattle.ip_rewrite.specs.Rewritten.{jumbo_fault}
 use Rattle.ip_rewrite.proofs.JumbogramLemmas.{stated_no_jumbogram}
@@ -20,7 +20,7 @@ returns c =
     elim c.else-ends.branch [
       | else-ends-via-then-ends+then-is_none+else-is_some w ↦ sym (none_ends c.args.ends p (sym (w.is_some.ensures ∙ ap is_some w.jumbo_offset.ensures) ∙ w.if-is_some.false))
       | else-ends-via-then-ends+else-is_none w ↦
-          let stated : is_some p.stated ≡ true = sym (ap (λ (o : Outline). is_some o.stated_len) c.args.packet.now.outline_is) ∙ (w.is_none.ensures ∙ ap not w.if-is_none.false) in
+          let stated : is_some p.stated ≡ true = sym (ap (λ (o : Summary). is_some o.stated_len) c.args.packet.now.summary_is) ∙ (w.is_none.ensures ∙ ap not w.if-is_none.false) in
           sym (none_ends c.args.ends p (ap is_some (stated_no_jumbogram p stated)))
       | else-ends-via-else-ends w ↦ sym (not_ends c.args.ends p w.if-ends.false)
     ]

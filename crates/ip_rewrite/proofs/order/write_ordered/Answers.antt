@@ -1,6 +1,6 @@
 use Rattle.ip_spec.proofs.Common.{◌≡◌, ◌+◌, ◌≤◌, ℕ, [], ◌++◌, drop, length, subst, sym, ◌∙◌, ap, arith, List, ExtHeader, bytes_of}
 use Rattle.ip_dissect.specs.Dissection.{DissectedParts, dissected}
-use Rattle.ip_dissect.specs.declared.outline.Outline.{Outline}
+use Rattle.ip_dissect.specs.declared.summary.Summary.{Summary}
 use Rattle.ip_rewrite.specs.Base.{number_offset}
 use Rattle.ip_rewrite.specs.Jumbogram.{jumbo_offset}
 use Rattle.ip_rewrite.specs.Order.{in_order}
@@ -15,16 +15,16 @@ pub returns : goal.returns
 returns c =
     let p : DissectedParts = dissected c.args.packet.now.bytes.now in
     let d : List ExtHeader = in_order p.headers in
-    let o : Outline = c.args.packet.now.outline in
+    let o : Summary = c.args.packet.now.summary in
     let b : List ℕ = p.base in
     let l : ℕ = number_offset p.version in
     let buffer : List ℕ = c.args.out.now in
     let z : List ℕ = c.write_headers-link.new.out in
     let link : ℕ = c.write_headers-link.result in
-    let version : o.version ≡ p.version = ap (λ (x : Outline). x.version) c.args.packet.now.outline_is in
-    let size : o.base_len ≡ length b = ap (λ (x : Outline). x.base_len) c.args.packet.now.outline_is in
-    let number : o.next_header.0 ≡ p.number = ap (λ (x : Outline). x.next_header.0) c.args.packet.now.outline_is in
-    let exts : o.extensions_len ≡ length (bytes_of d) = ap (λ (x : Outline). x.extensions_len) c.args.packet.now.outline_is ∙ sym (ordered_len p.headers) in
+    let version : o.version ≡ p.version = ap (λ (x : Summary). x.version) c.args.packet.now.summary_is in
+    let size : o.base_len ≡ length b = ap (λ (x : Summary). x.base_len) c.args.packet.now.summary_is in
+    let number : o.next_header.0 ≡ p.number = ap (λ (x : Summary). x.next_header.0) c.args.packet.now.summary_is in
+    let exts : o.extensions_len ≡ length (bytes_of d) = ap (λ (x : Summary). x.extensions_len) c.args.packet.now.summary_is ∙ sym (ordered_len p.headers) in
     let offset : c.number_offset-offset.result ≡ l = c.number_offset-offset.ensures ∙ ap number_offset version in
     let at : length b + length (bytes_of p.headers) ≡ o.base_len + o.extensions_len = omega (arith, size, exts, ordered_len p.headers) in
     let w : AreWritten l b buffer d z (o.base_len + o.extensions_len) link =

@@ -10,5 +10,5 @@ pub returns : goal.returns
 returns c =
     let p : DissectedParts = dissected c.args.packet.now.bytes.now in
     let r : Request = c.args.request in
-    c.test_reserved.ensures (with_kept r p) (c.is_ipv4_fragment-is_fragment.ensures p c.args.packet.now.outline_is) c.requires.set c.requires.fragmented c.requires.covered
+    c.test_reserved.ensures (with_kept r p) (c.is_ipv4_fragment-is_fragment.ensures p c.args.packet.now.summary_is) c.requires.set c.requires.fragmented c.requires.covered
     ∙ sym (cond-true r.clears (reserved_fault r.authentication (with_kept r p)) None (not_false r.clears c.if-not-request.false))

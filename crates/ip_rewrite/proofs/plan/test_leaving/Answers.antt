@@ -18,7 +18,7 @@ returns c =
     let which : v.which ≡ r.without = ap (λ (x : Survey). x.which) c.requires.survey in
     let own : v ≡ surveyed (no_survey v.which) p.headers = c.requires.survey ∙ ap (λ (w : Which). surveyed (no_survey w) p.headers) (sym which) in
     let selection : selection_fault r.without r.authentication p ≡ None =
-    ap (λ (w : Which). selection_fault w r.authentication p) (sym which) ∙ sym (c.in_ok-test_selection.ensures p c.args.packet.now.outline_is own) in
+    ap (λ (w : Which). selection_fault w r.authentication p) (sym which) ∙ sym (c.in_ok-test_selection.ensures p c.args.packet.now.summary_is own) in
     let jumbo = c.test_jumbogram.ensures ∙ selected_fault r.without p c.selects-ends.result (λ h is. c.selects-ends.ensures h is) in
     let some : any_selected (λ h. true) r.without 0 p.headers ≡ true = sym (ap (λ (x : Survey). x.selects) c.requires.survey) ∙ c.if-not-plan.false in
     let both = option_or (selection_fault r.without r.authentication p) (jumbo_fault (selects_first r.without p.headers) p) in

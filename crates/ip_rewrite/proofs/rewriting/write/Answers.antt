@@ -1,6 +1,6 @@
 use Rattle.ip_spec.proofs.Common.{◌≡◌, ◌+◌, ◌≤◌, ℕ, [], ◌++◌, drop, length, subst, sym, ◌∙◌, ap, arith, List, ExtHeader, bytes_of}
 use Rattle.ip_dissect.specs.Dissection.{DissectedParts, dissected}
-use Rattle.ip_dissect.specs.declared.outline.Outline.{Outline}
+use Rattle.ip_dissect.specs.declared.summary.Summary.{Summary}
 use Rattle.ip_rewrite.specs.Base.{number_offset}
 use Rattle.ip_rewrite.specs.Rewritten.{rewritten, rewritten_len, rewritten_field}
 use Rattle.ip_rewrite.specs.Selection.{kept}
@@ -17,7 +17,7 @@ returns c =
     let p : DissectedParts = dissected c.args.packet.now.bytes.now in
     let r : Request = c.args.request in
     let d : List ExtHeader = changed_headers r p.headers in
-    let o : Outline = c.args.packet.now.outline in
+    let o : Summary = c.args.packet.now.summary in
     let b : List ℕ = p.base in
     let l : ℕ = number_offset p.version in
     let buffer : List ℕ = c.args.out.now in
@@ -25,9 +25,9 @@ returns c =
     let n : ℕ = c.args.plan.now.survey.kept_len in
     let z : List ℕ = c.write_changed-link.new.out in
     let link : ℕ = c.write_changed-link.result in
-    let version : o.version ≡ p.version = ap (λ (x : Outline). x.version) c.args.packet.now.outline_is in
-    let size : o.base_len ≡ length b = ap (λ (x : Outline). x.base_len) c.args.packet.now.outline_is in
-    let number : o.next_header.0 ≡ p.number = ap (λ (x : Outline). x.next_header.0) c.args.packet.now.outline_is in
+    let version : o.version ≡ p.version = ap (λ (x : Summary). x.version) c.args.packet.now.summary_is in
+    let size : o.base_len ≡ length b = ap (λ (x : Summary). x.base_len) c.args.packet.now.summary_is in
+    let number : o.next_header.0 ≡ p.number = ap (λ (x : Summary). x.next_header.0) c.args.packet.now.summary_is in
     let offset : c.number_offset-offset.result ≡ l = c.number_offset-offset.ensures ∙ ap number_offset version in
     let keeps : n ≡ 0 + length (bytes_of (kept r.without p.headers)) = ap (λ (v : Survey). v.kept_len) c.requires.plan.survey in
     let exts : n ≡ length (bytes_of d) = omega (arith, keeps, changed_len r p.headers) in

@@ -1,6 +1,6 @@
 use Rattle.ip_spec.proofs.Common.{◌≡◌, ◌+◌, ◌≤◌, ◌<◌, ℕ, [], ◌++◌, take, drop, length, slice_set, subst, sym, ap, ◌∙◌, not, true, arith, List, is_some, ExtHeader, bytes_of}
 use Rattle.ip_dissect.specs.Dissection.{DissectedParts, dissected}
-use Rattle.ip_dissect.specs.declared.outline.Outline.{Outline}
+use Rattle.ip_dissect.specs.declared.summary.Summary.{Summary}
 use Rattle.ip_rewrite.specs.Base.{number_offset}
 use Rattle.ip_rewrite.specs.Jumbogram.{jumbo_offset, stating_at}
 use Rattle.ip_rewrite.specs.Rewritten.{joined, rewritten_len}
@@ -27,26 +27,26 @@ begun p d buffer out x y q base exts link m size all w same fits stored kept put
 
 pub returns-then-is_none : goal.returns-then-is_none
 returns-then-is_none c = λ d buffer has exts field w same.
-    let o : Outline = c.args.packet.now.outline in
+    let o : Summary = c.args.packet.now.summary in
     let p : DissectedParts = dissected c.args.packet.now.bytes.now in
     let q : List ℕ = c.args.payload.now in
     let m : ℕ = c.args.number.0 in
-    let size : o.base_len ≡ length p.base = ap (λ (x : Outline). x.base_len) c.args.packet.now.outline_is in
+    let size : o.base_len ≡ length p.base = ap (λ (x : Summary). x.base_len) c.args.packet.now.summary_is in
     let begins = begun p d buffer c.args.out.now c.set.new.out c.put_at.new.out q o.base_len c.args.exts_len c.args.link m size exts w same c.requires.fits c.set.ensures.stored c.set.ensures.len c.put_at.ensures in
-    let stated : c.state_length.new.out ≡ joined p d m q ++ drop (rewritten_len p d q) buffer = c.state_length.ensures p d m q buffer c.args.packet.now.outline_is field begins in
+    let stated : c.state_length.new.out ≡ joined p d m q ++ drop (rewritten_len p d q) buffer = c.state_length.ensures p d m q buffer c.args.packet.now.summary_is field begins in
     let len : c.args.exts_len + length q ≡ length (bytes_of d) + length q = omega (arith, exts) in
     c.state_jumbo.ensures d m q (drop (rewritten_len p d q) buffer) has len stated
     ∙ ap (λ (n : ℕ). joined p (stating_at (jumbo_offset p) n d) m q ++ drop (rewritten_len p d q) buffer) len
 
 pub returns-else-is_none : goal.returns-else-is_none
 returns-else-is_none c = λ d buffer has exts field w same.
-    let o : Outline = c.args.packet.now.outline in
+    let o : Summary = c.args.packet.now.summary in
     let p : DissectedParts = dissected c.args.packet.now.bytes.now in
     let q : List ℕ = c.args.payload.now in
     let m : ℕ = c.args.number.0 in
-    let size : o.base_len ≡ length p.base = ap (λ (x : Outline). x.base_len) c.args.packet.now.outline_is in
+    let size : o.base_len ≡ length p.base = ap (λ (x : Summary). x.base_len) c.args.packet.now.summary_is in
     let begins = begun p d buffer c.args.out.now c.set.new.out c.put_at.new.out q o.base_len c.args.exts_len c.args.link m size exts w same c.requires.fits c.set.ensures.stored c.set.ensures.len c.put_at.ensures in
-    let has_length : is_some p.stated ≡ true = sym (ap (λ (x : Outline). is_some x.stated_len) c.args.packet.now.outline_is) ∙ (c.is_none.ensures ∙ ap not c.if-is_none.false) in
+    let has_length : is_some p.stated ≡ true = sym (ap (λ (x : Summary). is_some x.stated_len) c.args.packet.now.summary_is) ∙ (c.is_none.ensures ∙ ap not c.if-is_none.false) in
     let none = stated_no_jumbogram p has_length in
-    c.state_length.ensures p d m q buffer c.args.packet.now.outline_is field begins
+    c.state_length.ensures p d m q buffer c.args.packet.now.summary_is field begins
     ∙ ap (λ j. joined p (stating_at j (length (bytes_of d) + length q) d) m q ++ drop (rewritten_len p d q) buffer) (sym none)

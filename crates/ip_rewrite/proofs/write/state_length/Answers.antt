@@ -1,5 +1,5 @@
 use Rattle.ip_spec.proofs.Common.{◌≡◌, ℕ, take, drop, length, ◌∙◌, ap, List}
-use Rattle.ip_dissect.specs.declared.outline.Outline.{Outline}
+use Rattle.ip_dissect.specs.declared.summary.Summary.{Summary}
 use Rattle.ip_rewrite.specs.Base.{number_offset, base_stating}
 use Rattle.ip_rewrite.specs.Rewritten.{rewritten_field}
 use Rattle.ip_rewrite.proofs.FrontLemmas.{whole_written}
@@ -7,11 +7,11 @@ use Rattle.ip_rewrite.proofs.write.state_length.Goals as goal
 
 pub returns : goal.returns
 returns c = λ p d m q buffer is field begins.
-    let o : Outline = c.args.outline.now in
+    let o : Summary = c.args.summary.now in
     let b : List ℕ = p.base in
     let y : List ℕ = c.args.out.now in
-    let version : o.version ≡ p.version = ap (λ (x : Outline). x.version) is in
-    let size : o.base_len ≡ length b = ap (λ (x : Outline). x.base_len) is in
+    let version : o.version ≡ p.version = ap (λ (x : Summary). x.version) is in
+    let size : o.base_len ≡ length b = ap (λ (x : Summary). x.base_len) is in
     let front : c.split_at_mut-base.result.0.now ≡ take (length b) y = c.split_at_mut-base.ensures.front ∙ ap (λ (k : ℕ). take k y) size in
     let back : c.split_at_mut-base.result.1.now ≡ drop (length b) y = c.split_at_mut-base.ensures.back ∙ ap (λ (k : ℕ). drop k y) size in
     let base : c.state.new.base ≡ base_stating p.version (take (length b) y) (rewritten_field p d q) =

@@ -12,7 +12,7 @@ pub returns-in-Ok : goal.returns-in-Ok
 returns-in-Ok c =
     let s = c.args.packet.now.bytes.now in
     is_fragment (dissected s) (parts_of c.ipv6_fragment.result) (c.ipv6_fragment.ensures ∙ of_ipv6 s c.args.packet.now.base c.args.base c.args.packet.now.base_is c.requires.base)
-    (c.in-Ok.ensures (dissected s) c.args.packet.now.outline_is)
+    (c.in-Ok.ensures (dissected s) c.args.packet.now.summary_is)
 
 pub returns-in-Err : goal.returns-in-Err
 returns-in-Err c =
@@ -20,7 +20,7 @@ returns-in-Err c =
     let lies = fragment_lies c.args.packet.now c.in-Some.header c.args.finder.now c.requires.found c.in-Some.is in
     is_unusable (dissected s) c.in-Err.error
     (ap is_some (sym (of_ipv6 s c.args.packet.now.base c.args.base c.args.packet.now.base_is c.requires.base)) ∙ some_ipv6 (dissected s) lies.header lies.found)
-    (c.in-Err.ensures (dissected s) c.args.packet.now.outline_is)
+    (c.in-Err.ensures (dissected s) c.args.packet.now.summary_is)
 
 pub returns-in-None : goal.returns-in-None
 returns-in-None c =

@@ -1,13 +1,13 @@
 use Rattle.std.proofs.Common.{◌≡◌, false, List, ℕ, sym, ap, ◌∙◌, subst, cond, refl}
 use Rattle.std.specs.Prelude.{Option, Some, None, Ok, is_some}
 use Rattle.std.specs.Option.{option_map}
-use Rattle.ip_defrag.specs.Refusal.{is_conflict}
-use Rattle.ip_defrag.specs.Received.{with_fragment}
-use Rattle.ip_defrag.specs.Payload.{payload_of}
-use Rattle.ip_defrag.specs.Reassembly.{HasArrived}
-use Rattle.ip_defrag.specs.declared.progress.Progress.{Progress}
-use Rattle.ip_defrag.specs.declared.progress.Progress.TheVariants.{MoreWanted}
-use Rattle.ip_defrag.specs.declared.state.ReassemblyState.{ReassemblyState}
+use Rattle.ip_reassembly.specs.Refusal.{is_conflict}
+use Rattle.ip_reassembly.specs.Received.{with_fragment}
+use Rattle.ip_reassembly.specs.Payload.{payload_of}
+use Rattle.ip_reassembly.specs.Reassembly.{HasArrived}
+use Rattle.ip_reassembly.specs.declared.progress.Progress.{Progress}
+use Rattle.ip_reassembly.specs.declared.progress.Progress.TheVariants.{MoreWanted}
+use Rattle.ip_reassembly.specs.declared.state.ReassemblyState.{ReassemblyState}
 use Rattle.ip_defragmenter.specs.FragmentOf.{parts_of}
 use Rattle.ip_defragmenter.specs.Memory.{FirstParts, HoldsStored, first_after, piece_of, refusal_after, outcome_by, stored_by, stored_with}
 use Rattle.ip_defragmenter.specs.declared.err.StoreError.{StoreError}

@@ -1,5 +1,5 @@
 use Rattle.std.proofs.Common.{refl}
-use Rattle.ip_defrag.proofs.ReceivedLemmas.{zeros_are}
+use Rattle.ip_reassembly.proofs.ReceivedLemmas.{zeros_are}
 use Rattle.ip_defragmenter.proofs.memory.PacketMemory.new.Goals as goal
 
 pub returns-clause-zero : goal.returns-clause-zero

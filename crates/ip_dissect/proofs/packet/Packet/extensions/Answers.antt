@@ -1,12 +1,12 @@
 use Rattle.ip_spec.proofs.Common.{rules}
-use Rattle.ip_dissect.proofs.PacketLemmas.{outline_fits, extensions_are}
+use Rattle.ip_dissect.proofs.PacketLemmas.{summary_fits, extensions_are}
 use Rattle.ip_dissect.proofs.packet.Packet.extensions.Goals as goal
 
 pub overflow_add-result : goal.overflow_add-result
-overflow_add-result c = let fits = outline_fits c.args.self.now.bytes.now _ _ c.args.self.now.base_is c.args.self.now.outline_is in search (rules, fits)
+overflow_add-result c = let fits = summary_fits c.args.self.now.bytes.now _ _ c.args.self.now.base_is c.args.self.now.summary_is in search (rules, fits)
 
 pub slice_bounds-result-end : goal.slice_bounds-result-end
-slice_bounds-result-end c = let fits = outline_fits c.args.self.now.bytes.now _ _ c.args.self.now.base_is c.args.self.now.outline_is in search (rules, fits)
+slice_bounds-result-end c = let fits = summary_fits c.args.self.now.bytes.now _ _ c.args.self.now.base_is c.args.self.now.summary_is in search (rules, fits)
 
 pub returns : goal.returns
-returns c = extensions_are c.args.self.now.bytes.now _ _ c.args.self.now.base_is c.args.self.now.outline_is
+returns c = extensions_are c.args.self.now.bytes.now _ _ c.args.self.now.base_is c.args.self.now.summary_is

@@ -1,5 +1,0 @@
-use Rattle.ip_defrag.proofs.ByteMarkLemmas.{ordered_bits}
-use Rattle.ip_defrag.proofs.marks.later_marks.Goals as goal
-
-pub overflow_sub-result : goal.overflow_sub-result
-overflow_sub-result c = ordered_bits c.args.first c.args.end c.requires.ordered c.requires.within

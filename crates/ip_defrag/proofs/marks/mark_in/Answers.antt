@@ -1,5 +1,0 @@
-use Rattle.ip_defrag.proofs.ByteMarkLemmas.{marked_in}
-use Rattle.ip_defrag.proofs.marks.mark_in.Goals as goal
-
-pub returns-clause-marks : goal.returns-clause-marks
-returns-clause-marks c = λ i. marked_in c.args.marks.now c.args.index c.args.first c.args.end c.later_marks.result i c.requires.index c.requires.within c.later_marks.ensures

@@ -1,8 +1,0 @@
-use Rattle.ip_defrag.proofs.Common.{refl, ap}
-use Rattle.ip_defrag.specs.Reassembly.{state_fields, is_set}
-use Rattle.ip_defrag.proofs.Common.{not}
-use Rattle.ip_defrag.proofs.ReceivedLemmas.{received_cleared}
-use Rattle.ip_defrag.proofs.state.ReassemblyState.clear.Goals as goal
-
-pub returns : goal.returns
-returns c = λ buffer s h. received_cleared (state_fields c.args.self.now buffer) _ s h (c.unmark.ensures.marks buffer s h) refl refl refl refl refl refl (ap (λ k. not (is_set k)) c.unmark.ensures.kept)

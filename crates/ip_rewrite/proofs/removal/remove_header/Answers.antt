@@ -1,0 +1,13 @@
+use Rattle.ip_spec.proofs.Common.{◌≡◌, ℕ, List, false, sym, ◌∙◌, ap}
+use Rattle.ip_dissect.specs.Dissection.{dissected}
+use Rattle.ip_dissect.specs.End.{has_error}
+use Rattle.ip_dissect.specs.declared.summary.Summary.{Summary}
+use Rattle.ip_rewrite.proofs.BaseLemmas.{base_there}
+use Rattle.ip_rewrite.proofs.removal.remove_header.Goals as goal
+
+pub selected_first-first-requires-clause-base : goal.selected_first-first-requires-clause-base
+selected_first-first-requires-clause-base c =
+    let packet = c.walk-packet.result in
+    let s : List ℕ = packet.bytes.now in
+    let none : has_error (dissected s).end ≡ false = sym (ap (λ (o : Summary). o.has_error) packet.summary_is) ∙ c.in_ok-test_packet.ensures.whole in
+    base_there s packet.base packet.base_is none

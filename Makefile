@@ -79,7 +79,7 @@ test:
 	$(PYTHON_IS_THERE)
 	scripts/check-contracts
 	scripts/check-errors
-	scripts/check-terms
+	scripts/terms
 	bench/quote --check
 	scripts/gate
 

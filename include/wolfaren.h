@@ -65,10 +65,10 @@
 #define WOLFAREN_VERSION (10000 * WOLFAREN_VERSION_MAJOR + 100 * WOLFAREN_VERSION_MINOR + WOLFAREN_VERSION_PATCH)
 
 /* A checksum of the structs, numbers and calls in this header, made by scripts/abi of the repository. */
-#define WOLFAREN_ABI 0xe4fa1722u
+#define WOLFAREN_ABI 0x00e34857u
 
 /* The symbol that is named after the checksum. */
-#define WOLFAREN_ABI_SYMBOL wolfaren_abi_e4fa1722
+#define WOLFAREN_ABI_SYMBOL wolfaren_abi_00e34857
 
 /* The machines for which the library is built. That of `make rust-c` is for any machine, and its users define WOLFAREN_PLAIN. */
 #ifdef WOLFAREN_PLAIN
@@ -1372,87 +1372,127 @@ struct wolfaren_filter_error {
 };
 
 /*
- * Parses the text of a filter, which has `len` bytes and no terminating null byte. It consists of the terms below, joined
- * by `not`, `and` and `or`, or `!`, `&&` and `||`, and of parentheses. `not` binds most tightly, then `and`. White space
- * separates words. There may be up to 64 terms and 16 levels of parentheses.
+ * Parses the text of a filter, which has `len` bytes and no terminating null byte. It consists of these terms:
  *
- *   version 4|6, ip, ip6                 the IP version: `ip` is version 4, `ip6` is version 6
- *   header N                             an extension header: hop-by-hop (0), routing (43), fragment (44), authentication
- *                                        (51) or destination-options (60); in short hopopt, route, frag, ah or dstopts
- *   leads-to N                           the protocol after the headers: 0 to 255, as above, or a name from the next line
- *   tcp, udp, dccp, gre, esp, no-next, sctp, udp-lite       `leads-to` with this name
- *   icmp, icmp6                          ICMP (1) after the headers of an IPv4 packet, ICMPv6 (58) after those of an IPv6
- *                                        packet; after `leads-to`, the number alone
- *   fragment, first-fragment, later-fragment
- *   truncated, incomplete
- *   truncated LAYER                      LAYER is IP-header, IPv4-header, IPv6-header or HEADER; HEADER is hop-by-hop,
- *                                        routing, fragment, authentication, destination-options, or IPv6-extension,
- *                                        which is any of these in an IPv6 packet
- *   fault, fault KIND, fault KIND LAYER  KIND LAYER is too-short HEADER, too-short IPv4-packet, not-at-start hop-by-hop,
- *                                        zero-length authentication, unsupported-version IP-header or header-length
- *                                        IPv4-header; IPv6-extension after not-at-start and zero-length too
- *   headers OP N, chain-bytes OP N, payload OP N       OP is =, ==, !=, <, <=, > or >=
- *   length OP N                          the length that the IP header states, or the bytes that are there if it states none
- *   no-length                            the IP header states length 0, although bytes follow it; a jumbo payload option
- *                                        doesn't count
- *   hop-limit OP N, ttl OP N             the hop limit, or IPv4's time to live
- *   dscp OP N, ecn OP N                  the differentiated services code point; explicit congestion notification
- *   flow OP N                            the flow label; false of IPv4 packets
- *   spi N                                the security parameters index of an authentication header, or of ESP after the
- *                                        headers
- *   id N                                 the identification of a fragment
- *   routing-type N                       a routing header of the packet has this type
- *   segments-left OP N                   the segments left of a routing header of the packet
- *   option N                             hop-by-hop or destination options have one of this type, and no malformed one
- *                                        before it
- *   src NET, dst NET, net NET            NET is an IPv4 or IPv6 address, alone or with a slash and a number of bits
- *   host A                               A is an IPv4 or IPv6 address
- *   net 10, net 192.168, net 192.168.1   as `net 10.0.0.0/8`, `net 192.168.0.0/16`, `net 192.168.1.0/24`
- *   net 10.0.0.0 mask 255.0.0.0          as `net 10.0.0.0/8`; the ones of the mask are at its start
- *   ip multicast, ip6 multicast          the destination is in 224.0.0.0/3, in ff00::/8
- *   src port P, dst port P, port P, portrange P       P is a port or a range such as 1024-65535
- *   proto N                              as `leads-to N`; of an extension header, `( header N or leads-to N )`
- *   no-transport                         the payload should start with an upper-layer header, but lacks part of it
- *   icmp-type T, icmp-code N             the type and the code of an ICMP message of an IPv4 packet; T is a number or a name
- *   icmp6-type T, icmp6-code N           those of an ICMPv6 message of an IPv6 packet
- *   tcp-flags LIST, tcp-flags LIST/LIST  these flags of TCP are set; of those after the slash, exactly these. LIST is a
- *                                        flag or several with commas between: fin, syn, rst, psh, ack, urg, ece, cwr
+ *   fragment            the payload is a fragment
+ *   first-fragment      the payload is a first fragment
+ *   later-fragment      the payload is a middle or last fragment
+ *   header HEADER       the chain has this header
+ *   leads-to PROTOCOL   this number follows the chain
+ *   tcp                 TCP (6) follows the chain
+ *   udp                 UDP (17) follows the chain
+ *   dccp                DCCP (33) follows the chain
+ *   gre                 GRE (47) follows the chain
+ *   esp                 ESP (50) follows the chain
+ *   no-next             no header (59) follows the chain
+ *   sctp                SCTP (132) follows the chain
+ *   udp-lite            UDP-Lite (136) follows the chain
+ *   icmp                ICMP (1) follows the chain of an IPv4 packet
+ *   icmp6               ICMPv6 (58) follows that of an IPv6 packet
+ *   headers OP N        the number of headers in the chain
+ *   chain-bytes OP N    the length of the chain in bytes
+ *   payload OP N        the number of payload bytes captured
+ *   length OP N         the length of the packet in bytes
+ *   no-length           the IP header states length 0
+ *   hop-limit OP N      the hop limit, or the time to live of IPv4
+ *   ttl OP N            as hop-limit
+ *   dscp OP N           the differentiated services code point
+ *   ecn OP N            the explicit congestion notification
+ *   flow OP N           the flow label of an IPv6 packet
+ *   fault               the packet has an error
+ *   fault KIND          the packet has an error of this kind
+ *   fault KIND LAYER    the error is in this header or packet
+ *   truncated           a header is truncated
+ *   truncated LAYER     this header is truncated
+ *   incomplete          bytes of the stated length are missing
+ *   version N           the IP version, 4 or 6
+ *   ip                  as version 4
+ *   ip6                 as version 6
+ *   spi N               the security parameters index of AH or ESP
+ *   id N                the identification of the fragment
+ *   routing-type N      the type of a routing header
+ *   segments-left OP N  the segments left of a routing header
+ *   option N            a hop-by-hop or destination option
+ *   src NETWORK         the source address is in the network
+ *   dst NETWORK         the destination address is in the network
+ *   net NETWORK         either address is in the network
+ *   host ADDRESS        either address is this one
+ *   ip multicast        the destination is in 224.0.0.0/3
+ *   ip6 multicast       the destination is in ff00::/8
+ *   src port PORTS      the source port is one of these
+ *   dst port PORTS      the destination port is one of these
+ *   port PORTS          either port is one of these
+ *   portrange PORTS     as port
+ *   proto PROTOCOL      as leads-to, or the chain has the header
+ *   no-transport        the upper-layer header is not all there
+ *   icmp-type TYPE      the type of an ICMP message of IPv4
+ *   icmp6-type TYPE     the type of an ICMPv6 message of IPv6
+ *   icmp-code N         the code of an ICMP message of IPv4
+ *   icmp6-code N        the code of an ICMPv6 message of IPv6
+ *   tcp-flags FLAGS     these flags of TCP are set
  *
- * As in tcpdump's expressions, `host`, `net`, `port` or `portrange` may follow `src` and `dst`, and `ip`, `ip6` or the name of
- * a protocol may precede `src`, `dst` and these: `tcp src port 80` is `( tcp and src port 80 )`, of two terms. `src or dst` is
- * either one, and `src and dst port 53` is `( src port 53 and dst port 53 )`. An address, prefix, port or protocol alone takes
- * the words of the term before it: `tcp port 80 or 443` is `tcp port 80 or tcp port 443`.
+ *   HEADER    hop-by-hop (0), routing (43), fragment (44), authentication (51), destination-options (60), in short
+ *             hopopt (0), route (43), frag (44), ah (51), dstopts (60), or one of these numbers
+ *   PROTOCOL  a number from 0 to 255, a HEADER, or icmp (1), tcp (6), udp (17), dccp (33), gre (47), esp (50), icmp6
+ *             (58), no-next (59), sctp (132), udp-lite (136)
+ *   OP        = == != < <= > >=
+ *   KIND      too-short, not-at-start, zero-length, unsupported-version, header-length
+ *   LAYER     IP-header, IPv4-header, IPv4-packet, authentication, IPv6-header, IPv6-extension, hop-by-hop,
+ *             destination-options, routing, fragment; IPv6-extension is any extension header of an IPv6 packet
+ *   TYPE      a number from 0 to 255, or its name in libpcap's expressions, such as icmp-echo or icmp6-neighborsolicit
+ *   N         a decimal number, or a hexadecimal one after 0x
+ *   NETWORK   an IPv4 or IPv6 address, alone or with a slash and a number of bits; after net, also A mask M, or one to
+ *             three numbers: net 192.168 is net 192.168.0.0/16
+ *   ADDRESS   an IPv4 or IPv6 address
+ *   PORTS     a number from 0 to 65535, or a range such as 1024-65535
+ *   FLAGS     fin, syn, rst, psh, ack, urg, ece, cwr, or several with commas between; all that count after a slash
  *
- * An access compares bytes of the packet, as in tcpdump's expressions: `tcp[13] & 2 != 0`, `ip[6:2] & 0x1fff = 0`. `NAME[I]`,
- * `NAME[I:2]` and `NAME[I:4]` are the number in 1, 2 or 4 bytes at offset I, in network byte order. NAME is `ip` or `ip6`, with
- * offsets from the IP header of this version, or the name of a protocol, with offsets from its header, which extension headers
- * may precede. `& BITS` may follow, and then OP and BITS: a number of 32 bits, a name, or several in parentheses with `|`
- * between them, as in `tcp[tcpflags] & (tcp-syn|tcp-ack) != 0`. The names are tcp-fin, tcp-syn, tcp-rst, tcp-push, tcp-ack,
- * tcp-urg, tcp-ece, tcp-cwr and those of types; icmptype, icmpcode, icmp6type, icmp6code and tcpflags are offsets. An access is
- * false, also with `!=`, if not all of its bytes are in the packet, or if the protocol's header is in an earlier fragment.
+ * After `leads-to`, `icmp` and `icmp6` are numbers of either version.
  *
- * TCP, UDP, UDP-Lite, SCTP and DCCP have ports. Ports, types, codes and flags of TCP are read from the payload, so extension
- * headers may precede them. A later fragment has none, nor has a packet with an error or a truncated header. The terms about
- * fragments hold of an IPv6 packet if they do of one of its fragment headers.
+ * A `fault` is too-short with IPv4-packet or an extension header, not-at-start with hop-by-hop, zero-length with
+ * authentication, unsupported-version with IP-header, or header-length with IPv4-header; IPv6-extension may follow the
+ * first three. IP-header, IPv4-header, IPv6-header and extension headers can be truncated.
  *
- * `no-transport` asks for the header of TCP up to its data offset, of DCCP likewise, of SCTP (12 bytes), of UDP, UDP-Lite and
- * ICMP after IPv4 (8 bytes) and of ICMPv6 after IPv6 (4 bytes). It holds of a first fragment that has less of it (RFC 7112),
- * and of a packet whose data offset is too small.
+ * `length` is what is there where none is stated. A jumbo payload option doesn't count for `no-length`.
  *
- * These are the names of types, those of libpcap's expressions:
- * icmp-echoreply, icmp-unreach, icmp-sourcequench, icmp-redirect, icmp-echo, icmp-routeradvert, icmp-routersolicit,
- * icmp-timxceed, icmp-paramprob, icmp-tstamp, icmp-tstampreply, icmp-ireq, icmp-ireqreply, icmp-maskreq, icmp-maskreply.
- * icmp6-destinationunreach, icmp6-packettoobig, icmp6-timeexceeded, icmp6-parameterproblem, icmp6-echo, icmp6-echoreply,
- * icmp6-multicastlistenerquery, icmp6-multicastlistenerreportv1, icmp6-multicastlistenerdone, icmp6-routersolicit,
- * icmp6-routeradvert, icmp6-neighborsolicit, icmp6-neighboradvert, icmp6-redirect, icmp6-routerrenum,
- * icmp6-nodeinformationquery, icmp6-nodeinformationresponse, icmp6-ineighbordiscoverysolicit,
- * icmp6-ineighbordiscoveryadvert, icmp6-multicastlistenerreportv2, icmp6-homeagentdiscoveryrequest,
- * icmp6-homeagentdiscoveryreply, icmp6-mobileprefixsolicit, icmp6-mobileprefixadvert, icmp6-certpathsolicit,
- * icmp6-certpathadvert, icmp6-multicastrouteradvert, icmp6-multicastroutersolicit, icmp6-multicastrouterterm.
+ * TCP, UDP, UDP-Lite, SCTP and DCCP have ports. Ports, types, codes and flags of TCP are read from the payload, so
+ * extension headers may precede them. A later fragment has none, nor has a packet with an error or a truncated header.
+ * The terms about fragments hold of an IPv6 packet if they do of one of its fragment headers.
  *
- * Numbers are decimal, or hexadecimal after 0x. On success, returns true and fills in `filter`, whose count is at most
- * WOLFAREN_FILTER_TESTS; `error` is left unchanged. On error, returns false and stores in `error` what is expected where;
- * `filter` is left unchanged.
+ * `no-transport` asks for the header of TCP up to its data offset, of DCCP likewise, of SCTP (12 bytes), of UDP,
+ * UDP-Lite and ICMP after IPv4 (8 bytes) and of ICMPv6 after IPv6 (4 bytes). It holds of a first fragment that has
+ * less of it (RFC 7112), and of a packet whose data offset is too small.
+ *
+ * As in tcpdump's expressions, `host`, `net`, `port` or `portrange` may follow `src` and `dst`, and `ip`, `ip6` or the
+ * name of a protocol may precede `src`, `dst` and these: `tcp src port 80` is `( tcp and src port 80 )`, of two terms.
+ * `src or dst` is either one, and `src and dst port 53` is `( src port 53 and dst port 53 )`. An address, prefix, port
+ * or protocol alone takes the words of the term before it: `tcp port 80 or 443` is `tcp port 80 or tcp port 443`.
+ *
+ * An access compares bytes of the packet, as in tcpdump's expressions: `tcp[13] & 2 != 0`, `ip[6:2] & 0x1fff = 0`.
+ * `NAME[I]`, `NAME[I:2]` and `NAME[I:4]` are the number in 1, 2 or 4 bytes at offset I, in network byte order. NAME is
+ * `ip` or `ip6`, with offsets from the IP header of this version, or the name of a protocol, with offsets from its
+ * header, which extension headers may precede. `& BITS` may follow, and then OP and BITS: a number of 32 bits, a name,
+ * or several in parentheses with `|` between them, as in `tcp[tcpflags] & (tcp-syn|tcp-ack) != 0`. The names are
+ * tcp-fin, tcp-syn, tcp-rst, tcp-push, tcp-ack, tcp-urg, tcp-ece, tcp-cwr and those of types; icmptype, icmpcode,
+ * icmp6type, icmp6code and tcpflags are offsets. An access is false, also with `!=`, if not all of its bytes are in
+ * the packet, or if the protocol's header is in an earlier fragment.
+ *
+ * Terms are joined by `not`, `and` and `or`, or `!`, `&&` and `||`, and by parentheses. `not` binds most tightly, then
+ * `and`. White space separates words. There may be up to 64 terms and 16 levels of parentheses.
+ *
+ * The names of types are icmp-echoreply, icmp-unreach, icmp-sourcequench, icmp-redirect, icmp-echo, icmp-routeradvert,
+ * icmp-routersolicit, icmp-timxceed, icmp-paramprob, icmp-tstamp, icmp-tstampreply, icmp-ireq, icmp-ireqreply,
+ * icmp-maskreq, icmp-maskreply; icmp6-destinationunreach, icmp6-packettoobig, icmp6-timeexceeded,
+ * icmp6-parameterproblem, icmp6-echo, icmp6-echoreply, icmp6-multicastlistenerquery, icmp6-multicastlistenerreportv1,
+ * icmp6-multicastlistenerdone, icmp6-routersolicit, icmp6-routeradvert, icmp6-neighborsolicit, icmp6-neighboradvert,
+ * icmp6-redirect, icmp6-routerrenum, icmp6-nodeinformationquery, icmp6-nodeinformationresponse,
+ * icmp6-ineighbordiscoverysolicit, icmp6-ineighbordiscoveryadvert, icmp6-multicastlistenerreportv2,
+ * icmp6-homeagentdiscoveryrequest, icmp6-homeagentdiscoveryreply, icmp6-mobileprefixsolicit, icmp6-mobileprefixadvert,
+ * icmp6-certpathsolicit, icmp6-certpathadvert, icmp6-multicastrouteradvert, icmp6-multicastroutersolicit,
+ * icmp6-multicastrouterterm.
+ *
+ * On success, returns true and fills in `filter`, whose count is at most WOLFAREN_FILTER_TESTS; `error` is left unchanged.
+ * On error, returns false and stores in `error` what is expected where; `filter` is left unchanged.
  */
 WOLFAREN_USE_RESULT
 bool wolfaren_parse_filter(const char *text, size_t len, struct wolfaren_filter *filter,
@@ -1515,6 +1555,18 @@ void wolfaren_find_kind_word(uint8_t kind, struct wolfaren_name *word) WOLFAREN_
 void wolfaren_find_layer_word(uint8_t layer, struct wolfaren_name *word) WOLFAREN_NONNULL(2);
 void wolfaren_find_number_word(uint8_t number, struct wolfaren_name *word) WOLFAREN_NONNULL(2);
 
+/*
+ * Stores a term of filters, what it says, or an example of it in `text`, by its index from 0; likewise an argument of terms,
+ * or what it may be; and a paragraph of what holds of several terms. Beyond the last, the text is empty. From C and C++, call
+ * wolfaren_term and the others below.
+ */
+void wolfaren_find_term(uint8_t index, struct wolfaren_name *text) WOLFAREN_NONNULL(2);
+void wolfaren_find_term_meaning(uint8_t index, struct wolfaren_name *text) WOLFAREN_NONNULL(2);
+void wolfaren_find_term_example(uint8_t index, struct wolfaren_name *text) WOLFAREN_NONNULL(2);
+void wolfaren_find_argument(uint8_t index, struct wolfaren_name *text) WOLFAREN_NONNULL(2);
+void wolfaren_find_argument_meaning(uint8_t index, struct wolfaren_name *text) WOLFAREN_NONNULL(2);
+void wolfaren_find_term_note(uint8_t index, struct wolfaren_name *text) WOLFAREN_NONNULL(2);
+
 /* Returns the name of a kind of error, such as "TooShort" for WOLFAREN_TOO_SHORT. */
 static inline const char *wolfaren_kind_name(uint8_t kind)
 {
@@ -1569,6 +1621,54 @@ static inline const char *wolfaren_number_word(uint8_t number)
     struct wolfaren_name word;
     wolfaren_find_number_word(number, &word);
     return word.text;
+}
+
+/* Returns a term of filters with its arguments, such as "header HEADER", by its index from 0, or an empty text. */
+static inline const char *wolfaren_term(uint8_t index)
+{
+    struct wolfaren_name text;
+    wolfaren_find_term(index, &text);
+    return text.text;
+}
+
+/* Returns what a term says, by its index from 0, or an empty text. */
+static inline const char *wolfaren_term_meaning(uint8_t index)
+{
+    struct wolfaren_name text;
+    wolfaren_find_term_meaning(index, &text);
+    return text.text;
+}
+
+/* Returns an example of a term, such as "header 44", by its index from 0, or an empty text. */
+static inline const char *wolfaren_term_example(uint8_t index)
+{
+    struct wolfaren_name text;
+    wolfaren_find_term_example(index, &text);
+    return text.text;
+}
+
+/* Returns an argument of terms, such as "HEADER", by its index from 0, or an empty text. */
+static inline const char *wolfaren_argument(uint8_t index)
+{
+    struct wolfaren_name text;
+    wolfaren_find_argument(index, &text);
+    return text.text;
+}
+
+/* Returns what an argument may be, by its index from 0, or an empty text. */
+static inline const char *wolfaren_argument_meaning(uint8_t index)
+{
+    struct wolfaren_name text;
+    wolfaren_find_argument_meaning(index, &text);
+    return text.text;
+}
+
+/* Returns what holds of several terms, by its index from 0, or an empty text. */
+static inline const char *wolfaren_term_note(uint8_t index)
+{
+    struct wolfaren_name text;
+    wolfaren_find_term_note(index, &text);
+    return text.text;
 }
 
 #ifdef __cplusplus

@@ -44,6 +44,8 @@ mod ip_ext_chains;
 mod ip_ext_headers;
 mod ip_ext_slices;
 mod ip_filter;
+#[cfg(feature = "c")]
+mod ip_filter_terms;
 mod ip_frames;
 mod ip_hash;
 mod ip_header_contents;
@@ -89,66 +91,114 @@ pub mod codes {
 
 /// Filters: texts parsed, and packets that match them. A text has terms, joined by `not`, `and` and `or`.
 ///
-/// These are the terms. A number is decimal, or hexadecimal after `0x`.
+/// These are the terms.
 ///
-/// | Term | Holds if |
+/// | Term | Holds if, or compares |
 /// |---|---|
-/// | `version 4`, `version 6` | there is an IP header of this version |
-/// | `ip`, `ip6` | as `version 4` and `version 6` |
-/// | `header N` | there is an extension header of this name or number: `hop-by-hop` (0), `routing` (43), `fragment` (44), `authentication` (51) or `destination-options` (60), or in short `hopopt`, `route`, `frag`, `ah` or `dstopts` |
-/// | `leads-to N` | this number follows the headers: 0 to 255, a name as above, or one from the next row |
-/// | `tcp`, `udp`, `dccp`, `gre`, `esp`, `no-next`, `sctp`, `udp-lite` | as `leads-to` with this name |
-/// | `icmp`, `icmp6` | ICMP (1) follows the headers of an IPv4 packet, ICMP for IPv6 (58) those of an IPv6 packet; after `leads-to`, the number alone counts |
-/// | `fragment`, `first-fragment`, `later-fragment` | the packet is such a fragment, and not an atomic one |
+/// | `fragment` | the payload is a fragment |
+/// | `first-fragment` | the payload is a first fragment |
+/// | `later-fragment` | the payload is a middle or last fragment |
+/// | `header HEADER` | the chain has this header |
+/// | `leads-to PROTOCOL` | this number follows the chain |
+/// | `tcp` | TCP (6) follows the chain |
+/// | `udp` | UDP (17) follows the chain |
+/// | `dccp` | DCCP (33) follows the chain |
+/// | `gre` | GRE (47) follows the chain |
+/// | `esp` | ESP (50) follows the chain |
+/// | `no-next` | no header (59) follows the chain |
+/// | `sctp` | SCTP (132) follows the chain |
+/// | `udp-lite` | UDP-Lite (136) follows the chain |
+/// | `icmp` | ICMP (1) follows the chain of an IPv4 packet |
+/// | `icmp6` | ICMPv6 (58) follows that of an IPv6 packet |
+/// | `headers OP N` | the number of headers in the chain |
+/// | `chain-bytes OP N` | the length of the chain in bytes |
+/// | `payload OP N` | the number of payload bytes captured |
+/// | `length OP N` | the length of the packet in bytes |
+/// | `no-length` | the IP header states length 0 |
+/// | `hop-limit OP N` | the hop limit, or the time to live of IPv4 |
+/// | `ttl OP N` | as hop-limit |
+/// | `dscp OP N` | the differentiated services code point |
+/// | `ecn OP N` | the explicit congestion notification |
+/// | `flow OP N` | the flow label of an IPv6 packet |
+/// | `fault` | the packet has an error |
+/// | `fault KIND` | the packet has an error of this kind |
+/// | `fault KIND LAYER` | the error is in this header or packet |
 /// | `truncated` | a header is truncated |
-/// | `truncated LAYER` | a header of this layer is truncated: `IP-header`, `IPv4-header`, `IPv6-header`, `authentication`, `hop-by-hop`, `destination-options`, `routing`, `fragment`, or `IPv6-extension`, which is any extension header of IPv6 |
+/// | `truncated LAYER` | this header is truncated |
 /// | `incomplete` | bytes of the stated length are missing |
-/// | `fault` | a header is faulty |
-/// | `fault KIND` | it is faulty like this: `too-short`, `not-at-start`, `zero-length`, `unsupported-version` or `header-length` |
-/// | `fault KIND LAYER` | it is, and of this layer, which can have the fault: `IPv4-packet`, an extension header or `IPv6-extension` after `too-short`, `hop-by-hop` after `not-at-start`, `authentication` after `zero-length`, `IP-header` after `unsupported-version`, `IPv4-header` after `header-length`; `IPv6-extension` after the second and the third too |
-/// | `headers OP N`, `chain-bytes OP N`, `payload OP N` | the number of extension headers, their length in bytes or the number of payload bytes compares so; `OP` is `=`, `==`, `!=`, `<`, `<=`, `>` or `>=` |
-/// | `length OP N` | the length that the IP header states compares so, or the number of bytes there if it states none |
-/// | `no-length` | the IP header states length 0, although bytes follow it; a jumbo payload option doesn't count |
-/// | `hop-limit OP N`, `ttl OP N` | the hop limit, or IPv4's time to live, compares so |
-/// | `dscp OP N`, `ecn OP N` | the differentiated services code point, or the explicit congestion notification, compares so |
-/// | `flow OP N` | the flow label compares so; false of IPv4 packets |
-/// | `spi N` | an authentication header has this security parameters index, or ESP after the headers |
-/// | `id N` | the fragment has this identification |
-/// | `routing-type N` | a routing header has this type |
-/// | `segments-left OP N` | the segments left of a routing header compare so |
-/// | `option N` | hop-by-hop or destination options have one of this type, and no malformed one before it |
-/// | `src NET`, `dst NET`, `net NET` | the source, the destination or one of them is in this network: an address, or a prefix such as `2001:db8::/32` |
-/// | `host A` | the source or the destination is this address |
-/// | `net 10`, `net 192.168`, `net 192.168.1` | as `net 10.0.0.0/8`, `net 192.168.0.0/16`, `net 192.168.1.0/24` |
-/// | `ip multicast`, `ip6 multicast` | the destination is in `224.0.0.0/3`, in `ff00::/8` |
-/// | `src port P`, `dst port P`, `port P`, `portrange P` | the source port, the destination port or one of them is in this range: a port, or a range such as `1024-65535` |
-/// | `proto N` | as `leads-to N`; of an extension header, `( header N or leads-to N )` |
-/// | `no-transport` | the payload should start with an upper-layer header, but lacks part of it |
-/// | `icmp-type T`, `icmp-code N` | the payload of an IPv4 packet is an ICMP message of this type or with this code; `T` is a number, or a name of libpcap's such as `icmp-echo` |
-/// | `icmp6-type T`, `icmp6-code N` | the payload of an IPv6 packet is a message of ICMP for IPv6 of this type or with this code; `T` may be a name such as `icmp6-echo` |
-/// | `tcp-flags LIST`, `tcp-flags LIST/LIST` | these flags of TCP are set; of those after the slash, exactly these. `LIST` is a flag or several with commas between: `fin`, `syn`, `rst`, `psh`, `ack`, `urg`, `ece`, `cwr` |
+/// | `version N` | the IP version, 4 or 6 |
+/// | `ip` | as version 4 |
+/// | `ip6` | as version 6 |
+/// | `spi N` | the security parameters index of AH or ESP |
+/// | `id N` | the identification of the fragment |
+/// | `routing-type N` | the type of a routing header |
+/// | `segments-left OP N` | the segments left of a routing header |
+/// | `option N` | a hop-by-hop or destination option |
+/// | `src NETWORK` | the source address is in the network |
+/// | `dst NETWORK` | the destination address is in the network |
+/// | `net NETWORK` | either address is in the network |
+/// | `host ADDRESS` | either address is this one |
+/// | `ip multicast` | the destination is in 224.0.0.0/3 |
+/// | `ip6 multicast` | the destination is in ff00::/8 |
+/// | `src port PORTS` | the source port is one of these |
+/// | `dst port PORTS` | the destination port is one of these |
+/// | `port PORTS` | either port is one of these |
+/// | `portrange PORTS` | as port |
+/// | `proto PROTOCOL` | as leads-to, or the chain has the header |
+/// | `no-transport` | the upper-layer header is not all there |
+/// | `icmp-type TYPE` | the type of an ICMP message of IPv4 |
+/// | `icmp6-type TYPE` | the type of an ICMPv6 message of IPv6 |
+/// | `icmp-code N` | the code of an ICMP message of IPv4 |
+/// | `icmp6-code N` | the code of an ICMPv6 message of IPv6 |
+/// | `tcp-flags FLAGS` | these flags of TCP are set |
 ///
-/// As in tcpdump's expressions, `host`, `net`, `port` or `portrange` may follow `src` and `dst`, and `ip`, `ip6` or the
-/// name of a protocol may precede `src`, `dst` and these: `tcp src port 80` is `( tcp and src port 80 )`, of two terms.
-/// `src or dst` is either one, and `src and dst port 53` is `( src port 53 and dst port 53 )`. An address, prefix,
-/// port or protocol alone takes the words of the term before it: `tcp port 80 or 443` is
-/// `tcp port 80 or tcp port 443`.
+/// | Argument | |
+/// |---|---|
+/// | `HEADER` | hop-by-hop (0), routing (43), fragment (44), authentication (51), destination-options (60), in short hopopt (0), route (43), frag (44), ah (51), dstopts (60), or one of these numbers |
+/// | `PROTOCOL` | a number from 0 to 255, a HEADER, or icmp (1), tcp (6), udp (17), dccp (33), gre (47), esp (50), icmp6 (58), no-next (59), sctp (132), udp-lite (136) |
+/// | `OP` | `= == != < <= > >=` |
+/// | `KIND` | too-short, not-at-start, zero-length, unsupported-version, header-length |
+/// | `LAYER` | IP-header, IPv4-header, IPv4-packet, authentication, IPv6-header, IPv6-extension, hop-by-hop, destination-options, routing, fragment; IPv6-extension is any extension header of an IPv6 packet |
+/// | `TYPE` | a number from 0 to 255, or its name in libpcap's expressions, such as icmp-echo or icmp6-neighborsolicit |
+/// | `N` | a decimal number, or a hexadecimal one after 0x |
+/// | `NETWORK` | an IPv4 or IPv6 address, alone or with a slash and a number of bits; after net, also A mask M, or one to three numbers: net 192.168 is net 192.168.0.0/16 |
+/// | `ADDRESS` | an IPv4 or IPv6 address |
+/// | `PORTS` | a number from 0 to 65535, or a range such as 1024-65535 |
+/// | `FLAGS` | fin, syn, rst, psh, ack, urg, ece, cwr, or several with commas between; all that count after a slash |
 ///
-/// An access compares bytes of the packet, as in tcpdump's expressions: `tcp[13] & 2 != 0`, `ip[6:2] & 0x1fff = 0`.
-/// `NAME[I]`, `NAME[I:2]` and `NAME[I:4]` are the number in 1, 2 or 4 bytes at offset I, in network byte order. NAME is
-/// `ip` or `ip6`, with offsets from the IP header of this version, or the name of a protocol, with offsets from its
-/// header, which extension headers may precede. `& BITS` may follow, and then OP and BITS: a number of 32 bits, a name,
-/// or several in parentheses with `|` between them, as in `tcp[tcpflags] & (tcp-syn|tcp-ack) != 0`. The names are
-/// tcp-fin, tcp-syn, tcp-rst, tcp-push, tcp-ack, tcp-urg, tcp-ece, tcp-cwr and those of types; icmptype, icmpcode,
-/// icmp6type, icmp6code and tcpflags are offsets. An access is false, also with `!=`, if not all of its bytes are in
-/// the packet, or if the protocol's header is in an earlier fragment.
+/// After `leads-to`, `icmp` and `icmp6` are numbers of either version.
+///
+/// A `fault` is too-short with IPv4-packet or an extension header, not-at-start with hop-by-hop, zero-length with
+/// authentication, unsupported-version with IP-header, or header-length with IPv4-header; IPv6-extension may follow
+/// the first three. IP-header, IPv4-header, IPv6-header and extension headers can be truncated.
+///
+/// `length` is what is there where none is stated. A jumbo payload option doesn't count for `no-length`.
 ///
 /// TCP, UDP, UDP-Lite, SCTP and DCCP have ports. Ports, types, codes and flags of TCP are read from the payload, so
 /// extension headers may precede them. A later fragment has none, nor has a packet with an error or a truncated
 /// header. The terms about fragments hold of an IPv6 packet if they do of one of its fragment headers.
 ///
-/// `!`, `&&` and `||` are `not`, `and` and `or`. `not` binds most tightly, then `and`; parentheses group. There may
-/// be up to 64 terms and 16 levels of parentheses.
+/// `no-transport` asks for the header of TCP up to its data offset, of DCCP likewise, of SCTP (12 bytes), of UDP,
+/// UDP-Lite and ICMP after IPv4 (8 bytes) and of ICMPv6 after IPv6 (4 bytes). It holds of a first fragment that has
+/// less of it (RFC 7112), and of a packet whose data offset is too small.
+///
+/// As in tcpdump's expressions, `host`, `net`, `port` or `portrange` may follow `src` and `dst`, and `ip`, `ip6` or
+/// the name of a protocol may precede `src`, `dst` and these: `tcp src port 80` is `( tcp and src port 80 )`, of two
+/// terms. `src or dst` is either one, and `src and dst port 53` is `( src port 53 and dst port 53 )`. An address,
+/// prefix, port or protocol alone takes the words of the term before it: `tcp port 80 or 443` is `tcp port 80 or tcp
+/// port 443`.
+///
+/// An access compares bytes of the packet, as in tcpdump's expressions: `tcp[13] & 2 != 0`, `ip[6:2] & 0x1fff = 0`.
+/// `NAME[I]`, `NAME[I:2]` and `NAME[I:4]` are the number in 1, 2 or 4 bytes at offset I, in network byte order. NAME
+/// is `ip` or `ip6`, with offsets from the IP header of this version, or the name of a protocol, with offsets from its
+/// header, which extension headers may precede. `& BITS` may follow, and then OP and BITS: a number of 32 bits, a
+/// name, or several in parentheses with `|` between them, as in `tcp[tcpflags] & (tcp-syn|tcp-ack) != 0`. The names
+/// are tcp-fin, tcp-syn, tcp-rst, tcp-push, tcp-ack, tcp-urg, tcp-ece, tcp-cwr and those of types; icmptype, icmpcode,
+/// icmp6type, icmp6code and tcpflags are offsets. An access is false, also with `!=`, if not all of its bytes are in
+/// the packet, or if the protocol's header is in an earlier fragment.
+///
+/// Terms are joined by `not`, `and` and `or`, or `!`, `&&` and `||`, and by parentheses. `not` binds most tightly,
+/// then `and`. White space separates words. There may be up to 64 terms and 16 levels of parentheses.
 pub mod filter {
     pub use crate::ip_filter::*;
     pub use crate::text_filter::TextFilter;

@@ -158,6 +158,12 @@ CALL(find_number_name, (number, &name))
 CALL(find_kind_word, (number, &name))
 CALL(find_layer_word, (number, &name))
 CALL(find_number_word, (number, &name))
+CALL(find_term, (number, &name))
+CALL(find_term_meaning, (number, &name))
+CALL(find_term_example, (number, &name))
+CALL(find_argument, (number, &name))
+CALL(find_argument_meaning, (number, &name))
+CALL(find_term_note, (number, &name))
 
 static void expect(bool holds, const char *what)
 {
@@ -619,7 +625,8 @@ static void measure_texts(void)
 {
     static struct call *const calls[] = {&outcome_text, &loss_text, &refusal_text, &expected_text, &find_kind_name, &find_layer_name,
                                          &find_len_source_name, &find_number_name, &find_kind_word, &find_layer_word,
-                                         &find_number_word, &fault_text};
+                                         &find_number_word, &find_term, &find_term_meaning, &find_term_example, &find_argument,
+                                         &find_argument_meaning, &find_term_note, &fault_text};
     for (unsigned code = 0; code < 256; code++) {
         number = (uint8_t)code;
         fault = (struct wolfaren_fault){SIZE_MAX, SIZE_MAX, SIZE_MAX, (uint8_t)draw(7), (uint8_t)draw(13), (uint8_t)draw(13),

@@ -359,7 +359,7 @@ MANUAL = os.path.join(os.path.dirname(os.path.abspath(__file__)), "..", "..", "p
 def types_in_the_manual(term):
     """Returns the names of types that the manual page lists for a term."""
     with open(MANUAL) as file:
-        _, _, paragraph = file.read().partition(f'.BI "{term} " TYPE\n')
+        _, _, paragraph = file.read().partition(f"\\fB{term}\\fP \\fITYPE\\fP\n")
     return re.findall(r"^\.BR \\%(icmp6?-\w+)", paragraph.partition(".TP")[0], re.M)
 
 

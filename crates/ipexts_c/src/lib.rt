@@ -17,6 +17,7 @@ mod packets;
 mod results;
 mod rewrites;
 mod statistics;
+mod terms;
 mod texts;
 mod version;
 mod writes;

@@ -1,0 +1,7 @@
+use Rattle.std.proofs.Common.{[], ◌∷◌, ◌++◌, sym, ap, arith}
+use Rattle.std.proofs.lemmas.List.{get_or_past}
+use Rattle.ip_filter_terms.specs.Table.{terms}
+use Rattle.ip_filter_terms.proofs.term.Goals as goal
+
+pub returns-in_default : goal.returns-in_default
+returns-in_default c = sym (ap (λ t. t ++ 0 ∷ []) (get_or_past terms c.args.index [] (omega (arith))))

@@ -24,6 +24,15 @@ impl ReserveBytes for Vec<u8> {
     }
 }
 
+/// Returns the bytes from an index on, as many as the array has. Panics if there are fewer.
+#[inline(always)]
+pub(crate) fn bytes_at<const N: usize>(bytes: &[u8], start: usize) -> [u8; N] {
+    match bytes[start..start + N].try_into() {
+        Ok(found) => found,
+        Err(_) => unreachable!(),
+    }
+}
+
 /// A text of bytes parsed.
 pub(crate) trait ParseText: Sized {
     /// Parses the whole text.

@@ -24,20 +24,12 @@ impl ReserveBytes for Vec<u8> {
     }
 }
 
-/// A block of bytes that is loaded at once.
-pub(crate) struct Simd<T, const N: usize>([T; N]);
-
-impl<const N: usize> Simd<u8, N> {
-    /// Returns the first bytes of a slice. Panics if there are fewer.
-    #[inline(always)]
-    pub(crate) fn from_slice(bytes: &[u8]) -> Simd<u8, N> {
-        Simd(*bytes.first_chunk().expect("a whole block"))
-    }
-
-    /// Returns the bytes.
-    #[inline(always)]
-    pub(crate) fn to_array(self) -> [u8; N] {
-        self.0
+/// Returns the bytes from an index on, as many as the array has. Panics if there are fewer.
+#[inline(always)]
+pub(crate) fn bytes_at<const N: usize>(bytes: &[u8], start: usize) -> [u8; N] {
+    match bytes[start..start + N].try_into() {
+        Ok(found) => found,
+        Err(_) => unreachable!(),
     }
 }
 

@@ -115,6 +115,18 @@ fn writes_are_the_bytes_that_were_parsed() {
 }
 
 #[test]
+fn writes_follow_the_links() {
+    // an authentication header, a fragment header and destination options
+    let chain = [
+        44, 1, 0, 0, 0, 0, 0, 1, 0, 0, 0, 2, 60, 0, 0, 0, 0, 0, 0, 7, 17, 0, 1, 4, 0, 0, 0, 0,
+    ];
+    let (headers, number, _) = Ipv6Extensions::from_slice(IpNumber(51), &chain).expect("headers");
+    let mut written = Vec::new();
+    headers.write(&mut written, IpNumber(51)).expect("room");
+    assert_eq!((number, &written[..]), (ip_number::UDP, &chain[..]));
+}
+
+#[test]
 fn failures_of_writers() {
     let (mut headers, _, _) = Ipv6Extensions::from_slice(IpNumber(0), &CHAIN).expect("headers");
     let error = headers

@@ -56,6 +56,8 @@ mod early;
 mod facts;
 mod filter;
 mod flags;
+mod frame;
+mod framed;
 mod header_condition;
 mod holds;
 mod icmp_types;
@@ -86,6 +88,7 @@ mod transport;
 mod words;
 
 pub use filter::{Filter, Test};
+pub use frame::Frame;
 pub use laws::{bytes_after_the_packet_change_nothing, errors_lie_in_their_layers};
 pub use metadata::Metadata;
 pub use network::Network;

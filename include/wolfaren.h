@@ -65,10 +65,10 @@
 #define WOLFAREN_VERSION (10000 * WOLFAREN_VERSION_MAJOR + 100 * WOLFAREN_VERSION_MINOR + WOLFAREN_VERSION_PATCH)
 
 /* A checksum of the structs, numbers and calls in this header, made by scripts/abi of the repository. */
-#define WOLFAREN_ABI 0xe4fa1722u
+#define WOLFAREN_ABI 0x86a5179cu
 
 /* The symbol that is named after the checksum. */
-#define WOLFAREN_ABI_SYMBOL wolfaren_abi_e4fa1722
+#define WOLFAREN_ABI_SYMBOL wolfaren_abi_86a5179c
 
 /* The machines for which the library is built. That of `make rust-c` is for any machine, and its users define WOLFAREN_PLAIN. */
 #ifdef WOLFAREN_PLAIN
@@ -1273,7 +1273,12 @@ enum wolfaren_test {
     WOLFAREN_TEST_ICMP6_CODE = 29,         /* its code is `number` */
     WOLFAREN_TEST_NO_LENGTH = 30,          /* the base header states length 0, although bytes follow it */
     WOLFAREN_TEST_BASE_ACCESS = 31,        /* bits of the bytes at an offset from the base header compare so with `number` */
-    WOLFAREN_TEST_TRANSPORT_ACCESS = 32    /* those of bytes at an offset from the transport header do */
+    WOLFAREN_TEST_TRANSPORT_ACCESS = 32,   /* those of bytes at an offset from the transport header do */
+    WOLFAREN_TEST_WIRE_LENGTH = 33,        /* the frame's length on the wire compares so with `number` */
+    WOLFAREN_TEST_VLAN = 34,               /* the frame has a VLAN tag */
+    WOLFAREN_TEST_VLAN_OF = 35,            /* its first or second VLAN tag has the identifier `number` */
+    WOLFAREN_TEST_ETHER_TYPE = 36,         /* its EtherType is `number` */
+    WOLFAREN_TEST_MISMATCHED = 37          /* it announced one IP version, but the packet begins with the other */
 };
 
 /*
@@ -1417,6 +1422,13 @@ struct wolfaren_filter_error {
  *   icmp6-type T, icmp6-code N           those of an ICMPv6 message of an IPv6 packet
  *   tcp-flags LIST, tcp-flags LIST/LIST  these flags of TCP are set; of those after the slash, exactly these. LIST is a
  *                                        flag or several with commas between: fin, syn, rst, psh, ack, urg, ece, cwr
+ *   less N, greater N                    the frame's length on the wire is at most N, at least N
+ *   vlan, vlan N                         the frame has a VLAN tag; its first or second one has this identifier, 0 to 4095
+ *   arp                                  the frame's EtherType is 0x0806
+ *   mismatched                           the frame announced one IP version, but the packet begins with the other
+ *
+ * The last four lines ask the frame, by wolfaren_filter_matches_frame. Any other call has a packet alone, of which `less` and
+ * `greater` ask the length as `length` does, and the other terms are false.
  *
  * As in tcpdump's expressions, `host`, `net`, `port` or `portrange` may follow `src` and `dst`, and `ip`, `ip6` or the name of
  * a protocol may precede `src`, `dst` and these: `tcp src port 80` is `( tcp and src port 80 )`, of two terms. `src or dst` is
@@ -1486,7 +1498,16 @@ bool wolfaren_filter_packets(const struct wolfaren_filter *filter, const uint8_t
                              size_t *outside) WOLFAREN_NONNULL(1, 8);
 
 /*
- * Returns whether the filter matches a frame that isn't IP, such as an ARP request: no term holds of it, so it matches
+ * Returns whether the filter matches a frame, of which wolfaren_find_ip or wolfaren_find_ip_after has stored `frame`, and whose
+ * length on the wire is `wire_len` bytes. The `len` bytes start with its IP packet; if `frame->end` isn't WOLFAREN_FRAME_IP, they
+ * aren't read, and only terms that ask the frame can hold.
+ */
+WOLFAREN_USE_RESULT
+bool wolfaren_filter_matches_frame(const struct wolfaren_filter *filter, const struct wolfaren_frame *frame, uint64_t wire_len,
+                                   const uint8_t *packet, size_t len) WOLFAREN_NONNULL(1, 2);
+
+/*
+ * Returns whether the filter matches a frame that isn't IP and of which no more is known: no term holds of it, so it matches
  * `not fault`.
  */
 WOLFAREN_USE_RESULT

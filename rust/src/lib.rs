@@ -127,6 +127,13 @@ pub mod codes {
 /// | `icmp-type T`, `icmp-code N` | the payload of an IPv4 packet is an ICMP message of this type or with this code; `T` is a number, or a name of libpcap's such as `icmp-echo` |
 /// | `icmp6-type T`, `icmp6-code N` | the payload of an IPv6 packet is a message of ICMP for IPv6 of this type or with this code; `T` may be a name such as `icmp6-echo` |
 /// | `tcp-flags LIST`, `tcp-flags LIST/LIST` | these flags of TCP are set; of those after the slash, exactly these. `LIST` is a flag or several with commas between: `fin`, `syn`, `rst`, `psh`, `ack`, `urg`, `ece`, `cwr` |
+/// | `less N`, `greater N` | the frame's length on the wire is at most N, at least N |
+/// | `vlan`, `vlan N` | the frame has a VLAN tag; its first or second one has this identifier, 0 to 4095 |
+/// | `arp` | the frame's EtherType is 0x0806 |
+/// | `mismatched` | the frame announced one IP version, but the packet begins with the other |
+///
+/// The last four rows ask the frame, by `matches_frame`. Any other call has a packet alone, of which `less` and `greater` ask the
+/// length as `length` does, and the other terms are false.
 ///
 /// As in tcpdump's expressions, `host`, `net`, `port` or `portrange` may follow `src` and `dst`, and `ip`, `ip6` or the
 /// name of a protocol may precede `src`, `dst` and these: `tcp src port 80` is `( tcp and src port 80 )`, of two terms.

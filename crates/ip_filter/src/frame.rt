@@ -43,12 +43,10 @@ impl Frame {
     pub(crate) fn is_mismatched(&self, version: u8) -> bool
         ensures { result ≡ is_mismatched version self.now }
     {
-        match self.version {
-            Some(announced) => {
-                (version == 4 && announced == 6) || (version == 6 && announced == 4)
-            }
-            None => false,
-        }
+        let Some(announced) = self.version else {
+            return false;
+        };
+        (version == 4 && announced == 6) || (version == 6 && announced == 4)
     }
 }
 

@@ -37,16 +37,16 @@ abbrev pub decided : Bool → ℕ
 decided is_and = if is_and then 65 else 64
 
 -- the index to which a test leads the subject
-abbrev pub led_by : Option (List ℕ) → Test → ℕ
+abbrev pub led_by : Subject → Test → ℕ
 led_by subject x = if subject_meets subject x then x.if_met else x.if_not
 
 -- The tests `xs`, of which the first has the index i, lead the subject to index 64 if the formula holds of it, otherwise to 65.
-abbrev pub Decide : Option (List ℕ) → Formula → ℕ → List Test → Type 0
+abbrev pub Decide : Subject → Formula → ℕ → List Test → Type 0
 Decide subject f i xs = led_to (subject_meets subject) i i xs ≡ (if truth f (subject_holds subject) then 64 else 65)
 
 -- The tests `xs` are those of the formulas, the last formula first: each formula's start at an index of `starts`. A formula
 -- has at least one test, and at most one for each of its terms.
-abbrev pub AreCompiled : Option (List ℕ) → List Formula → List ℕ → List Test → Type 0
+abbrev pub AreCompiled : Subject → List Formula → List ℕ → List Test → Type 0
 AreCompiled subject [] starts xs = (starts ≡ []) × (xs ≡ [])
 AreCompiled subject (f ∷ fs) starts xs =
     (rest : List ℕ) × (i : ℕ) × (starts ≡ rest ++ i ∷ []) × (i < length xs) × (length xs ≤ i + terms_of f) × Decide subject f i (drop i xs)

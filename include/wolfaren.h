@@ -65,10 +65,10 @@
 #define WOLFAREN_VERSION (10000 * WOLFAREN_VERSION_MAJOR + 100 * WOLFAREN_VERSION_MINOR + WOLFAREN_VERSION_PATCH)
 
 /* A checksum of the structs, numbers and calls in this header, made by scripts/abi of the repository. */
-#define WOLFAREN_ABI 0x00e34857u
+#define WOLFAREN_ABI 0xa705dd00u
 
 /* The symbol that is named after the checksum. */
-#define WOLFAREN_ABI_SYMBOL wolfaren_abi_00e34857
+#define WOLFAREN_ABI_SYMBOL wolfaren_abi_a705dd00
 
 /* The machines for which the library is built. That of `make rust-c` is for any machine, and its users define WOLFAREN_PLAIN. */
 #ifdef WOLFAREN_PLAIN
@@ -1273,7 +1273,12 @@ enum wolfaren_test {
     WOLFAREN_TEST_ICMP6_CODE = 29,         /* its code is `number` */
     WOLFAREN_TEST_NO_LENGTH = 30,          /* the base header states length 0, although bytes follow it */
     WOLFAREN_TEST_BASE_ACCESS = 31,        /* bits of the bytes at an offset from the base header compare so with `number` */
-    WOLFAREN_TEST_TRANSPORT_ACCESS = 32    /* those of bytes at an offset from the transport header do */
+    WOLFAREN_TEST_TRANSPORT_ACCESS = 32,   /* those of bytes at an offset from the transport header do */
+    WOLFAREN_TEST_WIRE_LENGTH = 33,        /* the frame's length on the wire compares so with `number` */
+    WOLFAREN_TEST_VLAN = 34,               /* the frame has a VLAN tag */
+    WOLFAREN_TEST_VLAN_OF = 35,            /* its first or second VLAN tag has the identifier `number` */
+    WOLFAREN_TEST_ETHER_TYPE = 36,         /* its EtherType is `number` */
+    WOLFAREN_TEST_MISMATCHED = 37          /* it announced one IP version, but the packet begins with the other */
 };
 
 /*
@@ -1405,6 +1410,12 @@ struct wolfaren_filter_error {
  *   truncated           a header is truncated
  *   truncated LAYER     this header is truncated
  *   incomplete          bytes of the stated length are missing
+ *   mismatched          IPv4 announced as IPv6, or the reverse
+ *   less N              the frame has at most N bytes on the wire
+ *   greater N           the frame has at least N bytes on the wire
+ *   vlan                the frame has a VLAN tag
+ *   vlan N              one of its first two tags has this number
+ *   arp                 the EtherType of the frame is that of ARP
  *   version N           the IP version, 4 or 6
  *   ip                  as version 4
  *   ip6                 as version 6
@@ -1462,6 +1473,9 @@ struct wolfaren_filter_error {
  * `no-transport` asks for the header of TCP up to its data offset, of DCCP likewise, of SCTP (12 bytes), of UDP,
  * UDP-Lite and ICMP after IPv4 (8 bytes) and of ICMPv6 after IPv6 (4 bytes). It holds of a first fragment that has
  * less of it (RFC 7112), and of a packet whose data offset is too small.
+ *
+ * `mismatched`, `less`, `greater`, `vlan` and `arp` ask the frame, of which a match may be told. Of a packet alone,
+ * `less` and `greater` ask the length as `length` does, and the others are false.
  *
  * As in tcpdump's expressions, `host`, `net`, `port` or `portrange` may follow `src` and `dst`, and `ip`, `ip6` or the
  * name of a protocol may precede `src`, `dst` and these: `tcp src port 80` is `( tcp and src port 80 )`, of two terms.
@@ -1526,7 +1540,16 @@ bool wolfaren_filter_packets(const struct wolfaren_filter *filter, const uint8_t
                              size_t *outside) WOLFAREN_NONNULL(1, 8);
 
 /*
- * Returns whether the filter matches a frame that isn't IP, such as an ARP request: no term holds of it, so it matches
+ * Returns whether the filter matches a frame, of which wolfaren_find_ip or wolfaren_find_ip_after has stored `frame`, and whose
+ * length on the wire is `wire_len` bytes. The `len` bytes start with its IP packet; if `frame->end` isn't WOLFAREN_FRAME_IP, they
+ * aren't read, and only terms that ask the frame can hold.
+ */
+WOLFAREN_USE_RESULT
+bool wolfaren_filter_matches_frame(const struct wolfaren_filter *filter, const struct wolfaren_frame *frame, uint64_t wire_len,
+                                   const uint8_t *packet, size_t len) WOLFAREN_NONNULL(1, 2);
+
+/*
+ * Returns whether the filter matches a frame that isn't IP and of which no more is known: no term holds of it, so it matches
  * `not fault`.
  */
 WOLFAREN_USE_RESULT

@@ -126,6 +126,12 @@ pub mod codes {
 /// | `truncated` | a header is truncated |
 /// | `truncated LAYER` | this header is truncated |
 /// | `incomplete` | bytes of the stated length are missing |
+/// | `mismatched` | IPv4 announced as IPv6, or the reverse |
+/// | `less N` | the frame has at most N bytes on the wire |
+/// | `greater N` | the frame has at least N bytes on the wire |
+/// | `vlan` | the frame has a VLAN tag |
+/// | `vlan N` | one of its first two tags has this number |
+/// | `arp` | the EtherType of the frame is that of ARP |
 /// | `version N` | the IP version, 4 or 6 |
 /// | `ip` | as version 4 |
 /// | `ip6` | as version 6 |
@@ -181,6 +187,9 @@ pub mod codes {
 /// `no-transport` asks for the header of TCP up to its data offset, of DCCP likewise, of SCTP (12 bytes), of UDP,
 /// UDP-Lite and ICMP after IPv4 (8 bytes) and of ICMPv6 after IPv6 (4 bytes). It holds of a first fragment that has
 /// less of it (RFC 7112), and of a packet whose data offset is too small.
+///
+/// `mismatched`, `less`, `greater`, `vlan` and `arp` ask the frame, of which a match may be told. Of a packet alone,
+/// `less` and `greater` ask the length as `length` does, and the others are false.
 ///
 /// As in tcpdump's expressions, `host`, `net`, `port` or `portrange` may follow `src` and `dst`, and `ip`, `ip6` or
 /// the name of a protocol may precede `src`, `dst` and these: `tcp src port 80` is `( tcp and src port 80 )`, of two

@@ -1,5 +1,5 @@
 //! Tests filters. Which packets a filter matches was worked out by hand from RFC 791, RFC 4302 and RFC 8200.
-use wolfaren::filter::{Expected, Filter, ParseError, TextFilter};
+use wolfaren::filter::{Expected, Filter, Frame, ParseError, TextFilter};
 
 /// Returns an IPv6 packet from `2001:db8::1` to `2001:db8::2`.
 fn ipv6(payload_length: u8, next_header: u8, after: &[u8]) -> Vec<u8> {
@@ -339,6 +339,33 @@ fn equal_filters() {
     }
 }
 
+/// What a frame was is asked with it, and of a packet alone nothing is known but its length.
+#[test]
+fn frames() {
+    let packet = ipv4(17, &[0, 53, 0, 53, 0, 8, 0, 0]);
+    let frame = Frame {
+        wire_len: 1500,
+        ether_type: Some(0x0800),
+        version: Some(6),
+        outer_vlan: Some(100),
+        inner_vlan: None,
+    };
+    for (text, alone, framed, without) in [
+        ("less 28", true, false, false),
+        ("greater 1500", false, true, true),
+        ("vlan and vlan 100", false, true, true),
+        ("vlan 0", false, false, false),
+        ("mismatched and udp", false, true, false),
+        ("arp or fault", false, false, false),
+        ("udp and not header 60", true, true, false),
+    ] {
+        let filter = parsed(text);
+        assert_eq!(filter.matches(&packet), alone, "{text}");
+        assert_eq!(filter.matches_frame(&frame, &packet), framed, "{text}");
+        assert_eq!(filter.matches_other_frame(&frame), without, "{text}");
+    }
+}
+
 /// Filters of different terms, alone and in each place of formulas of three terms, aren't equal.
 #[test]
 fn different_filters() {
@@ -356,6 +383,13 @@ fn different_filters() {
             "icmp",
             "icmp6",
             "leads-to icmp",
+            "vlan",
+            "vlan 0",
+            "vlan 1",
+            "arp",
+            "mismatched",
+            "less 60",
+            "greater 60",
         ]
         .map(str::to_owned),
     );

@@ -153,7 +153,7 @@ static void any_contents(void)
         for (size_t i = 0; i < sizeof filter; i++) ((uint8_t *)&filter)[i] = next_byte();
         for (size_t i = 0; i < WOLFAREN_FILTER_TESTS; i++) {
             struct wolfaren_filter_test *test = &filter.tests[i];
-            test->kind %= WOLFAREN_TEST_TRANSPORT_ACCESS + 2;
+            test->kind %= WOLFAREN_TEST_MISMATCHED + 2;
             if (round % 3 == 0) continue;
             test->if_met = (uint8_t)(i + test->if_met % 16);
             test->if_not = (uint8_t)(i + test->if_not % 16);
@@ -475,9 +475,51 @@ static void upper_layers(void)
     }
 }
 
+/* What a filter says of a frame of 100 bytes, of which this was found, with the packet or without one. */
+static void check_frame(const char *text, const struct wolfaren_frame *found, bool matches, bool matches_empty)
+{
+    struct wolfaren_filter filter;
+    struct wolfaren_filter_error error;
+    struct wolfaren_frame empty = *found;
+    empty.end = WOLFAREN_FRAME_OTHER;
+    check(parse(text, &filter, &error), text);
+    check(wolfaren_filter_matches_frame(&filter, found, 100, IPV4, sizeof IPV4) == matches, text);
+    check(wolfaren_filter_matches_frame(&filter, &empty, 100, IPV4, sizeof IPV4) == matches_empty, text);
+    check(wolfaren_filter_matches_frame(&filter, &empty, 100, NULL, 0) == matches_empty, text);
+}
+
+/* Terms that ask the frame: two VLAN tags, as wolfaren_find_ip finds them, and numbers that aren't EtherTypes. */
+static void frames(void)
+{
+    static const uint8_t tagged[] = {2, 0, 0, 0, 0, 1, 2, 0, 0, 0, 0, 2, 0x88, 0xa8, 0x60, 5, 0x81, 0, 0x0f, 0xff, 8, 0, 0x45};
+    struct wolfaren_frame found;
+    check(wolfaren_find_ip(1, tagged, sizeof tagged, &found) && found.offset == 22, "the headers of a frame");
+    check_frame("vlan and vlan 5 and vlan 4095", &found, true, true);
+    check_frame("vlan 0 or vlan 1 or arp or mismatched", &found, false, false);
+    check_frame("less 100 and greater 100", &found, true, true);
+    check_frame("less 99 or greater 101", &found, false, false);
+    check_frame("vlan 5 and first-fragment and tcp", &found, true, false);
+    check_frame("header ah and less 100", &found, true, false);
+    check_frame("version 6 or not vlan", &found, false, false);
+    found.version = 6;
+    check_frame("mismatched", &found, true, false);
+    found.number = 0x0806;
+    check_frame("arp", &found, true, true);
+    found.number += 65536;
+    check_frame("arp", &found, false, false);
+    found = (struct wolfaren_frame){.number_kind = WOLFAREN_PPP, .number = 0x0806, .first_vlan = 5, .second_vlan = 5};
+    check_frame("arp or vlan or vlan 5 or mismatched", &found, false, false);
+    found.vlan_count = 1;
+    found.second_vlan = 6;
+    check_frame("vlan 5 and not vlan 6", &found, true, true);
+    check_matches("less 34 and greater 34 and not (vlan or vlan 0 or arp or mismatched)", true, false);
+    check_matches("less 33 or greater 35", false, false);
+}
+
 int main(void)
 {
     texts();
+    frames();
     refused();
     any_contents();
     programs();

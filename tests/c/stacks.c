@@ -151,6 +151,7 @@ RESULT(expected_text, (number, words, sizeof words))
 RESULT(filter_matches, (&filter, packet, len))
 RESULT(filter_packets, (&filter, batch, sizeof batch, spans, count, matches, room, &outside))
 RESULT(filter_matches_other, (&filter))
+RESULT(filter_matches_frame, (&filter, &frame_found, len, packet, len))
 CALL(find_kind_name, (number, &name))
 CALL(find_layer_name, (number, &name))
 CALL(find_len_source_name, (number, &name))
@@ -536,7 +537,7 @@ static const char *const terms[] = {
     "src 1:2:3:4:5:6:192.0.2.255/97", "net 192.0.2.0/24", "host 2001:db8:0:1:2:3:4:5", "host 10.255.255.254", "src port 443",
     "dst port 1024-65535", "port 0-65535", "no-transport", "icmp-type icmp-echo", "icmp-code 1", "icmp6-type icmp6-certpathadvert",
     "icmp6-code 0", "tcp-flags syn", "tcp-flags fin,syn,rst/fin,syn,rst,psh,ack,urg,ece,cwr", "ip6[6] == 44",
-    "tcp[tcpflags] & (tcp-syn|tcp-ack) != 0"};
+    "tcp[tcpflags] & (tcp-syn|tcp-ack) != 0", "less 100", "greater 4294967295", "vlan", "vlan 4095", "arp", "mismatched"};
 
 static void append(const char *more)
 {
@@ -576,6 +577,9 @@ static void measure_matches(void)
     for (size_t i = 0; i < 4; i++) {
         make_packet();
         measure(&filter_matches);
+        draw_bytes((uint8_t *)&frame_found, sizeof frame_found, 256);
+        frame_found.end = draw(4) ? WOLFAREN_FRAME_IP : WOLFAREN_FRAME_OTHER;
+        measure(&filter_matches_frame);
     }
     make_batch();
     measure(&filter_packets);
@@ -601,7 +605,7 @@ static void make_program(void)
     for (size_t i = 0; i < filter.count; i++) {
         struct wolfaren_filter_test *test = &filter.tests[i];
         draw_bytes((uint8_t *)test, sizeof *test, 256);
-        test->kind = draw(4) ? (uint8_t)draw(34) : draw(2) ? WOLFAREN_TEST_OPTION : WOLFAREN_TEST_LAYER;
+        test->kind = draw(4) ? (uint8_t)draw(WOLFAREN_TEST_MISMATCHED + 2) : draw(2) ? WOLFAREN_TEST_OPTION : WOLFAREN_TEST_LAYER;
         test->comparison = (uint8_t)draw(8);
         test->version = draw(2) ? 4 : 6;
         test->number = draw(16);

@@ -2,9 +2,10 @@
  * compare: reads lines `p HEX`, a packet, `h NUMBER INDEX HEX`, an extension header that the library puts into the last packet,
  * and `e TEXT`, an expression. For each expression, prints which of the packets before it the library's filter passes, with
  * the headers, and which of them libpcap's expression passes, without them, as two words of digits 0 and 1, or `-` for one
- * that is refused.
+ * that is refused. `f LENGTH HEX` is an Ethernet frame of this length on the wire, and `l TEXT` an expression for frames.
  */
 #include <pcap/pcap.h>
+#include <stdbool.h>
 #include <stdio.h>
 #include <stdlib.h>
 #include <string.h>
@@ -23,8 +24,14 @@ struct packet {
     struct bytes longer; /* with its extension headers */
 };
 
+struct frame {
+    struct bytes bytes;
+    unsigned wire_len;
+};
+
 static struct packet packets[MOST_PACKETS];
-static size_t count;
+static struct frame frames[MOST_PACKETS];
+static size_t count, frame_count;
 
 /* Returns the bytes in hexadecimal. */
 static struct bytes read_bytes(const char *digits)
@@ -41,6 +48,16 @@ static void read_packet(const char *digits)
     if (count == MOST_PACKETS) abort();
     packets[count].plain = packets[count].longer = read_bytes(digits);
     count++;
+}
+
+/* Stores a frame: its length on the wire, and its bytes in hexadecimal. */
+static void read_frame(const char *words)
+{
+    if (frame_count == MOST_PACKETS) abort();
+    struct frame *frame = &frames[frame_count++];
+    int len;
+    if (sscanf(words, "%u %n", &frame->wire_len, &len) != 1) abort();
+    frame->bytes = read_bytes(words + len);
 }
 
 /* Puts an extension header into the last packet. */
@@ -61,8 +78,17 @@ static void add_header(const char *words)
     packet->len = rewritten.len;
 }
 
-/* Prints what the library's filter passes. */
-static void print_ours(const char *text)
+/* Whether the library's filter passes a frame. */
+static bool passes(const struct wolfaren_filter *filter, const struct frame *frame)
+{
+    struct wolfaren_frame found;
+    const struct bytes *bytes = &frame->bytes;
+    if (!wolfaren_find_ip(DLT_EN10MB, bytes->bytes, bytes->len, &found)) abort();
+    return wolfaren_filter_matches_frame(filter, &found, frame->wire_len, bytes->bytes + found.offset, bytes->len - found.offset);
+}
+
+/* Prints which packets, or frames, the library's filter passes. */
+static void print_ours(const char *text, bool is_of_frames)
 {
     struct wolfaren_filter filter;
     struct wolfaren_filter_error error;
@@ -70,43 +96,55 @@ static void print_ours(const char *text)
         putchar('-');
         return;
     }
-    for (size_t i = 0; i < count; i++) putchar(wolfaren_filter_matches(&filter, packets[i].longer.bytes, packets[i].longer.len) ? '1' : '0');
+    for (size_t i = 0; is_of_frames && i < frame_count; i++) putchar(passes(&filter, &frames[i]) ? '1' : '0');
+    for (size_t i = 0; !is_of_frames && i < count; i++)
+        putchar(wolfaren_filter_matches(&filter, packets[i].longer.bytes, packets[i].longer.len) ? '1' : '0');
 }
 
-/* Prints what libpcap's expression passes. */
-static void print_theirs(pcap_t *pcap, const char *text)
+/* Prints whether libpcap's program passes bytes. */
+static void print_theirs_of(const struct bpf_program *program, const struct bytes *bytes, unsigned wire_len)
 {
+    struct pcap_pkthdr header = {.caplen = (bpf_u_int32)bytes->len, .len = wire_len};
+    putchar(pcap_offline_filter(program, &header, bytes->bytes) ? '1' : '0');
+}
+
+/* Prints which packets, or frames, libpcap's expression passes. */
+static void print_theirs(const char *text, bool is_of_frames)
+{
+    static pcap_t *raw, *ethernet;
+    if (!raw) raw = pcap_open_dead(DLT_RAW, 65535);
+    if (!ethernet) ethernet = pcap_open_dead(DLT_EN10MB, 65535);
+    pcap_t *pcap = is_of_frames ? ethernet : raw;
+    if (!pcap) abort();
+
     struct bpf_program program;
     if (pcap_compile(pcap, &program, text, 0, PCAP_NETMASK_UNKNOWN) != 0) {
         putchar('-');
         return;
     }
-    for (size_t i = 0; i < count; i++) {
-        const struct bytes *packet = &packets[i].plain;
-        struct pcap_pkthdr header = {.caplen = (bpf_u_int32)packet->len, .len = (bpf_u_int32)packet->len};
-        putchar(pcap_offline_filter(&program, &header, packet->bytes) ? '1' : '0');
-    }
+    for (size_t i = 0; is_of_frames && i < frame_count; i++) print_theirs_of(&program, &frames[i].bytes, frames[i].wire_len);
+    for (size_t i = 0; !is_of_frames && i < count; i++)
+        print_theirs_of(&program, &packets[i].plain, (unsigned)packets[i].plain.len);
     pcap_freecode(&program);
 }
 
 int main(void)
 {
     static char line[3 * MOST_BYTES];
-    pcap_t *pcap = pcap_open_dead(DLT_RAW, 65535);
-    if (!pcap) abort();
     while (fgets(line, sizeof line, stdin)) {
         line[strcspn(line, "\n")] = '\0';
         if (line[0] == 'p') {
             read_packet(line + 2);
         } else if (line[0] == 'h') {
             add_header(line + 2);
+        } else if (line[0] == 'f') {
+            read_frame(line + 2);
         } else {
-            print_ours(line + 2);
+            print_ours(line + 2, line[0] == 'l');
             putchar(' ');
-            print_theirs(pcap, line + 2);
+            print_theirs(line + 2, line[0] == 'l');
             putchar('\n');
         }
     }
-    pcap_close(pcap);
     return 0;
 }

@@ -1,12 +1,13 @@
 //! Callers of filters.
-ghost use Rattle.std.specs.Prelude.{◌≡◌, ◌≤◌, ◌++◌, List, drop, IfSome, IfNone};
+ghost use Rattle.std.specs.Prelude.{◌≡◌, ◌≤◌, ◌++◌, List, drop, Some, None, IfSome, IfNone};
 ghost use Rattle.ip_dissect.specs.Dissection.{dissected};
 ghost use Rattle.ip_filter.specs.Words.{Word, words};
 ghost use Rattle.ip_filter.specs.Grammar.{Disjunction, IsFilter, filter_words, formula_of, terms_in};
 ghost use Rattle.ip_filter.specs.Formula.{truth};
 ghost use Rattle.ip_filter.specs.Truth.{holds};
+ghost use Rattle.ip_filter.specs.Frames.{holds_in};
 
-use ip_filter::{Expected, Filter, ParseError};
+use ip_filter::{Expected, Filter, Frame, ParseError};
 use ip_spans::parse_filter;
 
 /// Returns whether the packet meets the filter that the text writes, and `None` if the text isn't a filter.
@@ -31,6 +32,28 @@ pub fn meets_each_reading(text: &[u8], filter: &mut Filter, packet: &[u8]) -> Op
 {
     match parse_filter(text, filter) {
         Ok(()) => Some(filter.matches(packet)),
+        Err(_) => None,
+    }
+}
+
+/// Returns whether a frame and its packet meet the filter that the text writes.
+pub fn meets_text_in_frame(text: &[u8], frame: &Frame, packet: &[u8]) -> Option<bool>
+    ensures { IfSome result (λ meets. (d : Disjunction) × IsFilter d × (filter_words d ≡ words text.now)
+        × (meets ≡ truth (formula_of d) (holds_in frame.now (Some packet.now)))) }
+{
+    match Filter::parse(text) {
+        Ok(filter) => Some(filter.matches_frame(frame, packet)),
+        Err(_) => None,
+    }
+}
+
+/// Returns whether a frame without a packet meets the filter that the text writes.
+pub fn meets_text_without_packet(text: &[u8], frame: &Frame) -> Option<bool>
+    ensures { IfSome result (λ meets. (d : Disjunction) × IsFilter d × (filter_words d ≡ words text.now)
+        × (meets ≡ truth (formula_of d) (holds_in frame.now None))) }
+{
+    match Filter::parse(text) {
+        Ok(filter) => Some(filter.matches_other_frame(frame)),
         Err(_) => None,
     }
 }

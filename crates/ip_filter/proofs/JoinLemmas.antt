@@ -6,9 +6,10 @@ use borrow.Rule.Slice.PartMut.{mid_of, put_mid, post_of}
 use Rattle.ip_dissect.specs.Dissection.{dissected}
 use Rattle.ip_filter.specs.Formula.{Formula, truth, terms_of}
 use Rattle.ip_filter.specs.Flags.{any_flag}
-use Rattle.ip_filter.specs.Tests.{frame_meets, meets}
-use Rattle.ip_filter.specs.Program.{led_to, frame_holds}
-use Rattle.ip_filter.specs.Compiled.{terms_of_all, joined_by, decided, led_by, Decide, AreCompiled, index_moved, redirected, index_shifted, shifted, put_first}
+use Rattle.ip_filter.specs.Tests.{meets}
+use Rattle.ip_filter.specs.Frames.{meets_in}
+use Rattle.ip_filter.specs.Program.{led_to}
+use Rattle.ip_filter.specs.Compiled.{Subject, alone, framed, subject_meets, subject_holds, terms_of_all, joined_by, decided, led_by, Decide, AreCompiled, index_moved, redirected, index_shifted, shifted, put_first}
 use Rattle.ip_filter.specs.declared.filter.Test.{Test}
 use Rattle.std.proofs.Math.Seq.{get_or-append_seam}
 use Rattle.ip_filter.proofs.ProgramLemmas.{past_all}
@@ -24,22 +25,25 @@ merged_mask a b m n true false is other = grind (arith, common_steps, eqb_tells,
 merged_mask a b m n false true is other = grind (arith, common_steps, eqb_tells)
 merged_mask a b m n false false is other = grind (arith, common_steps, eqb_tells, other)
 
-pub merged_leads : (x y t : Test) (m : ℕ) → x.kind ≡ 1 → y.kind ≡ 1 → x.if_met ≡ m → y.if_met ≡ m → (y.if_not ≡ m → ⊥) → t ≡ record x { number = bit_or x.number y.number } → (frame : Option (List ℕ))
-    → led_by frame t ≡ (if led_by frame y == m then m else led_by frame x)
-merged_leads x y t m kind_x kind_y met_x met_y not_y is None = rw is (grind (arith, common_steps, eqb_tells, not_y))
-merged_leads x y t m kind_x kind_y met_x met_y not_y is (Some s) =
+pub merged_leads : (x y t : Test) (m : ℕ) → x.kind ≡ 1 → y.kind ≡ 1 → x.if_met ≡ m → y.if_met ≡ m → (y.if_not ≡ m → ⊥) → t ≡ record x { number = bit_or x.number y.number } → (subject : Subject)
+    → led_by subject t ≡ (if led_by subject y == m then m else led_by subject x)
+merged_leads x y t m kind_x kind_y met_x met_y not_y is (alone None) = rw is (grind (arith, common_steps, eqb_tells, not_y))
+merged_leads x y t m kind_x kind_y met_x met_y not_y is (alone (Some s)) =
+    rw (is, kind_x, kind_y, either_flag (dissected s) 64 x.number y.number, met_x, met_y) (merged_mask m y.if_not m x.if_not (any_flag 64 x.number (dissected s)) (any_flag 64 y.number (dissected s)) refl not_y)
+merged_leads x y t m kind_x kind_y met_x met_y not_y is (framed f None) = rw (is, kind_x, kind_y) (grind (arith, common_steps, eqb_tells, not_y))
+merged_leads x y t m kind_x kind_y met_x met_y not_y is (framed f (Some s)) =
     rw (is, kind_x, kind_y, either_flag (dissected s) 64 x.number y.number, met_x, met_y) (merged_mask m y.if_not m x.if_not (any_flag 64 x.number (dissected s)) (any_flag 64 y.number (dissected s)) refl not_y)
 
 -- ---- where the first of some tests leads
 
-module _ (frame : Option (List ℕ)) where
+module _ (subject : Subject) where
   abbrev met : Test → Bool
-  met = frame_meets frame
+  met = subject_meets subject
 
-  from_head : (i : ℕ) (x : Test) (xs : List Test) → led_to met i i (x ∷ xs) ≡ led_to met (suc i) (led_by frame x) xs
-  from_head i x xs = let this : (i == i) ≡ true = grind (arith, common_steps, eqb_tells) in ap (λ b. led_to met (suc i) (if b then led_by frame x else i) xs) this
+  from_head : (i : ℕ) (x : Test) (xs : List Test) → led_to met i i (x ∷ xs) ≡ led_to met (suc i) (led_by subject x) xs
+  from_head i x xs = let this : (i == i) ≡ true = grind (arith, common_steps, eqb_tells) in ap (λ b. led_to met (suc i) (if b then led_by subject x else i) xs) this
 
-  pub alone_leads : (i : ℕ) (z : Test) → led_to met i i (z ∷ []) ≡ led_by frame z
+  pub alone_leads : (i : ℕ) (z : Test) → led_to met i i (z ∷ []) ≡ led_by subject z
   alone_leads i z = from_head i z []
 
   -- one test for two
@@ -54,24 +58,26 @@ module _ (frame : Option (List ℕ)) where
   one_leads false false true i x t z xs fits d is to = ap (λ n. led_to met (suc i) n xs) (to ∙ ap (λ n. if n == 64 then 64 else x) is) ∙ d
   one_leads false false false i x t z xs fits d is to = ap (λ n. led_to met (suc i) n xs) (to ∙ ap (λ n. if n == 64 then 64 else x) is) ∙ d
 
-  truth_joined : (is_and : Bool) (f g : Formula) → truth (joined_by is_and f g) (frame_holds frame) ≡ (if is_and then truth f (frame_holds frame) && truth g (frame_holds frame) else truth f (frame_holds frame) || truth g (frame_holds frame))
+  truth_joined : (is_and : Bool) (f g : Formula) → truth (joined_by is_and f g) (subject_holds subject) ≡ (if is_and then truth f (subject_holds subject) && truth g (subject_holds subject) else truth f (subject_holds subject) || truth g (subject_holds subject))
   truth_joined true f g = refl
   truth_joined false f g = refl
 
-  pub merged_decides : (is_and : Bool) (f g : Formula) (i : ℕ) (x t z : Test) (xs : List Test) → suc i + length xs ≤ 64 → Decide frame f i (x ∷ xs) → led_by frame z ≡ (if truth g (frame_holds frame) then 64 else 65)
-      → led_by frame t ≡ (if led_by frame z == decided is_and then decided is_and else led_by frame x) → Decide frame (joined_by is_and f g) i (t ∷ xs)
+  pub merged_decides : (is_and : Bool) (f g : Formula) (i : ℕ) (x t z : Test) (xs : List Test) → suc i + length xs ≤ 64 → Decide subject f i (x ∷ xs) → led_by subject z ≡ (if truth g (subject_holds subject) then 64 else 65)
+      → led_by subject t ≡ (if led_by subject z == decided is_and then decided is_and else led_by subject x) → Decide subject (joined_by is_and f g) i (t ∷ xs)
   merged_decides is_and f g i x t z xs fits df dg to =
       from_head i t xs
-      ∙ one_leads is_and (truth g (frame_holds frame)) (truth f (frame_holds frame)) i (led_by frame x) (led_by frame t) (led_by frame z) xs fits (sym (from_head i x xs) ∙ df) dg to
+      ∙ one_leads is_and (truth g (subject_holds subject)) (truth f (subject_holds subject)) i (led_by subject x) (led_by subject t) (led_by subject z) xs fits (sym (from_head i x xs) ∙ df) dg to
       ∙ ap (λ b. if b then 64 else 65) (sym (truth_joined is_and f g))
 
   -- ---- a test before others
 
   still_met : (x : Test) → met (shifted x) ≡ met x
-  still_met x = same frame where
-    same : (o : Option (List ℕ)) → frame_meets o (shifted x) ≡ frame_meets o x
-    same None = refl
-    same (Some s) = refl
+  still_met x = same subject where
+    same : (o : Subject) → subject_meets o (shifted x) ≡ subject_meets o x
+    same (alone None) = refl
+    same (alone (Some s)) = refl
+    same (framed f None) = refl
+    same (framed f (Some s)) = refl
 
   shifted_index : (i n : ℕ) → suc i < 64 → (suc i == index_shifted n) ≡ (i == n)
   shifted_index i n small = elim (cases_lt n 64) [
@@ -90,10 +96,10 @@ module _ (frame : Option (List ℕ)) where
       ap (λ k. led_to met (suc (suc i)) k (map shifted xs)) (rw (still_met x, shifted_index i n (omega (arith, fits))) (shifted_choice (i == n) (met x) x.if_met x.if_not n))
       ∙ led_shifted (suc i) (if i == n then (if met x then x.if_met else x.if_not) else n) xs (omega (arith, fits))
 
-  decide_shifted : (f : Formula) (i : ℕ) (xs : List Test) → suc i + length xs ≤ 64 → i < 64 → Decide frame f i xs → led_to met (suc i) (suc i) (map shifted xs) ≡ (if truth f (frame_holds frame) then 64 else 65)
+  decide_shifted : (f : Formula) (i : ℕ) (xs : List Test) → suc i + length xs ≤ 64 → i < 64 → Decide subject f i xs → led_to met (suc i) (suc i) (map shifted xs) ≡ (if truth f (subject_holds subject) then 64 else 65)
   decide_shifted f i xs fits small d =
       let next : suc i ≡ index_shifted i = grind (arith, common_steps, small) in
-      ap (λ n. led_to met (suc i) n (map shifted xs)) next ∙ led_shifted i i xs fits ∙ ap index_shifted d ∙ end (truth f (frame_holds frame)) where
+      ap (λ n. led_to met (suc i) n (map shifted xs)) next ∙ led_shifted i i xs fits ∙ ap index_shifted d ∙ end (truth f (subject_holds subject)) where
         end : (t : Bool) → index_shifted (if t then 64 else 65) ≡ (if t then 64 else 65)
         end true = refl
         end false = refl
@@ -114,30 +120,35 @@ module _ (frame : Option (List ℕ)) where
   all_shifted t [] z = refl
   all_shifted t (x ∷ xs) z = ap (λ ys. t ∷ ys) (all_shifted (shifted x) xs z)
 
-  pub put_first_decides : (is_and : Bool) (f g : Formula) (i next : ℕ) (t z : Test) (xs old new : List Test) → old ≡ xs ++ z ∷ [] → i + length old ≤ 64 → next ≡ i + 1 → Decide frame f i xs
-      → led_by frame t ≡ (if truth g (frame_holds frame) then (if is_and then next else 64) else (if is_and then 65 else next)) → new ≡ put_first t old → Decide frame (joined_by is_and f g) i new
+  pub put_first_decides : (is_and : Bool) (f g : Formula) (i next : ℕ) (t z : Test) (xs old new : List Test) → old ≡ xs ++ z ∷ [] → i + length old ≤ 64 → next ≡ i + 1 → Decide subject f i xs
+      → led_by subject t ≡ (if truth g (subject_holds subject) then (if is_and then next else 64) else (if is_and then 65 else next)) → new ≡ put_first t old → Decide subject (joined_by is_and f g) i new
   put_first_decides is_and f g i next t z xs old new split fits one df to put =
       let after : next ≡ suc i = omega (arith, one) in
       let len : suc i + length xs ≤ 64 = omega (arith, fits, ap length split, length-append xs (z ∷ [])) in
       let room : suc i + length (map shifted xs) ≤ 64 = omega (arith, len, length-map xs shifted) in
-      let leads : led_by frame t ≡ (if truth g (frame_holds frame) then (if is_and then suc i else 64) else (if is_and then 65 else suc i))
-      = to ∙ ap (λ n. if truth g (frame_holds frame) then (if is_and then n else 64) else (if is_and then 65 else n)) after in
+      let leads : led_by subject t ≡ (if truth g (subject_holds subject) then (if is_and then suc i else 64) else (if is_and then 65 else suc i))
+      = to ∙ ap (λ n. if truth g (subject_holds subject) then (if is_and then n else 64) else (if is_and then 65 else n)) after in
       ap (led_to met i i) (put ∙ ap (put_first t) split ∙ all_shifted t xs z)
       ∙ from_head i t (map shifted xs)
-      ∙ front_leads is_and (truth g (frame_holds frame)) (truth f (frame_holds frame)) i (led_by frame t) (map shifted xs) room (decide_shifted f i xs len (omega (arith, len)) df) leads
+      ∙ front_leads is_and (truth g (subject_holds subject)) (truth f (subject_holds subject)) i (led_by subject t) (map shifted xs) room (decide_shifted f i xs len (omega (arith, len)) df) leads
       ∙ ap (λ b. if b then 64 else 65) (sym (truth_joined is_and f g))
 
 -- ---- a test that is redirected
 
-led_redirected : (a b : ℕ) (x : Test) (frame : Option (List ℕ)) → led_by frame (redirected a b x) ≡ index_moved a b (led_by frame x)
-led_redirected a b x None = refl
-led_redirected a b x (Some s) = choice (meets x (dissected s)) where
+led_redirected : (a b : ℕ) (x : Test) (subject : Subject) → led_by subject (redirected a b x) ≡ index_moved a b (led_by subject x)
+led_redirected a b x subject = of_each subject where
   choice : (t : Bool) → (if t then index_moved a b x.if_met else index_moved a b x.if_not) ≡ index_moved a b (if t then x.if_met else x.if_not)
   choice true = refl
   choice false = refl
 
-pub turned : (frame : Option (List ℕ)) (a b : ℕ) (x y : Test) (t : Bool) → y ≡ redirected a b x → led_by frame x ≡ (if t then 64 else 65) → led_by frame y ≡ (if t then a else b)
-turned frame a b x y t is leads = ap (led_by frame) is ∙ led_redirected a b x frame ∙ ap (index_moved a b) leads ∙ end t where
+  of_each : (o : Subject) → led_by o (redirected a b x) ≡ index_moved a b (led_by o x)
+  of_each (alone None) = refl
+  of_each (alone (Some s)) = choice (meets x (dissected s))
+  of_each (framed f None) = choice (meets_in f None x)
+  of_each (framed f (Some s)) = choice (meets_in f (Some s) x)
+
+pub turned : (subject : Subject) (a b : ℕ) (x y : Test) (t : Bool) → y ≡ redirected a b x → led_by subject x ≡ (if t then 64 else 65) → led_by subject y ≡ (if t then a else b)
+turned subject a b x y t is leads = ap (led_by subject) is ∙ led_redirected a b x subject ∙ ap (index_moved a b) leads ∙ end t where
   end : (t : Bool) → index_moved a b (if t then 64 else 65) ≡ (if t then a else b)
   end true = refl
   end false = refl
@@ -145,18 +156,18 @@ turned frame a b x y t is leads = ap (led_by frame) is ∙ led_redirected a b x 
 -- ---- operands whose tests follow one another, of which the last has one
 
 -- the first test of all but the last
-pub merged_first : (frame : Option (List ℕ)) (is_and : Bool) (f g : Formula) (i n d : ℕ) (t z e1 e2 : Test) (xs old : List Test) → old ≡ xs ++ z ∷ [] → 2 ≤ length old → n ≡ length old - 1 → d ≡ decided is_and
-    → i + length old ≤ 64 → ((frame : Option (List ℕ)) → led_by frame t ≡ (if led_by frame (slice_index_or old n e1) == d then d else led_by frame (slice_index_or old 0 e2)))
-    → Decide frame f i xs → led_by frame z ≡ (if truth g (frame_holds frame) then 64 else 65) → Decide frame (joined_by is_and f g) i (take n (slice_set old 0 t))
-merged_first frame is_and f g i n d t z e1 e2 [] old split two last end fits to df dg = absurd (omega (arith, two, ap length split))
-merged_first frame is_and f g i n d t z e1 e2 (x ∷ xs) old split two last end fits to df dg =
+pub merged_first : (subject : Subject) (is_and : Bool) (f g : Formula) (i n d : ℕ) (t z e1 e2 : Test) (xs old : List Test) → old ≡ xs ++ z ∷ [] → 2 ≤ length old → n ≡ length old - 1 → d ≡ decided is_and
+    → i + length old ≤ 64 → ((subject : Subject) → led_by subject t ≡ (if led_by subject (slice_index_or old n e1) == d then d else led_by subject (slice_index_or old 0 e2)))
+    → Decide subject f i xs → led_by subject z ≡ (if truth g (subject_holds subject) then 64 else 65) → Decide subject (joined_by is_and f g) i (take n (slice_set old 0 t))
+merged_first subject is_and f g i n d t z e1 e2 [] old split two last end fits to df dg = absurd (omega (arith, two, ap length split))
+merged_first subject is_and f g i n d t z e1 e2 (x ∷ xs) old split two last end fits to df dg =
     let len : n ≡ length (x ∷ xs) = omega (arith, last, ap length split, length-append (x ∷ xs) (z ∷ [])) in
     let at : slice_index_or old n e1 ≡ z = rw (split, len) (get_or-append_seam (x ∷ xs) z [] e1) in
     let first : slice_index_or old 0 e2 ≡ x = ap (λ ys. slice_index_or ys 0 e2) split in
     let front : take n (slice_set old 0 t) ≡ t ∷ xs = ap (λ ys. take n (slice_set ys 0 t)) split ∙ ap (λ k. take k (t ∷ (xs ++ z ∷ []))) len ∙ ap (λ ys. t ∷ ys) (take-append_seam xs (z ∷ [])) in
-    subst (Decide frame (joined_by is_and f g) i) (sym front)
-    (merged_decides frame is_and f g i x t z xs (omega (arith, fits, ap length split, length-append xs (z ∷ []))) df dg
-    (to frame ∙ ap (λ y. if led_by frame y == d then d else led_by frame (slice_index_or old 0 e2)) at ∙ ap (λ y. if led_by frame z == d then d else led_by frame y) first ∙ ap (λ k. if led_by frame z == k then k else led_by frame x) end))
+    subst (Decide subject (joined_by is_and f g) i) (sym front)
+    (merged_decides subject is_and f g i x t z xs (omega (arith, fits, ap length split, length-append xs (z ∷ []))) df dg
+    (to subject ∙ ap (λ y. if led_by subject y == d then d else led_by subject (slice_index_or old 0 e2)) at ∙ ap (λ y. if led_by subject z == d then d else led_by subject y) first ∙ ap (λ k. if led_by subject z == k then k else led_by subject x) end))
 
 put_len : (t : Test) (xs : List Test) → length (put_first t xs) ≡ length xs
 unfolding put_first
@@ -164,15 +175,15 @@ put_len t [] = refl
 put_len t (x ∷ xs) = ap suc (put_len (shifted x) xs)
 
 -- the last test before the others
-pub last_first : (frame : Option (List ℕ)) (is_and : Bool) (f g : Formula) (i next d : ℕ) (t z e : Test) (xs old new : List Test) → old ≡ xs ++ z ∷ [] → 2 ≤ length old → d ≡ length old - 1 → i + length old ≤ 64 → next ≡ i + 1
-    → Decide frame f i xs → led_by frame z ≡ (if truth g (frame_holds frame) then 64 else 65)
-    → ((frame : Option (List ℕ)) (g : Formula) → led_by frame (slice_index_or old d e) ≡ (if truth g (frame_holds frame) then 64 else 65) → led_by frame t ≡ (if truth g (frame_holds frame) then (if is_and then next else 64) else (if is_and then 65 else next)))
-    → new ≡ put_first t old → Decide frame (joined_by is_and f g) i (take (length old) new)
-last_first frame is_and f g i next d t z e xs old new split two last fits one df dg leads put =
+pub last_first : (subject : Subject) (is_and : Bool) (f g : Formula) (i next d : ℕ) (t z e : Test) (xs old new : List Test) → old ≡ xs ++ z ∷ [] → 2 ≤ length old → d ≡ length old - 1 → i + length old ≤ 64 → next ≡ i + 1
+    → Decide subject f i xs → led_by subject z ≡ (if truth g (subject_holds subject) then 64 else 65)
+    → ((subject : Subject) (g : Formula) → led_by subject (slice_index_or old d e) ≡ (if truth g (subject_holds subject) then 64 else 65) → led_by subject t ≡ (if truth g (subject_holds subject) then (if is_and then next else 64) else (if is_and then 65 else next)))
+    → new ≡ put_first t old → Decide subject (joined_by is_and f g) i (take (length old) new)
+last_first subject is_and f g i next d t z e xs old new split two last fits one df dg leads put =
     let len : d ≡ length xs = omega (arith, last, ap length split, length-append xs (z ∷ [])) in
     let at : slice_index_or old d e ≡ z = rw (split, len) (get_or-append_seam xs z [] e) in
     let all : take (length old) new ≡ new = take_all (length old) new (omega (arith, ap length put, put_len t old)) in
-    subst (Decide frame (joined_by is_and f g) i) (sym all) (put_first_decides frame is_and f g i next t z xs old new split fits one df (leads frame g (ap (led_by frame) at ∙ dg)) put)
+    subst (Decide subject (joined_by is_and f g) i) (sym all) (put_first_decides subject is_and f g i next t z xs old new split fits one df (leads subject g (ap (led_by subject) at ∙ dg)) put)
 
 -- ---- one by one
 
@@ -215,17 +226,17 @@ joined_terms : (is_and : Bool) (f g : Formula) → terms_of (joined_by is_and f 
 joined_terms true f g = refl
 joined_terms false f g = refl
 
-module _ (frame : Option (List ℕ)) (is_and : Bool) (f g : Formula) (fs : List Formula) (mid : List ℕ) (first second n : ℕ) (xs ys old new : List Test) where
+module _ (subject : Subject) (is_and : Bool) (f g : Formula) (fs : List Formula) (mid : List ℕ) (first second n : ℕ) (xs ys old new : List Test) where
   flags_joined : second + 1 ≡ length xs → first < second → ((rest : List ℕ) (i : ℕ) → mid ≡ rest ++ i ∷ [] → first ≡ i) → terms_of g + (terms_of f + terms_of_all fs) ≤ 64
       → old ≡ drop first xs → ys ≡ take first xs ++ take n new → 0 < n → n ≤ length old → length new ≡ length old
-      → ((f g : Formula) (zs : List Test) (z : Test) → old ≡ zs ++ z ∷ [] → first + length old ≤ 64 → Decide frame f first zs → led_by frame z ≡ (if truth g (frame_holds frame) then 64 else 65)
-      → Decide frame (joined_by is_and f g) first (take n new))
-      → AreCompiled frame (g ∷ f ∷ fs) (mid ++ second ∷ []) xs → AreCompiled frame (joined_by is_and f g ∷ fs) mid ys
-  flags_joined last before start few block after some most len decide w = parts (top_popped frame g (f ∷ fs) (mid ++ second ∷ []) mid second xs refl w) where
+      → ((f g : Formula) (zs : List Test) (z : Test) → old ≡ zs ++ z ∷ [] → first + length old ≤ 64 → Decide subject f first zs → led_by subject z ≡ (if truth g (subject_holds subject) then 64 else 65)
+      → Decide subject (joined_by is_and f g) first (take n new))
+      → AreCompiled subject (g ∷ f ∷ fs) (mid ++ second ∷ []) xs → AreCompiled subject (joined_by is_and f g ∷ fs) mid ys
+  flags_joined last before start few block after some most len decide w = parts (top_popped subject g (f ∷ fs) (mid ++ second ∷ []) mid second xs refl w) where
     all : length xs ≤ 64
-    all = omega (arith, few, compiled_tests frame (g ∷ f ∷ fs) (mid ++ second ∷ []) xs w)
+    all = omega (arith, few, compiled_tests subject (g ∷ f ∷ fs) (mid ++ second ∷ []) xs w)
 
-    parts : (second < length xs) × (length xs ≤ second + terms_of g) × Decide frame g second (drop second xs) × AreCompiled frame (f ∷ fs) mid (take second xs) → AreCompiled frame (joined_by is_and f g ∷ fs) mid ys
+    parts : (second < length xs) × (length xs ≤ second + terms_of g) × Decide subject g second (drop second xs) × AreCompiled subject (f ∷ fs) mid (take second xs) → AreCompiled subject (joined_by is_and f g ∷ fs) mid ys
     parts (some_g, size_g, dg, (rest, i, e, some_f, size_f, df, are)) =
         let same : i ≡ first = sym (start rest i e) in
         let head : length (take second xs) ≡ second = length-take-le second xs (omega (arith, some_g)) in
@@ -242,10 +253,10 @@ module _ (frame : Option (List ℕ)) (is_and : Bool) (f g : Formula) (fs : List 
           e ∙ ap (λ k. rest ++ k ∷ []) same,
           omega (arith, total, some),
           omega (arith, total, most, block_len, size_g, size_f, head, same, before, last, joined_terms is_and f g),
-          subst (Decide frame (joined_by is_and f g) first) (sym back)
-              (decide f g (drop first (take second xs)) one.0 split (omega (arith, block_len, all, before, last)) (subst (λ k. Decide frame f k (drop k (take second xs))) same df)
-              (sym (alone_leads frame second one.0) ∙ ap (led_to (frame_meets frame) second second) (sym one.1) ∙ dg)),
-          subst (AreCompiled frame fs rest) (sym front) (subst (λ k. AreCompiled frame fs rest (take k (take second xs))) same are),
+          subst (Decide subject (joined_by is_and f g) first) (sym back)
+              (decide f g (drop first (take second xs)) one.0 split (omega (arith, block_len, all, before, last)) (subst (λ k. Decide subject f k (drop k (take second xs))) same df)
+              (sym (alone_leads subject second one.0) ∙ ap (led_to (subject_meets subject) second second) (sym one.1) ∙ dg)),
+          subst (AreCompiled subject fs rest) (sym front) (subst (λ k. AreCompiled subject fs rest (take k (take second xs))) same are),
         )
 
 -- ---- a part of the array
@@ -261,20 +272,20 @@ block_put a k n all new within few =
     let front : take n (new ++ post_of a k all) ≡ take n new = sym (take-take n (length new) (new ++ post_of a k all) few) ∙ ap (take n) (take-append_seam new (post_of a k all)) in
     ap (λ j. take (j + n) (put_mid a k all new)) (sym len) ∙ take-append-add (take a all) (new ++ post_of a k all) n ∙ ap (λ ys. take a all ++ ys) front
 
-module _ (frame : Option (List ℕ)) (is_and : Bool) (f g : Formula) (fs : List Formula) (mid : List ℕ) (start first second e n : ℕ) (all new : List Test) where
+module _ (subject : Subject) (is_and : Bool) (f g : Formula) (fs : List Formula) (mid : List ℕ) (start first second e n : ℕ) (all new : List Test) where
   pub joined_in_place : length all ≡ 64 → e ≤ 64 → e - second ≡ 1 → first < second → first ≡ start → ((rest : List ℕ) (i : ℕ) → mid ≡ rest ++ i ∷ [] → start ≡ i) → terms_of g + (terms_of f + terms_of_all fs) ≤ 64
       → (0 < n) × (n ≤ length (mid_of first (e - first) all)) → length new ≡ length (mid_of first (e - first) all)
-      → ((f g : Formula) (zs : List Test) (z : Test) → mid_of first (e - first) all ≡ zs ++ z ∷ [] → start + length (mid_of first (e - first) all) ≤ 64 → Decide frame f start zs → led_by frame z ≡ (if truth g (frame_holds frame) then 64 else 65)
-      → Decide frame (joined_by is_and f g) start (take n new))
-      → AreCompiled frame (g ∷ f ∷ fs) (mid ++ second ∷ []) (take e all) → AreCompiled frame (joined_by is_and f g ∷ fs) mid (take (first + n) (put_mid first (e - first) all new))
+      → ((f g : Formula) (zs : List Test) (z : Test) → mid_of first (e - first) all ≡ zs ++ z ∷ [] → start + length (mid_of first (e - first) all) ≤ 64 → Decide subject f start zs → led_by subject z ≡ (if truth g (subject_holds subject) then 64 else 65)
+      → Decide subject (joined_by is_and f g) start (take n new))
+      → AreCompiled subject (g ∷ f ∷ fs) (mid ++ second ∷ []) (take e all) → AreCompiled subject (joined_by is_and f g ∷ fs) mid (take (first + n) (put_mid first (e - first) all new))
   joined_in_place size fits last before same at few some len decide are =
       let all_len : length (take e all) ≡ e = length-take-le e all (omega (arith, size, fits)) in
       let within : first ≤ length all = omega (arith, size, fits, last, before) in
       let most = some.1 in
       let put : take (first + n) (put_mid first (e - first) all new) ≡ take first (take e all) ++ take n new
       = block_put first (e - first) n all new within (omega (arith, most, len)) ∙ ap (λ ys. ys ++ take n new) (sym (take-take first e all (omega (arith, last, before)))) in
-      flags_joined frame is_and f g fs mid first second n (take e all) (take (first + n) (put_mid first (e - first) all new)) (mid_of first (e - first) all) new
+      flags_joined subject is_and f g fs mid first second n (take e all) (take (first + n) (put_mid first (e - first) all new)) (mid_of first (e - first) all) new
       (omega (arith, all_len, last)) before (λ rest i is. same ∙ at rest i is) few (block_of first e all (omega (arith, last, before))) put some.0 most len
-      (subst (λ k. (f g : Formula) (zs : List Test) (z : Test) → mid_of first (e - first) all ≡ zs ++ z ∷ [] → k + length (mid_of first (e - first) all) ≤ 64 → Decide frame f k zs → led_by frame z ≡ (if truth g (frame_holds frame) then 64 else 65)
-      → Decide frame (joined_by is_and f g) k (take n new)) (sym same) decide)
+      (subst (λ k. (f g : Formula) (zs : List Test) (z : Test) → mid_of first (e - first) all ≡ zs ++ z ∷ [] → k + length (mid_of first (e - first) all) ≤ 64 → Decide subject f k zs → led_by subject z ≡ (if truth g (subject_holds subject) then 64 else 65)
+      → Decide subject (joined_by is_and f g) k (take n new)) (sym same) decide)
       are

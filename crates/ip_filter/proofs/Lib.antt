@@ -30,3 +30,4 @@ mod LayerLemmas
 mod ProgramLemmas
 mod CompileLemmas
 mod JoinLemmas
+mod FrameLemmas

@@ -17,7 +17,7 @@ use Rattle.ip_filter.proofs.WordLemmas.{no_words, words_short}
 use Rattle.ip_filter.proofs.LeadLemmas.{start_leads, lead_filter, can_end, due_is_expected}
 use Rattle.ip_filter.proofs.StateLemmas.{move_words, move_some, move_room, Good, move_good, good_whole, or_joined_words}
 use Rattle.ip_filter.proofs.CountLemmas.{filter_count}
-use Rattle.ip_filter.proofs.CompileLemmas.{passes_formula, few_tests}
+use Rattle.ip_filter.proofs.CompileLemmas.{passes_formula, passes_in_frame, few_tests}
 
 -- The words before `rest` led to the state, which b holds. Each filter that begins with them, and goes on with the next
 -- word, is led to from there.
@@ -154,6 +154,7 @@ parsed text rest b compiler filter g short none finish tests count =
           let led = only_end g.state [] e (g.leads e [] other (same ∙ sym all ∙ sym (append-nil (state_words g.state))) (ap (take 1) (sym none))) refl in
           led.3 ∙ same_end led.0 f.or_left led.1 f.last (sym led.2 ∙ f.whole);
       formula = passes_formula (formula_of d) compiler filter tests f.compiled;
+      framed = passes_in_frame (formula_of d) compiler filter tests f.compiled;
       tests = omega (arith, filter_count d, few_tests (formula_of d) compiler filter tests f.compiled count);
     }
 

@@ -219,6 +219,20 @@ truncated_at = with_one keyword.Truncated (layer_with error.Truncated) term.Trun
 pub plain_truncated : (text : List ℕ) → BeginsOtherwise (layer_with error.Truncated) text → ReadsTerm keyword.Truncated text term.Truncated text
 plain_truncated = without_one keyword.Truncated (layer_with error.Truncated) term.TruncatedAt term.Truncated (λ us t m. m) (λ us t m. m)
 
+-- ---- `vlan`, which an identifier may follow
+
+pub no_word_is_no_vlan : (text : List ℕ) → words text ≡ [] → BeginsOtherwise (number_up_to 4095) text
+no_word_is_no_vlan text e = no_word (number_up_to 4095) text e
+
+pub other_is_no_vlan : (text : List ℕ) (w : FirstWord) → IsFirstWord text w → None ≡ number_up_to 4095 w.bytes.now → BeginsOtherwise (number_up_to 4095) text
+other_is_no_vlan text w is none = other_word (number_up_to 4095) text w is none
+
+pub vlan_of : (text rest : List ℕ) (n : ℕ) → ReadsArgument (Finds (number_up_to 4095)) text n rest → ReadsTerm keyword.Vlan text (term.VlanOf n) rest
+vlan_of = with_one keyword.Vlan (number_up_to 4095) term.VlanOf term.Vlan (λ us t m. m) (λ us t m. m) (goes_on (number_up_to 4095) refl refl refl refl refl)
+
+pub plain_vlan : (text : List ℕ) → BeginsOtherwise (number_up_to 4095) text → ReadsTerm keyword.Vlan text term.Vlan text
+plain_vlan = without_one keyword.Vlan (number_up_to 4095) term.VlanOf term.Vlan (λ us t m. m) (λ us t m. m)
+
 module _ (p : Protocol) where
   multicast_goes_on : (w : Word) (ws : List Word) (t : Term) → multicast_with p w ≡ Some t → IsTrue (ends_term (w ∷ ws)) → ⊥
   multicast_goes_on = goes_on (multicast_with p) refl refl refl refl refl
@@ -346,7 +360,19 @@ module _ (text : List ℕ) where
   id_read rest a r = is_read (keyword.Number number.Identification) (IsOne (Finds (number_up_to 4294967295))) term.Identification (λ us t m. m) (λ us t m. m) text rest a (one (Finds (number_up_to 4294967295)) (found_once (number_up_to 4294967295)) text rest a r)
 
   pub id_refused : (left : ℕ) (e : Expected) → RefusesArgument (Finds (number_up_to 4294967295)) text left × (e ≡ expects.Number) → RefusesTerm (keyword.Number number.Identification) text left e
-  id_refused left e r = is_refused (keyword.Number number.Identification) (IsOne (Finds (number_up_to 4294967295))) term.Identification (λ us t m. m) (λ us t m. m) IsNumberKeyword (λ w i. inr i) text left e (not_one (Finds (number_up_to 4294967295)) (found_once (number_up_to 4294967295)) (codes "0", 0, refl) IsNumberKeyword expects.Number (λ w i. ([], w, refl, i)) text left e r)
+  id_refused left e r = is_refused (keyword.Number number.Identification) (IsOne (Finds (number_up_to 4294967295))) term.Identification (λ us t m. m) (λ us t m. m) IsNumberKeyword (λ w i. inr (inl i)) text left e (not_one (Finds (number_up_to 4294967295)) (found_once (number_up_to 4294967295)) (codes "0", 0, refl) IsNumberKeyword expects.Number (λ w i. ([], w, refl, i)) text left e r)
+
+  pub less_read : (rest : List ℕ) (a : ℕ) → ReadsArgument (Finds (number_up_to 4294967295)) text a rest → ReadsTerm (keyword.Number number.Less) text (term.WireLength by.AtMost a) rest
+  less_read rest a r = is_read (keyword.Number number.Less) (IsOne (Finds (number_up_to 4294967295))) (term.WireLength by.AtMost) (λ us t m. m) (λ us t m. m) text rest a (one (Finds (number_up_to 4294967295)) (found_once (number_up_to 4294967295)) text rest a r)
+
+  pub less_refused : (left : ℕ) (e : Expected) → RefusesArgument (Finds (number_up_to 4294967295)) text left × (e ≡ expects.Number) → RefusesTerm (keyword.Number number.Less) text left e
+  less_refused left e r = is_refused (keyword.Number number.Less) (IsOne (Finds (number_up_to 4294967295))) (term.WireLength by.AtMost) (λ us t m. m) (λ us t m. m) IsNumberKeyword (λ w i. inr (inr (inl i))) text left e (not_one (Finds (number_up_to 4294967295)) (found_once (number_up_to 4294967295)) (codes "0", 0, refl) IsNumberKeyword expects.Number (λ w i. ([], w, refl, i)) text left e r)
+
+  pub greater_read : (rest : List ℕ) (a : ℕ) → ReadsArgument (Finds (number_up_to 4294967295)) text a rest → ReadsTerm (keyword.Number number.Greater) text (term.WireLength by.AtLeast a) rest
+  greater_read rest a r = is_read (keyword.Number number.Greater) (IsOne (Finds (number_up_to 4294967295))) (term.WireLength by.AtLeast) (λ us t m. m) (λ us t m. m) text rest a (one (Finds (number_up_to 4294967295)) (found_once (number_up_to 4294967295)) text rest a r)
+
+  pub greater_refused : (left : ℕ) (e : Expected) → RefusesArgument (Finds (number_up_to 4294967295)) text left × (e ≡ expects.Number) → RefusesTerm (keyword.Number number.Greater) text left e
+  greater_refused left e r = is_refused (keyword.Number number.Greater) (IsOne (Finds (number_up_to 4294967295))) (term.WireLength by.AtLeast) (λ us t m. m) (λ us t m. m) IsNumberKeyword (λ w i. inr (inr (inr i))) text left e (not_one (Finds (number_up_to 4294967295)) (found_once (number_up_to 4294967295)) (codes "0", 0, refl) IsNumberKeyword expects.Number (λ w i. ([], w, refl, i)) text left e r)
 
   pub routing_type_read : (rest : List ℕ) (a : ℕ) → ReadsArgument (Finds (number_up_to 255)) text a rest → ReadsTerm (keyword.Number number.RoutingType) text (term.RoutingType a) rest
   routing_type_read rest a r = is_read (keyword.Number number.RoutingType) (IsOne (Finds (number_up_to 255))) term.RoutingType (λ us t m. m) (λ us t m. m) text rest a (one (Finds (number_up_to 255)) (found_once (number_up_to 255)) text rest a r)
@@ -409,4 +435,4 @@ module _ (text : List ℕ) where
   access_refused a left e r = is_refused (keyword.Access a) AreComparedBits (term.Access a) (λ us t m. m) (λ us t m. m) IsAccess (λ w i. (a, i)) text left e (bits_refused text left e r)
 
 -- by what follows the keyword
-pub ruleset number_terms = (version_read, version_refused, header_read, header_refused, leads_to_read, leads_to_refused, spi_read, spi_refused, id_read, id_refused, routing_type_read, routing_type_refused, option_read, option_refused, icmp_type_read, icmp_type_refused, icmp_code_read, icmp_code_refused, icmp6_type_read, icmp6_type_refused, icmp6_code_read, icmp6_code_refused, tcp_flags_read, tcp_flags_refused)
+pub ruleset number_terms = (less_read, less_refused, greater_read, greater_refused, version_read, version_refused, header_read, header_refused, leads_to_read, leads_to_refused, spi_read, spi_refused, id_read, id_refused, routing_type_read, routing_type_refused, option_read, option_refused, icmp_type_read, icmp_type_refused, icmp_code_read, icmp_code_refused, icmp6_type_read, icmp6_type_refused, icmp6_code_read, icmp6_code_refused, tcp_flags_read, tcp_flags_refused)

@@ -2,9 +2,26 @@
 use Rattle.std.specs.Prelude.{◌≡◌, ◌+◌, ◌<◌, ◌≤◌, ℕ, List, [], ◌∷◌, ◌++◌, length, take, drop, map, ◌==◌, if◌then◌else◌, nat_lt, Bool, Option}
 use Rattle.ip_filter.specs.Formula.{Formula, both, either, truth, terms_of}
 use Rattle.ip_filter.specs.Tests.{frame_meets}
+use Rattle.ip_filter.specs.Frames.{meets_in, holds_in}
 use Rattle.ip_filter.specs.Program.{led_to, tests_of, frame_holds}
 use Rattle.ip_filter.specs.declared.compile.Compiler.{Compiler}
 use Rattle.ip_filter.specs.declared.filter.Test.{Test}
+use Rattle.ip_filter.specs.declared.frame.Frame.{Frame}
+use Rattle.ip_filter.specs.declared.term.Term.{Term}
+
+-- what a filter is asked of: a packet alone, if there is one, or a frame with the packet in it
+pub data Subject : Type 0 where
+  alone : Option (List ℕ) → Subject
+  framed : Frame → Option (List ℕ) → Subject
+
+-- it meets a test, and a term holds of it
+abbrev pub subject_meets : Subject → Test → Bool
+subject_meets (alone packet) x = frame_meets packet x
+subject_meets (framed f packet) x = meets_in f packet x
+
+abbrev pub subject_holds : Subject → Term → Bool
+subject_holds (alone packet) t = frame_holds packet t
+subject_holds (framed f packet) t = holds_in f packet t
 
 -- how many terms formulas have
 abbrev pub terms_of_all : List Formula → ℕ
@@ -19,25 +36,25 @@ joined_by is_and f g = if is_and then both f g else either f g
 abbrev pub decided : Bool → ℕ
 decided is_and = if is_and then 65 else 64
 
--- the index to which a test leads the frame
-abbrev pub led_by : Option (List ℕ) → Test → ℕ
-led_by frame x = if frame_meets frame x then x.if_met else x.if_not
+-- the index to which a test leads the subject
+abbrev pub led_by : Subject → Test → ℕ
+led_by subject x = if subject_meets subject x then x.if_met else x.if_not
 
--- The tests `xs`, of which the first has the index i, lead the frame to index 64 if the formula holds of it, otherwise to 65.
-abbrev pub Decide : Option (List ℕ) → Formula → ℕ → List Test → Type 0
-Decide frame f i xs = led_to (frame_meets frame) i i xs ≡ (if truth f (frame_holds frame) then 64 else 65)
+-- The tests `xs`, of which the first has the index i, lead the subject to index 64 if the formula holds of it, otherwise to 65.
+abbrev pub Decide : Subject → Formula → ℕ → List Test → Type 0
+Decide subject f i xs = led_to (subject_meets subject) i i xs ≡ (if truth f (subject_holds subject) then 64 else 65)
 
 -- The tests `xs` are those of the formulas, the last formula first: each formula's start at an index of `starts`. A formula
 -- has at least one test, and at most one for each of its terms.
-abbrev pub AreCompiled : Option (List ℕ) → List Formula → List ℕ → List Test → Type 0
-AreCompiled frame [] starts xs = (starts ≡ []) × (xs ≡ [])
-AreCompiled frame (f ∷ fs) starts xs =
-    (rest : List ℕ) × (i : ℕ) × (starts ≡ rest ++ i ∷ []) × (i < length xs) × (length xs ≤ i + terms_of f) × Decide frame f i (drop i xs)
-    × AreCompiled frame fs rest (take i xs)
+abbrev pub AreCompiled : Subject → List Formula → List ℕ → List Test → Type 0
+AreCompiled subject [] starts xs = (starts ≡ []) × (xs ≡ [])
+AreCompiled subject (f ∷ fs) starts xs =
+    (rest : List ℕ) × (i : ℕ) × (starts ≡ rest ++ i ∷ []) × (i < length xs) × (length xs ≤ i + terms_of f) × Decide subject f i (drop i xs)
+    × AreCompiled subject fs rest (take i xs)
 
 -- c has compiled the formulas, the last formula first.
 abbrev pub HasCompiled : List Formula → Compiler → Type 0
-HasCompiled fs c = (frame : Option (List ℕ)) → AreCompiled frame fs c.starts.items (tests_of c.filter)
+HasCompiled fs c = (subject : Subject) → AreCompiled subject fs c.starts.items (tests_of c.filter)
 
 -- Of the tests that led to 64 or 65, those lead to a or b.
 abbrev pub index_moved : ℕ → ℕ → ℕ → ℕ

@@ -5,6 +5,7 @@ use Rattle.std.specs.Str.{bytes_eq}
 use Rattle.ip_base.specs.declared.err.layer.Layer.{Layer}
 use Rattle.ip_filter.specs.declared.term.FaultKind.{FaultKind}
 use Rattle.ip_filter.specs.declared.term.Comparison.{Comparison}
+use Rattle.ip_filter.specs.declared.term.Comparison.TheVariants as by
 use Rattle.ip_filter.specs.declared.term.Quantity.{Quantity}
 use Rattle.ip_filter.specs.declared.term.Quantity.TheVariants as quantity
 use Rattle.ip_filter.specs.declared.term.Term.{Term}
@@ -38,6 +39,8 @@ alone w =
     else if bytes_eq w (codes "incomplete") then Some term.Incomplete
     else if bytes_eq w (codes "no-transport") then Some term.NoTransport
     else if bytes_eq w (codes "no-length") then Some term.NoLength
+    else if bytes_eq w (codes "arp") then Some term.Arp
+    else if bytes_eq w (codes "mismatched") then Some term.Mismatched
     else None
 
 abbrev pub quantity_named : Word → Option Quantity
@@ -72,6 +75,8 @@ number_keyword_of w =
     else if bytes_eq w (codes "routing-type") then Some number.RoutingType
     else if bytes_eq w (codes "option") then Some number.Option
     else if bytes_eq w (codes "tcp-flags") then Some number.TcpFlags
+    else if bytes_eq w (codes "less") then Some number.Less
+    else if bytes_eq w (codes "greater") then Some number.Greater
     else icmp_keyword_of w
 
 abbrev pub keyword_of : Word → Option Keyword
@@ -79,6 +84,7 @@ keyword_of w =
     if bytes_eq w (codes "fault") then Some keyword.Fault
     else if bytes_eq w (codes "truncated") then Some keyword.Truncated
     else if bytes_eq w (codes "segments-left") then Some keyword.SegmentsLeft
+    else if bytes_eq w (codes "vlan") then Some keyword.Vlan
     else option_or (option_map keyword.Alone (alone w))
     (option_or (option_map keyword.Protocol (protocol_named w))
     (option_or (option_map keyword.Compared (quantity_named w))
@@ -125,6 +131,9 @@ AreNumberArguments number.IcmpCode args t = Make (IsOne (Finds (number_up_to 255
 AreNumberArguments number.Icmp6Type args t = Make (IsOne (Finds icmp6_type_of)) term.Icmp6Type args t
 AreNumberArguments number.Icmp6Code args t = Make (IsOne (Finds (number_up_to 255))) term.Icmp6Code args t
 AreNumberArguments number.TcpFlags args t = Make (IsOne (Finds tcp_flags_of)) term.TcpFlags args t
+-- as in libpcap, both include the length itself
+AreNumberArguments number.Less args t = Make (IsOne (Finds (number_up_to 4294967295))) (term.WireLength by.AtMost) args t
+AreNumberArguments number.Greater args t = Make (IsOne (Finds (number_up_to 4294967295))) (term.WireLength by.AtLeast) args t
 
 abbrev pub AreArguments : Keyword → List Word → Term → Type 0
 AreArguments (keyword.Alone u) args t = (args ≡ []) × (t ≡ u)
@@ -137,6 +146,7 @@ AreArguments (keyword.Number k) args t = AreNumberArguments k args t
 AreArguments (keyword.Compared q) args t = Make AreCompared (λ c. term.Compared q c.0 c.1) args t
 AreArguments keyword.SegmentsLeft args t = Make AreCompared (λ c. term.SegmentsLeft c.0 c.1) args t
 AreArguments (keyword.Access a) args t = Make AreComparedBits (term.Access a) args t
+AreArguments keyword.Vlan args t = ((args ≡ []) × (t ≡ term.Vlan)) ⊎ Make (IsOne (Finds (number_up_to 4095))) term.VlanOf args t
 
 -- the word w is a keyword, and writes the term t with the words after it
 abbrev pub IsTerm : Word → List Word → Term → Type 0

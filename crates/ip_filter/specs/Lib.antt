@@ -10,6 +10,7 @@ pub mod Facts
 pub mod Flags
 pub mod Tests
 pub mod Program
+pub mod Frames
 pub mod Compiled
 pub mod Formula
 pub mod Words

@@ -6,6 +6,8 @@ use Rattle.ip_filter.specs.declared.parse_error.Expected.TheVariants as expects
 use Rattle.ip_filter.specs.Words.{Word, words}
 use Rattle.ip_filter.specs.Formula.{truth}
 use Rattle.ip_filter.specs.Tests.{frame_meets}
+use Rattle.ip_filter.specs.Frames.{meets_in, holds_in}
+use Rattle.ip_filter.specs.declared.frame.Frame.{Frame}
 use Rattle.ip_filter.specs.Program.{tests_of, passes, frame_holds}
 use Rattle.ip_filter.specs.Grammar.{Disjunction, filter_words, formula_of, terms_in, depth_of, IsDisjunction, IsFilter}
 use Rattle.ip_filter.specs.Reading.{IsPlace, WantsArgument, IsOperator}
@@ -18,6 +20,7 @@ pub record IsParsedFilter (text : List ℕ) (x : Filter) : Type 0 where
   pub words_of : filter_words written ≡ words text
   pub only : (d : Disjunction) → IsFilter d → filter_words d ≡ words text → d ≡ written
   pub formula : (frame : Option (List ℕ)) → passes (tests_of x) (frame_meets frame) ≡ truth (formula_of written) (frame_holds frame)
+  pub framed : (frame : Frame) (packet : Option (List ℕ)) → passes (tests_of x) (meets_in frame packet) ≡ truth (formula_of written) (holds_in frame packet)
   pub tests : x.count ≤ terms_in written
 
 -- the words are a filter

@@ -37,9 +37,15 @@ IsKeyword k w = keyword_of w ≡ Some k
 abbrev pub IsCountKeyword : Word → Type 0
 IsCountKeyword w = ((q : Quantity) × IsKeyword (keyword.Compared q) w) ⊎ IsKeyword keyword.SegmentsLeft w
 
+-- a length on the wire follows
+abbrev pub IsWireKeyword : Word → Type 0
+IsWireKeyword w = IsKeyword (keyword.Number number.Less) w ⊎ IsKeyword (keyword.Number number.Greater) w
+
 -- a number of 32 bits follows
 abbrev pub IsNumberKeyword : Word → Type 0
-IsNumberKeyword w = IsKeyword (keyword.Number number.SecurityParameters) w ⊎ IsKeyword (keyword.Number number.Identification) w
+IsNumberKeyword w =
+    IsKeyword (keyword.Number number.SecurityParameters) w ⊎ (IsKeyword (keyword.Number number.Identification) w
+    ⊎ IsWireKeyword w)
 
 -- a code of ICMP or ICMPv6 follows
 abbrev pub IsCodeKeyword : Word → Type 0

@@ -93,6 +93,7 @@ meets x p =
     else if x.kind == 27 then (p.version == x.version) && (p.number == x.number)
     else if x.kind == 30 then lacks_length p
     else if x.kind == 31 then reads x (bytes_from (from.Base x.version) p)
+    else if x.kind == 33 then compared x Length p
     else meets_in_payload x p
 
 -- a frame meets the test: the packet at the start of its bytes does, and a frame that is not IP meets none

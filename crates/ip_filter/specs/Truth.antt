@@ -193,3 +193,9 @@ holds (term.Icmp6Type n) p = option_map_or (λ x. x == n) (icmp6_byte 0 p) false
 holds (term.Icmp6Code n) p = option_map_or (λ x. x == n) (icmp6_byte 1 p) false
 holds (term.TcpFlags t) p = option_map_or (are_set t) (tcp_flags p) false
 holds (term.Access a c) p = option_map_or (λ n. compares c.comparison (bit_and n c.mask) c.number) (accessed a p) false
+-- a packet alone is as long on the wire as it is, has no VLAN tag, and nothing announced it
+holds (term.WireLength c n) p = option_map_or (λ x. compares c x n) (packet_len p) false
+holds term.Vlan p = false
+holds (term.VlanOf n) p = false
+holds term.Arp p = false
+holds term.Mismatched p = false

@@ -1,9 +1,9 @@
 //! Compiles formulas to tests.
-ghost use Rattle.std.specs.Prelude.{◌≡◌, ◌<◌, ◌≤◌, ◌+◌, ℕ, Option, List, [], ◌∷◌, ◌++◌, length, take, drop, true, false};
+ghost use Rattle.std.specs.Prelude.{◌≡◌, ◌<◌, ◌≤◌, ◌+◌, ℕ, List, [], ◌∷◌, ◌++◌, length, take, drop, true, false};
 ghost use Rattle.arrayvec.specs.ArrayVec.{array_vec_len};
 ghost use Rattle.ip_filter.specs.Formula.{Formula, single, negated};
 ghost use Rattle.ip_filter.specs.Program.{tests_of};
-ghost use Rattle.ip_filter.specs.Compiled.{terms_of_all, joined_by, AreCompiled, HasCompiled, index_moved, redirected, redirected_from};
+ghost use Rattle.ip_filter.specs.Compiled.{Subject, terms_of_all, joined_by, AreCompiled, HasCompiled, index_moved, redirected, redirected_from};
 
 use crate::join::join_early;
 use crate::run::PASSED;
@@ -84,9 +84,9 @@ impl Compiler {
 
     /// Joins the formula whose tests start at the index `second`, the last ones, to the one before.
     fn join_at(&mut self, second: u8, is_and: bool)
-        ensures { (frame : Option (List ℕ)) (f g : Formula) (fs : List Formula) → terms_of_all (g ∷ f ∷ fs) ≤ 64
-            → AreCompiled frame (g ∷ f ∷ fs) (self.old.starts.items ++ second ∷ []) (tests_of self.old.filter)
-            → AreCompiled frame (joined_by is_and f g ∷ fs) self.new.starts.items (tests_of self.new.filter) }
+        ensures { (subject : Subject) (f g : Formula) (fs : List Formula) → terms_of_all (g ∷ f ∷ fs) ≤ 64
+            → AreCompiled subject (g ∷ f ∷ fs) (self.old.starts.items ++ second ∷ []) (tests_of self.old.filter)
+            → AreCompiled subject (joined_by is_and f g ∷ fs) self.new.starts.items (tests_of self.new.filter) }
     {
         if self.join_early_at(usize::from(second), is_and) {
             return;
@@ -102,10 +102,10 @@ impl Compiler {
     /// Joins the formula whose test is the one with the index `second` to the one before, if it is to be asked first. Returns
     /// whether it has.
     fn join_early_at(&mut self, second: usize, is_and: bool) -> bool
-        ensures joined { result ≡ true → (frame : Option (List ℕ)) (f g : Formula) (fs : List Formula)
+        ensures joined { result ≡ true → (subject : Subject) (f g : Formula) (fs : List Formula)
             → terms_of_all (g ∷ f ∷ fs) ≤ 64
-            → AreCompiled frame (g ∷ f ∷ fs) (self.old.starts.items ++ second ∷ []) (tests_of self.old.filter)
-            → AreCompiled frame (joined_by is_and f g ∷ fs) self.new.starts.items (tests_of self.new.filter) }
+            → AreCompiled subject (g ∷ f ∷ fs) (self.old.starts.items ++ second ∷ []) (tests_of self.old.filter)
+            → AreCompiled subject (joined_by is_and f g ∷ fs) self.new.starts.items (tests_of self.new.filter) }
         ensures none { result ≡ false → self.new ≡ self.old }
     {
         let starts = self.starts.len();

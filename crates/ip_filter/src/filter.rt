@@ -26,7 +26,8 @@ pub struct Test {
     /// type, 21 the code of ICMP, 22 flags of TCP, 23 the type, 24 the segments left of a routing header, 25 the type of
     /// an option, 26 flags by an error in a layer, 27 the protocol number that follows the headers of a packet of this
     /// version, 28 the type, 29 the code of ICMPv6, 30 whether no length is stated, 31 bytes from the base header on, 32
-    /// bytes from the header of a protocol on.
+    /// bytes from the header of a protocol on; of the frame, 33 the length on the wire, 34 whether there is a VLAN tag, 35 the
+    /// identifier of one, 36 the EtherType, 37 whether it announced the version that the packet doesn't begin with.
     pub kind: u8,
     /// How a quantity or the number in bytes is compared: 1 equal, 2 not equal, 3 less, 4 at most, 5 greater, 6 at least.
     pub comparison: u8,

@@ -1,8 +1,7 @@
 //! Operands that flags or the base header decide: joined to one test, or asked first.
-ghost use Rattle.std.specs.Prelude.{◌≡◌, ◌<◌, ◌≤◌, ◌+◌, ◌==◌, ℕ, Option, List, [], ◌∷◌, ◌++◌, length, take, if◌then◌else◌, IfSome, IfNone};
+ghost use Rattle.std.specs.Prelude.{◌≡◌, ◌<◌, ◌≤◌, ◌+◌, ◌==◌, ℕ, List, [], ◌∷◌, ◌++◌, length, take, if◌then◌else◌, IfSome, IfNone};
 ghost use Rattle.ip_filter.specs.Formula.{Formula, truth};
-ghost use Rattle.ip_filter.specs.Program.{frame_holds};
-ghost use Rattle.ip_filter.specs.Compiled.{Decide, led_by, joined_by, decided, index_shifted, shifted, put_first};
+ghost use Rattle.ip_filter.specs.Compiled.{Subject, subject_holds, Decide, led_by, joined_by, decided, index_shifted, shifted, put_first};
 ghost use Rattle.ip_filter.specs.declared.filter.Test.{Test as TheTest};
 
 use crate::Test;
@@ -19,10 +18,10 @@ pub(crate) fn join_early(tests: &mut [Test], start: u8, is_and: bool) -> Option<
     ensures none { IfNone result (tests.new ≡ tests.old) }
     ensures some { IfSome result (λ n. (0 < n) × (n ≤ length tests.old)) }
     ensures len { length tests.new ≡ length tests.old }
-    ensures decide { IfSome result (λ n. (frame : Option (List ℕ)) (f g : Formula) (xs : List TheTest) (z : TheTest)
-        → tests.old ≡ xs ++ z ∷ [] → start + length tests.old ≤ 64 → Decide frame f start xs
-        → led_by frame z ≡ (if truth g (frame_holds frame) then 64 else 65)
-        → Decide frame (joined_by is_and f g) start (take n tests.new)) }
+    ensures decide { IfSome result (λ n. (subject : Subject) (f g : Formula) (xs : List TheTest) (z : TheTest)
+        → tests.old ≡ xs ++ z ∷ [] → start + length tests.old ≤ 64 → Decide subject f start xs
+        → led_by subject z ≡ (if truth g (subject_holds subject) then 64 else 65)
+        → Decide subject (joined_by is_and f g) start (take n tests.new)) }
 {
     let count = tests.len();
     if count < 2 {
@@ -60,8 +59,8 @@ fn decided(is_and: bool) -> u8
 /// Returns the first of two operands' tests so that it also leads to the index `decided` if the second one does. There is
 /// such a test if both lead there for flags that are set.
 fn merged(first: &Test, second: &Test, decided: u8) -> Option<Test>
-    ensures { IfSome result (λ t. (frame : Option (List ℕ)) → led_by frame t
-        ≡ (if led_by frame second.now == decided then decided else led_by frame first.now)) }
+    ensures { IfSome result (λ t. (subject : Subject) → led_by subject t
+        ≡ (if led_by subject second.now == decided then decided else led_by subject first.now)) }
 {
     if first.kind != kind::FLAGS || second.kind != kind::FLAGS {
         return None;
@@ -77,9 +76,9 @@ fn merged(first: &Test, second: &Test, decided: u8) -> Option<Test>
 
 /// Returns the test of an operand, which leads to the index `next` if it doesn't decide.
 fn leading_on(test: &Test, next: u8, is_and: bool) -> Test
-    ensures { (frame : Option (List ℕ)) (g : Formula)
-        → led_by frame test.now ≡ (if truth g (frame_holds frame) then 64 else 65)
-        → led_by frame result ≡ (if truth g (frame_holds frame) then (if is_and then next else 64)
+    ensures { (subject : Subject) (g : Formula)
+        → led_by subject test.now ≡ (if truth g (subject_holds subject) then 64 else 65)
+        → led_by subject result ≡ (if truth g (subject_holds subject) then (if is_and then next else 64)
         else (if is_and then 65 else next)) }
 {
     if is_and {

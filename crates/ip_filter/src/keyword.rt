@@ -25,6 +25,8 @@ pub(crate) enum Keyword {
     SegmentsLeft,
     /// Bytes of the packet, which a mask may follow, and then a comparison and what they are compared with.
     Access(AccessedBytes),
+    /// A VLAN tag, whose identifier may follow.
+    Vlan,
 }
 
 /// A keyword that a number or a name follows.
@@ -54,6 +56,10 @@ pub(crate) enum NumberKeyword {
     Icmp6Code,
     /// Flags of TCP.
     TcpFlags,
+    /// The largest length on the wire.
+    Less,
+    /// The smallest length on the wire.
+    Greater,
 }
 
 /// Returns what the word is, if it is a keyword.
@@ -68,6 +74,9 @@ pub(crate) fn keyword_of(word: &[u8]) -> Option<Keyword>
     }
     if word == b"segments-left".as_slice() {
         return Some(Keyword::SegmentsLeft);
+    }
+    if word == b"vlan".as_slice() {
+        return Some(Keyword::Vlan);
     }
     if let Some(term) = alone(word) {
         return Some(Keyword::Alone(term));
@@ -108,6 +117,12 @@ fn alone(word: &[u8]) -> Option<Term>
     }
     if word == b"no-length".as_slice() {
         return Some(Term::NoLength);
+    }
+    if word == b"arp".as_slice() {
+        return Some(Term::Arp);
+    }
+    if word == b"mismatched".as_slice() {
+        return Some(Term::Mismatched);
     }
     None
 }
@@ -170,6 +185,12 @@ fn number_keyword_of(word: &[u8]) -> Option<NumberKeyword>
     }
     if word == b"tcp-flags".as_slice() {
         return Some(NumberKeyword::TcpFlags);
+    }
+    if word == b"less".as_slice() {
+        return Some(NumberKeyword::Less);
+    }
+    if word == b"greater".as_slice() {
+        return Some(NumberKeyword::Greater);
     }
     icmp_keyword_of(word)
 }

@@ -6,7 +6,8 @@
 //! | test one condition | `Term::holds` |
 //! | parse the text of a filter | `Filter::parse`; `ipcap(1)` has the terms |
 //! | test a packet | `Filter::matches`, which walks over it once unless it is plain |
-//! | test a frame that isn't IP, such as an ARP request | `Filter::matches_other`: it meets no term, so `not fault` matches it |
+//! | test a frame and its packet | `Filter::matches_frame` with a `Frame`, for terms such as `vlan` and `less` |
+//! | test a frame that isn't IP, such as an ARP request | `Filter::matches_other_frame`, or `Filter::matches_other` if no more is known of it: it meets no term, so `not fault` matches it |
 //! | test many packets of one buffer | `Batch::filter` of `ip_batches` |
 //!
 //! # Terms
@@ -17,6 +18,8 @@
 //!   (`is_at_payload`). Where the payload is too short for a port, its terms don't hold. A later fragment has none.
 //! - If the length field is 0, all bytes that follow are the packet's (`lacks_length`, `packet_len`). Otherwise what
 //!   follows the packet changes no result (the law `bytes_after_the_packet_change_nothing`).
+//! - Some terms ask the frame (`holds_of_frame`). Of a packet alone, the length on the wire is that of the packet, and the
+//!   other terms are false.
 //!
 //! # Texts
 //!
@@ -56,6 +59,8 @@ mod early;
 mod facts;
 mod filter;
 mod flags;
+mod frame;
+mod framed;
 mod header_condition;
 mod holds;
 mod icmp_types;
@@ -86,6 +91,7 @@ mod transport;
 mod words;
 
 pub use filter::{Filter, Test};
+pub use frame::Frame;
 pub use laws::{bytes_after_the_packet_change_nothing, errors_lie_in_their_layers};
 pub use metadata::Metadata;
 pub use network::Network;

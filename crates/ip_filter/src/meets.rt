@@ -79,6 +79,16 @@ pub(crate) mod kind {
     pub const BASE_ACCESS: u8 = 31;
 
     pub const TRANSPORT_ACCESS: u8 = 32;
+
+    pub const WIRE_LENGTH: u8 = 33;
+
+    pub const VLAN: u8 = 34;
+
+    pub const VLAN_OF: u8 = 35;
+
+    pub const ETHER_TYPE: u8 = 36;
+
+    pub const MISMATCHED: u8 = 37;
 }
 
 impl Test {
@@ -118,6 +128,7 @@ impl Test {
             kind::VERSION_LEADS_TO => self.version_leads_to(&facts.packet),
             kind::NO_LENGTH => facts.lacks_length(),
             kind::BASE_ACCESS => self.reads(facts.bytes_of_version(self.version)),
+            kind::WIRE_LENGTH => self.compares(Quantity::Length, facts),
             _ => self.is_met_in_payload(facts),
         }
     }

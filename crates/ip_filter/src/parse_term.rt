@@ -3,6 +3,7 @@ ghost use Rattle.std.specs.Prelude.{◌≡◌, IfOk, IfErr, IfSome, IfNone};
 ghost use Rattle.ip_filter.specs.declared.keyword.Keyword.TheVariants as is;
 ghost use Rattle.ip_filter.specs.Qualifiers.{multicast_with};
 ghost use Rattle.ip_filter.specs.Grammar.{Finds, AreCompared, layer_with};
+ghost use Rattle.ip_filter.specs.Numbers.{number_up_to};
 ghost use Rattle.ip_filter.specs.Reading.{IsCountKeyword, BeginsOtherwise, ReadsTerm, RefusesTerm, ReadsArgument, ReadsArguments, RefusesArguments};
 
 use crate::access_bits::read_compared_bits;
@@ -12,14 +13,17 @@ use crate::arguments::{
 };
 use crate::keyword::{Keyword, NumberKeyword};
 use crate::layers::{LayerError, parse_layer_with};
-use crate::numbers::parse_fault_kind;
+use crate::numbers::{parse_fault_kind, parse_number};
 use crate::qualifiers::Protocol;
 use crate::words::first_word;
 use crate::{Comparison, Expected, Term};
 use ip_base::err::Layer;
 
-/// The largest security parameters index or identification.
+/// The largest security parameters index, identification or length on the wire.
 const MAX_NUMBER: u64 = 4_294_967_295;
+
+/// The largest identifier of a VLAN.
+const MAX_VLAN: u64 = 4095;
 
 /// What was read of a text: a term and the text after it.
 pub(crate) type ReadTerm<'a> = Result<(Term, &'a [u8]), Unexpected>;
@@ -50,6 +54,33 @@ pub(crate) fn read_term(keyword: Keyword, text: &[u8]) -> ReadTerm<'_>
             Ok((bits, rest)) => Ok((Term::Access(bytes, bits), rest)),
             Err(error) => Err(error),
         },
+        Keyword::Vlan => Ok(read_vlan(text)),
+    }
+}
+
+/// Reads what follows the keyword `vlan`, which may be an identifier.
+#[tactic(auto, using(crate::proofs::TermLemmas::vlan_of, crate::proofs::TermLemmas::plain_vlan))]
+fn read_vlan(text: &[u8]) -> (Term, &[u8])
+    ensures { ReadsTerm is.Vlan text.now result.0 result.1.now }
+{
+    match read_identifier(text) {
+        Some((identifier, rest)) => (Term::VlanOf(identifier), rest),
+        None => (Term::Vlan, text),
+    }
+}
+
+/// Reads the identifier of a VLAN, if the text begins with one.
+#[tactic(auto, using(crate::proofs::ArgumentLemmas::this_word, crate::proofs::TermLemmas::no_word_is_no_vlan, crate::proofs::TermLemmas::other_is_no_vlan))]
+fn read_identifier(text: &[u8]) -> Option<(u16, &[u8])>
+    ensures some { IfSome result (λ r. ReadsArgument (Finds (number_up_to 4095)) text.now r.0 r.1.now) }
+    ensures none { IfNone result (BeginsOtherwise (number_up_to 4095) text.now) }
+{
+    match first_word(text) {
+        Some(word) => match parse_number(word.bytes, MAX_VLAN) {
+            Some(identifier) => Some((identifier as u16, word.rest)),
+            None => None,
+        },
+        None => None,
     }
 }
 
@@ -176,6 +207,14 @@ fn read_number_term(keyword: NumberKeyword, text: &[u8]) -> ReadTerm<'_>
         NumberKeyword::TcpFlags => {
             let (flags, rest) = read_tcp_flags(text)?;
             Ok((Term::TcpFlags(flags), rest))
+        }
+        NumberKeyword::Less => {
+            let (len, rest) = read_number(text, MAX_NUMBER, Expected::Number)?;
+            Ok((Term::WireLength(Comparison::AtMost, len), rest))
+        }
+        NumberKeyword::Greater => {
+            let (len, rest) = read_number(text, MAX_NUMBER, Expected::Number)?;
+            Ok((Term::WireLength(Comparison::AtLeast, len), rest))
         }
     }
 }

@@ -62,6 +62,7 @@ impl Test {
             kind::FLOW_LABEL => self.compares(Quantity::FlowLabel, facts),
             kind::NO_LENGTH => facts.lacks_length(),
             kind::BASE_ACCESS => self.reads(facts.bytes_of_version(self.version)),
+            kind::WIRE_LENGTH => self.compares(Quantity::Length, facts),
             kind::IDENTIFICATION => facts.has_identification(self.number),
             kind::SOURCE => self.has_source(&start_of(&facts.packet)),
             kind::DESTINATION => self.has_destination(&start_of(&facts.packet)),

@@ -188,4 +188,14 @@ pub enum Term {
     /// These bytes are there, and compare so. Those from a base header on may be any of the packet, its payload too; those from
     /// a transport header on need headers that end at the payload, as for ports.
     Access(AccessedBytes, ComparedBits),
+    /// The frame's length on the wire compares so. Of a packet alone, the length is that of the packet.
+    WireLength(Comparison, u64),
+    /// The frame has a VLAN tag (IEEE 802.1Q, section 9.3). A packet alone has none.
+    Vlan,
+    /// A VLAN tag of the frame, the outer or the inner one, has this identifier (IEEE 802.1Q, section 9.6).
+    VlanOf(u16),
+    /// The frame's EtherType is that of ARP, 0x0806 (RFC 826). A packet alone has none.
+    Arp,
+    /// The frame announced one IP version, but the packet begins with the other. Of a packet alone, none was announced.
+    Mismatched,
 }

@@ -1,5 +1,5 @@
 //! Tests that terms stand for.
-ghost use Rattle.std.specs.Prelude.{◌≡◌, ◌==◌, bit_and, ℕ, List, Some, false};
+ghost use Rattle.std.specs.Prelude.{◌≡◌, ◌≤◌, ◌==◌, bit_and, ℕ, List, Some, None, false, if◌then◌else◌};
 ghost use Rattle.ip_dissect.specs.Dissection.{DissectedParts, dissected};
 ghost use Rattle.std.specs.List.{list_any};
 ghost use Rattle.std.specs.Option.{option_map_or};
@@ -8,7 +8,9 @@ ghost use Rattle.ip_filter.specs.Access.{accessed};
 ghost use Rattle.ip_codes.specs.Codes.{layer_code};
 ghost use Rattle.ip_filter.specs.Flags.{any_flag};
 ghost use Rattle.ip_filter.specs.Tests.{meets, comparison_in, network_in, compared};
+ghost use Rattle.ip_filter.specs.Frames.{asks_frame, holds_of_frame, meets_by_frame};
 ghost use Rattle.ip_filter.specs.declared.filter.Test.{Test as TheTest};
+ghost use Rattle.ip_filter.specs.declared.frame.Frame.{Frame as TheFrame};
 
 use crate::flags::{mask, place};
 use crate::holds::kind_index;
@@ -23,6 +25,9 @@ use ip_base::err::Layer;
 use ip_base::{IpNumber, ip_number};
 use ip_codes::layer_code_of;
 
+/// The EtherType of ARP (RFC 826).
+const ARP: u64 = 0x0806;
+
 /// The index after all tests at which a packet has not passed.
 pub(crate) const REFUSED: usize = PASSED + 1;
 
@@ -30,6 +35,8 @@ impl Test {
     /// Returns a test that those packets meet of which the term holds. It is the last one.
     pub(crate) fn of(term: Term) -> Test
         ensures meets { (s : List ℕ) → meets result (dissected s) ≡ holds term (dissected s) }
+        ensures framed { (f : TheFrame) (v : ℕ) → holds_of_frame f v term
+            ≡ (if asks_frame result then Some (meets_by_frame f v result) else None) }
         ensures if_met { result.if_met ≡ 64 }
         ensures if_not { result.if_not ≡ 65 }
     {
@@ -74,6 +81,11 @@ impl Test {
             Term::Icmp6Code(number) => Test::of_number(kind::ICMP6_CODE, u64::from(number)),
             Term::TcpFlags(flags) => Test::of_tcp_flags(flags),
             Term::Access(bytes, bits) => Test::of_access(bytes, bits),
+            Term::WireLength(comparison, len) => Test::of_wire_length(comparison, len),
+            Term::Vlan => Test::of_number(kind::VLAN, 0),
+            Term::VlanOf(identifier) => Test::of_number(kind::VLAN_OF, u64::from(identifier)),
+            Term::Arp => Test::of_number(kind::ETHER_TYPE, ARP),
+            Term::Mismatched => Test::of_number(kind::MISMATCHED, 0),
         }
     }
 
@@ -139,12 +151,27 @@ impl Test {
     fn of_quantity(quantity: Quantity, comparison: Comparison, number: u64) -> Test
         ensures meets { (p : DissectedParts) → meets result p
             ≡ option_map_or (λ x. compares comparison x number) (quantity_of quantity p) false }
+        ensures packet { asks_frame result ≡ false }
         ensures if_met { result.if_met ≡ 64 }
         ensures if_not { result.if_not ≡ 65 }
     {
         Test {
             comparison: comparison_code(comparison),
             ..Test::of_number(quantity_kind(quantity), number)
+        }
+    }
+
+    /// Returns a test that compares the length on the wire.
+    fn of_wire_length(comparison: Comparison, len: u64) -> Test
+        ensures kind { result.kind ≡ 33 }
+        ensures number { result.number ≡ len }
+        ensures comparison { comparison_in result.comparison ≡ Some comparison }
+        ensures if_met { result.if_met ≡ 64 }
+        ensures if_not { result.if_not ≡ 65 }
+    {
+        Test {
+            comparison: comparison_code(comparison),
+            ..Test::of_number(kind::WIRE_LENGTH, len)
         }
     }
 
@@ -194,6 +221,7 @@ impl Test {
     fn of_access(bytes: AccessedBytes, bits: ComparedBits) -> Test
         ensures meets { (p : DissectedParts) → meets result p
             ≡ option_map_or (λ n. compares bits.comparison (bit_and n bits.mask) bits.number) (accessed bytes p) false }
+        ensures packet { asks_frame result ≡ false }
         ensures if_met { result.if_met ≡ 64 }
         ensures if_not { result.if_not ≡ 65 }
     {
@@ -291,7 +319,8 @@ fn fault_mask(kind: FaultKind) -> u64
 
 /// Returns the kind of test that compares a quantity.
 fn quantity_kind(quantity: Quantity) -> u8
-    ensures { (x : TheTest) (p : DissectedParts) → x.kind ≡ result → meets x p ≡ compared x quantity p }
+    ensures meets { (x : TheTest) (p : DissectedParts) → x.kind ≡ result → meets x p ≡ compared x quantity p }
+    ensures packet { result ≤ 32 }
 {
     match quantity {
         Quantity::Headers => kind::HEADERS,

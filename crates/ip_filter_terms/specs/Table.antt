@@ -35,6 +35,12 @@ terms =
     codes "truncated" ∷
     codes "truncated LAYER" ∷
     codes "incomplete" ∷
+    codes "mismatched" ∷
+    codes "less N" ∷
+    codes "greater N" ∷
+    codes "vlan" ∷
+    codes "vlan N" ∷
+    codes "arp" ∷
     codes "version N" ∷
     codes "ip" ∷
     codes "ip6" ∷
@@ -96,6 +102,12 @@ term_meanings =
     codes "a header is truncated" ∷
     codes "this header is truncated" ∷
     codes "bytes of the stated length are missing" ∷
+    codes "IPv4 announced as IPv6, or the reverse" ∷
+    codes "the frame has at most N bytes on the wire" ∷
+    codes "the frame has at least N bytes on the wire" ∷
+    codes "the frame has a VLAN tag" ∷
+    codes "one of its first two tags has this number" ∷
+    codes "the EtherType of the frame is that of ARP" ∷
     codes "the IP version, 4 or 6" ∷
     codes "as version 4" ∷
     codes "as version 6" ∷
@@ -157,6 +169,12 @@ term_examples =
     codes "truncated" ∷
     codes "truncated routing" ∷
     codes "incomplete" ∷
+    codes "mismatched" ∷
+    codes "less 64" ∷
+    codes "greater 1500" ∷
+    codes "vlan" ∷
+    codes "vlan 100" ∷
+    codes "arp" ∷
     codes "version 6" ∷
     codes "ip" ∷
     codes "ip6" ∷
@@ -224,6 +242,7 @@ term_notes =
     codes "`length` is what is there where none is stated. A jumbo payload option doesn't count for `no-length`." ∷
     codes "TCP, UDP, UDP-Lite, SCTP and DCCP have ports. Ports, types, codes and flags of TCP are read from the payload, so extension headers may precede them. A later fragment has none, nor has a packet with an error or a truncated header. The terms about fragments hold of an IPv6 packet if they do of one of its fragment headers." ∷
     codes "`no-transport` asks for the header of TCP up to its data offset, of DCCP likewise, of SCTP (12 bytes), of UDP, UDP-Lite and ICMP after IPv4 (8 bytes) and of ICMPv6 after IPv6 (4 bytes). It holds of a first fragment that has less of it (RFC 7112), and of a packet whose data offset is too small." ∷
+    codes "`mismatched`, `less`, `greater`, `vlan` and `arp` ask the frame, of which a match may be told. Of a packet alone, `less` and `greater` ask the length as `length` does, and the others are false." ∷
     codes "As in tcpdump's expressions, `host`, `net`, `port` or `portrange` may follow `src` and `dst`, and `ip`, `ip6` or the name of a protocol may precede `src`, `dst` and these: `tcp src port 80` is `( tcp and src port 80 )`, of two terms. `src or dst` is either one, and `src and dst port 53` is `( src port 53 and dst port 53 )`. An address, prefix, port or protocol alone takes the words of the term before it: `tcp port 80 or 443` is `tcp port 80 or tcp port 443`." ∷
     codes "An access compares bytes of the packet, as in tcpdump's expressions: `tcp[13] & 2 != 0`, `ip[6:2] & 0x1fff = 0`. `NAME[I]`, `NAME[I:2]` and `NAME[I:4]` are the number in 1, 2 or 4 bytes at offset I, in network byte order. NAME is `ip` or `ip6`, with offsets from the IP header of this version, or the name of a protocol, with offsets from its header, which extension headers may precede. `& BITS` may follow, and then OP and BITS: a number of 32 bits, a name, or several in parentheses with `|` between them, as in `tcp[tcpflags] & (tcp-syn|tcp-ack) != 0`. The names are tcp-fin, tcp-syn, tcp-rst, tcp-push, tcp-ack, tcp-urg, tcp-ece, tcp-cwr and those of types; icmptype, icmpcode, icmp6type, icmp6code and tcpflags are offsets. An access is false, also with `!=`, if not all of its bytes are in the packet, or if the protocol's header is in an earlier fragment." ∷
     codes "Terms are joined by `not`, `and` and `or`, or `!`, `&&` and `||`, and by parentheses. `not` binds most tightly, then `and`. White space separates words. There may be up to 64 terms and 16 levels of parentheses." ∷

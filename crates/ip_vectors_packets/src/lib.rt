@@ -16,6 +16,8 @@ mod filters;
 #[cfg(test)]
 mod fragment_headers;
 #[cfg(test)]
+mod frames;
+#[cfg(test)]
 mod lengths_that_lie;
 #[cfg(test)]
 mod long_formulas;

@@ -2,16 +2,19 @@
 ghost use Rattle.std.specs.Prelude.{◌≡◌, ◌≤◌, ◌<◌, ◌+◌, drop, length, slice_index, false, IsTrue, Some, None};
 ghost use Rattle.ip_dissect.specs.Dissection.{dissected};
 ghost use Rattle.ip_filter.specs.Tests.{meets};
+ghost use Rattle.ip_filter.specs.Frames.{meets_in};
 ghost use Rattle.ip_filter.specs.Program.{tests_of, passes};
 ghost use Rattle.ip_filter.specs.Parsed.{IsParsedFilter, IsFirstError};
 ghost use Rattle.ip_filter.specs.declared.parse_error.Expected.{Expected as WasExpected};
 ghost use Rattle.ip_spans.specs.FilterError.{expected_code};
 ghost use Rattle.ip_spans.specs.HeaderSpan.{filled};
+ghost use Rattle.ipexts_c.specs.Frames.{frame_of, packet_in};
 ghost use Rattle.ip_batches.specs.Batch.{packets_at, first_outside, matches_of};
 
 use crate::bytes::Bytes;
 use ip_batches::{Batch, PacketSpan};
-use ip_filter::Filter;
+use ip_filter::{Filter, Frame};
+use ip_frames::FrameFields;
 use ip_spans::{FilterError, expected_text, parse_filter};
 
 /// Calls `parse_filter`. Returns whether the text is a filter. If so, stores it in `filter`, and `error` is unchanged;
@@ -84,6 +87,55 @@ pub extern "C" fn wolfaren_filter_packets(
             *outside = index;
             false
         }
+    }
+}
+
+/// Calls `Filter::matches_frame` with what was found in a frame and its length on the wire, or if no IP packet was found,
+/// `Filter::matches_other_frame`.
+#[unsafe(no_mangle)]
+pub extern "C" fn wolfaren_filter_matches_frame(
+    filter: &Filter,
+    frame: &FrameFields,
+    wire_len: u64,
+    packet: Bytes<'_>,
+) -> bool
+    ensures { result ≡ passes (tests_of filter.now)
+        (meets_in (frame_of frame.now wire_len) (packet_in frame.now packet.entry.slice.now)) }
+{
+    let found = frame_of(frame, wire_len);
+    if frame.end == 0 {
+        filter.matches_frame(&found, packet.slice())
+    } else {
+        filter.matches_other_frame(&found)
+    }
+}
+
+/// Returns the frame in which these fields were found.
+fn frame_of(fields: &FrameFields, wire_len: u64) -> Frame
+    ensures { result ≡ frame_of fields.now wire_len }
+{
+    Frame {
+        wire_len,
+        ether_type: if fields.number_kind == 1 && fields.number < 65536 {
+            Some(fields.number as u16)
+        } else {
+            None
+        },
+        version: if fields.version == 0 {
+            None
+        } else {
+            Some(fields.version)
+        },
+        outer_vlan: if fields.vlan_count > 0 {
+            Some(fields.first_vlan)
+        } else {
+            None
+        },
+        inner_vlan: if fields.vlan_count > 1 {
+            Some(fields.second_vlan)
+        } else {
+            None
+        },
     }
 }
 

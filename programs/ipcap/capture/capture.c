@@ -339,14 +339,14 @@ static bool read_from_blocks(struct capture *capture, struct packet *packet)
 /* Finds the IP packet in the frame of a packet. */
 static void find_in_frame(struct packet *packet)
 {
-    struct wolfaren_frame frame;
-    packet->is_left_out = !wolfaren_find_ip((uint32_t)packet->link_type, packet->frame, packet->header.caplen, &frame);
+    struct wolfaren_frame *found = &packet->found;
+    packet->is_left_out = !wolfaren_find_ip((uint32_t)packet->link_type, packet->frame, packet->header.caplen, found);
     packet->is_ip = false;
     if (packet->is_left_out) return;
-    packet->is_ip = frame.end == WOLFAREN_FRAME_IP;
-    packet->ip_offset = frame.offset;
-    packet->protocol = protocol_of(&frame);
-    packet->vlans = vlans_of(&frame);
+    packet->is_ip = found->end == WOLFAREN_FRAME_IP;
+    packet->ip_offset = found->offset;
+    packet->protocol = protocol_of(found);
+    packet->vlans = vlans_of(found);
 }
 
 /* Reads the next packet, even if it is to be skipped. */

@@ -95,10 +95,11 @@ struct packet {
     bool is_left_out;     /* its link layer isn't supported */
     bool has_time;
     bool is_ip;
-    bool is_short;            /* truncated by the snap length */
-    size_t ip_offset;         /* where the IP packet begins in the frame */
-    struct protocol protocol; /* the last number that says what the frame carries */
-    uint32_t vlans;           /* the identifiers of its VLAN tags, as `vlans_of` returns them */
+    bool is_short;               /* truncated by the snap length */
+    size_t ip_offset;            /* where the IP packet begins in the frame */
+    struct wolfaren_frame found; /* what was found in the frame */
+    struct protocol protocol;    /* the last number that says what the frame carries */
+    uint32_t vlans;              /* the identifiers of its VLAN tags, as `vlans_of` returns them */
 };
 
 /*

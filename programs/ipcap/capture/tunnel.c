@@ -33,6 +33,7 @@ static void set_found(struct inner *inner, const struct rest *rest, const struct
 {
     inner->is_ip = frame->end == WOLFAREN_FRAME_IP;
     inner->protocol = protocol_of(frame);
+    inner->found = *frame;
     set_packet(inner, rest, frame->offset);
 }
 
@@ -115,6 +116,7 @@ static bool find_in_gtp_u(struct rest *rest, struct inner *inner)
     if ((header[0] & HAS_EXTENSIONS) && !skip_gtp_u_extensions(rest, optional[NEXT_TYPE_AT])) return false;
     unsigned version = rest->len > 0 ? rest->bytes[0] >> 4 : 0;
     inner->is_ip = version == 4 || version == 6;
+    inner->found.end = inner->is_ip ? WOLFAREN_FRAME_IP : WOLFAREN_FRAME_OTHER;
     set_packet(inner, rest, 0);
     return true;
 }
@@ -157,7 +159,7 @@ static const struct {
     enum tunnel tunnel;
     uint8_t number;   /* the protocol number of the payload */
     uint16_t port;    /* the destination port of UDP, otherwise 0 */
-    unsigned version; /* the IP version that the protocol number stands for, or 0 */
+    uint8_t version;  /* the IP version that the protocol number stands for, or 0 */
     bool (*find)(struct rest *rest, struct inner *inner);
 } tunnels[] = {
     {TUNNEL_IP, 4, 0, 4, find_in_ip},
@@ -191,7 +193,9 @@ bool find_inner(const struct parts *parts, struct inner *inner)
     if (packet->payload_number == NUMBER_UDP && !skip_udp(&rest, packet->version == 6, &port)) return false;
     for (size_t i = 0; i < sizeof tunnels / sizeof *tunnels; i++) {
         if (tunnels[i].number != packet->payload_number || tunnels[i].port != port) continue;
-        *inner = (struct inner){.tunnel = tunnels[i].tunnel, .protocol = {.version = tunnels[i].version}};
+        *inner = (struct inner){.tunnel = tunnels[i].tunnel,
+                                .protocol = {.version = tunnels[i].version},
+                                .found = {.version = tunnels[i].version}};
         return tunnels[i].find(&rest, inner);
     }
     return false;

@@ -17,9 +17,10 @@ struct inner {
     bool is_ip;
     const uint8_t *bytes; /* of an IP packet: its bytes, and what follows it in the payload of the outer packet */
     size_t len;
-    struct protocol protocol; /* the last number that says what the tunnel carries */
-    uint32_t vlans;           /* the identifiers of the VLAN tags of its frame, as `vlans_of` returns them, if it carries frames */
-    bool has_identifier;      /* the tunnel has a number: the key of GRE, the endpoint's of GTP-U, the network's of VXLAN and Geneve */
+    struct protocol protocol;    /* the last number that says what the tunnel carries */
+    struct wolfaren_frame found; /* what was found in the frame that it carries, or by that number */
+    uint32_t vlans;              /* the identifiers of the VLAN tags of its frame, as `vlans_of` returns them, if it carries frames */
+    bool has_identifier;         /* the tunnel has a number: the key of GRE, the endpoint's of GTP-U, the network's of VXLAN and Geneve */
     uint32_t identifier;
 };
 

@@ -51,7 +51,7 @@ static const char usage[] =
 
 /* The parsed arguments. */
 struct request {
-    struct condition *condition;
+    struct wolfaren_filter *condition;
     const char *input;        /* the file of `-r`, or null */
     const char *const *files; /* the paths to read */
     int file_count;
@@ -391,7 +391,7 @@ static int read_operands(struct request *request, int count, char *const *operan
 
 int run_filter(int count, char **arguments)
 {
-    struct condition condition;
+    struct wolfaren_filter condition;
     struct request request = {.condition = &condition, .most = UINT64_MAX, .memory = DEFAULT_MEMORY, .packets = {1, UINT64_MAX},
                               .since = {.tv_sec = INT64_MIN}, .until = {.tv_sec = INT64_MAX}};
     int status = read_options(count, arguments, usage, options, sizeof options / sizeof *options, &request);

@@ -13,6 +13,7 @@
 #include "commands/confine.h"
 #include "commands/options.h"
 #include "commands/report.h"
+#include "conditions/condition.h"
 #include "conditions/matching.h"
 #include "output/copy.h"
 #include "output/drawing.h"
@@ -69,7 +70,7 @@ struct request {
     uint64_t most;    /* how many packets are shown at most, besides those in tunnels */
     uint64_t memory;
     const char *path; /* the file to read, or null */
-    struct condition *condition; /* null if all packets are shown */
+    struct wolfaren_filter *condition; /* null if all packets are shown */
 };
 
 /* The state of showing a capture. */
@@ -203,7 +204,7 @@ static bool is_file(const char *path)
 }
 
 /* Reads the operands: the file, which is the last one, and before it the condition. Returns -1, or the exit status on an error. */
-static int read_operands(struct request *request, struct condition *condition, int count, char *const *operands)
+static int read_operands(struct request *request, struct wolfaren_filter *condition, int count, char *const *operands)
 {
     int taken;
     if (count == 0) return -1;
@@ -218,7 +219,7 @@ static int read_operands(struct request *request, struct condition *condition, i
 
 int run_show(int count, char **arguments)
 {
-    struct condition condition;
+    struct wolfaren_filter condition;
     struct request request = {.in_color = is_color_terminal(), .most = UINT64_MAX, .memory = DEFAULT_MEMORY};
     int status = read_options(count, arguments, usage, options, sizeof options / sizeof *options, &request);
     if (status >= 0) return status;

@@ -20,7 +20,6 @@ struct text {
     size_t *ends; /* where each argument ends */
     int count;
     size_t *origins; /* where each byte comes from, or the byte that it stands for; null for the arguments themselves */
-    const char *stand_in; /* what stands for a term of this program: a term of the library's with a number */
 };
 
 static void free_text(struct text *text)
@@ -43,7 +42,7 @@ static bool join(struct text *text, int count, char *const *arguments)
 {
     size_t len = 0;
     for (int i = 0; i < count; i++) len += strlen(arguments[i]) + 1;
-    *text = (struct text){calloc(len, 1), calloc((unsigned)count, sizeof *text->ends), count, NULL, NULL};
+    *text = (struct text){calloc(len, 1), calloc((unsigned)count, sizeof *text->ends), count, NULL};
     if (!has_memory(text, false)) return false;
     char *end = text->bytes;
     for (int i = 0; i < count; i++) {
@@ -134,10 +133,9 @@ static void copy_words(struct text *text, const struct text *arguments)
         const char *word = arguments->bytes + at;
         while (arguments->ends[argument] <= at) text->ends[argument++] = len;
         size = word_len(word, end - at);
-        bool is_own = is_own_term(word, size), is_any = is_word(word, size, any);
-        bool is_port = place.is_next || (place.is_joined && !is_own && !is_any && is_identifier(word, size));
-        if (is_own) append(text, &len, text->stand_in, strlen(text->stand_in), at, false);
-        else if (is_any) append(text, &len, any_packet, strlen(any_packet), at, false);
+        bool is_any = is_word(word, size, any);
+        bool is_port = place.is_next || (place.is_joined && !is_any && is_identifier(word, size));
+        if (is_any) append(text, &len, any_packet, strlen(any_packet), at, false);
         else copy_word(text, &len, word, size, at, is_port);
         if (!is_space(*word)) pass_word(&place, word, size, is_port);
     }
@@ -145,12 +143,12 @@ static void copy_words(struct text *text, const struct text *arguments)
     text->origins[len] = end;
 }
 
-/* Makes a text for the library's filters, with `stand_in` for each term of this program. Returns false if memory runs out. */
-static bool replace_words(struct text *text, const struct text *arguments, const char *stand_in)
+/* Makes a text for the library's filters. Returns false if memory runs out. */
+static bool replace_words(struct text *text, const struct text *arguments)
 {
     size_t len = arguments->ends[arguments->count - 1] + 1, count = (size_t)arguments->count;
     *text = (struct text){calloc(len, PORT_DIGITS), calloc(count, sizeof *text->ends), arguments->count,
-                          calloc(len, PORT_DIGITS * sizeof *text->origins), stand_in};
+                          calloc(len, PORT_DIGITS * sizeof *text->origins)};
     if (!has_memory(text, true)) return false;
     copy_words(text, arguments);
     return true;
@@ -175,8 +173,6 @@ static const struct {
     const char *word;
     const char *ours;
 } libpcap_words[] = {
-    {"less", "length <= N"},
-    {"greater", "length >= N"},
     {"len", "length"},
     {"mask", "net ADDRESS/BITS"},
     {"multicast", "ip multicast, or ip6 multicast"},
@@ -190,8 +186,8 @@ static const struct {
 
 /* Words of libpcap's expressions about the link layer. */
 static const char *const link_layer_words[] = {
-    "ether", "fddi", "tr", "wlan", "link", "ppp", "slip", "arp", "rarp", "aarp", "atalk", "decnet", "iso", "clnp", "esis", "isis",
-    "lat", "moprc", "mopdl", "stp", "ipx", "netbeui", "llc", "vlan", "mpls", "pppoed", "pppoes", "gateway", "inbound",
+    "ether", "fddi", "tr", "wlan", "link", "ppp", "slip", "rarp", "aarp", "atalk", "decnet", "iso", "clnp", "esis", "isis",
+    "lat", "moprc", "mopdl", "stp", "ipx", "netbeui", "llc", "mpls", "pppoed", "pppoes", "gateway", "inbound",
     "outbound", "ifname", "on", "type", "subtype", "dir", "vpi", "vci", "lane",
 };
 
@@ -220,7 +216,7 @@ static void show_ours(const char *word, size_t size)
     const char *bracket = memchr(word, '[', size);
     size_t name = bracket ? (size_t)(bracket - word) : size;
     if (is_one_of(word, name, link_layer_words, sizeof link_layer_words / sizeof *link_layer_words))
-        fprintf(stderr, "  libpcap's `%.*s` asks about the link layer, which no term does\n", (int)name, word);
+        fprintf(stderr, "  no term is libpcap's `%.*s`, which asks about the link layer\n", (int)name, word);
     else if (is_word(word, size, "geneve"))
         fputs("  libpcap's `geneve` asks about a packet in the payload, which no term does\n", stderr);
     else if (bracket)
@@ -284,32 +280,6 @@ static int take_condition(struct wolfaren_filter *condition, const struct text *
     return taken > 0 && error->offset == text->ends[taken - 1] + 1 ? taken : 0;
 }
 
-/* Takes a test with a stand-in. */
-static void take_own_test(struct condition *condition, size_t test)
-{
-    const struct wolfaren_filter_test *of = &condition->filter.tests[test];
-    condition->own[condition->own_count++] = (struct own_test){test, of->if_met, of->if_not};
-}
-
-/*
- * Finds the tests for terms of this program in the first `taken` arguments: those whose number is another one with
- * another stand-in. Returns false if memory runs out.
- */
-static bool find_own_tests(struct condition *condition, const struct text *joined, int taken)
-{
-    struct text text;
-    struct wolfaren_filter other;
-    struct wolfaren_filter_error error;
-    if (!replace_words(&text, joined, "id 1")) return false;
-    condition->own_count = 0;
-    /* parsed as with the first stand-in */
-    bool is_parsed = wolfaren_parse_filter(text.bytes, text.ends[taken - 1], &other, &error);
-    for (size_t i = 0; is_parsed && i < condition->filter.count; i++)
-        if (condition->filter.tests[i].number != other.tests[i].number) take_own_test(condition, i);
-    free_text(&text);
-    return is_parsed;
-}
-
 /* Reports that memory ran out, and returns the exit status. */
 static int fail_on_memory(void)
 {
@@ -318,20 +288,19 @@ static int fail_on_memory(void)
 }
 
 /* Reads the condition in the joined arguments, as `read_condition` does. */
-static int read_joined(struct condition *condition, const struct text *joined, bool is_whole, int *taken)
+static int read_joined(struct wolfaren_filter *condition, const struct text *joined, bool is_whole, int *taken)
 {
     struct text text;
     struct wolfaren_filter_error error;
-    if (!replace_words(&text, joined, "id 0")) return fail_on_memory();
-    *taken = take_condition(&condition->filter, &text, is_whole, &error);
+    if (!replace_words(&text, joined)) return fail_on_memory();
+    *taken = take_condition(condition, &text, is_whole, &error);
     if (*taken == 0) complain_of_condition(joined, error.expected, text.origins[error.offset]);
     free_text(&text);
-    if (*taken == 0 || has_host_bits(&condition->filter) || has_impossible(&condition->filter)) return STATUS_USAGE;
-    if (!tell_grouping(joined->bytes, joined->ends[*taken - 1])) return fail_on_memory();
-    return find_own_tests(condition, joined, *taken) ? -1 : fail_on_memory();
+    if (*taken == 0 || has_host_bits(condition) || has_impossible(condition)) return STATUS_USAGE;
+    return tell_grouping(joined->bytes, joined->ends[*taken - 1]) ? -1 : fail_on_memory();
 }
 
-int read_condition(struct condition *condition, int count, char *const *arguments, bool is_whole, int *taken)
+int read_condition(struct wolfaren_filter *condition, int count, char *const *arguments, bool is_whole, int *taken)
 {
     struct text joined;
     if (!join(&joined, count, arguments)) return fail_on_memory();
@@ -346,20 +315,9 @@ bool is_condition(int count, char *const *arguments)
     struct wolfaren_filter filter;
     struct wolfaren_filter_error error;
     if (!join(&joined, count, arguments)) return false;
-    bool is_made = replace_words(&text, &joined, "id 0");
+    bool is_made = replace_words(&text, &joined);
     bool is_parsed = is_made && take_condition(&filter, &text, true, &error) > 0;
     if (is_made) free_text(&text);
     free_text(&joined);
     return is_parsed;
-}
-
-const struct wolfaren_filter *filter_for(struct condition *condition, const struct packet *packet)
-{
-    bool is_met = condition->own_count > 0 && meets_own_term(packet);
-    for (size_t i = 0; i < condition->own_count; i++) {
-        const struct own_test *own = &condition->own[i];
-        struct wolfaren_filter_test *test = &condition->filter.tests[own->test];
-        test->if_met = test->if_not = is_met ? own->if_met : own->if_not;
-    }
-    return &condition->filter;
 }

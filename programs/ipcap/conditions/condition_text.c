@@ -13,6 +13,9 @@ enum { TERM_WIDTH = 32, INDEX_ROOM = 24 };
 /* The numbers of ICMP and ICMPv6. */
 enum { ICMP = 1, ICMP6 = 58 };
 
+/* The EtherType of ARP. */
+enum { ARP = 0x0806 };
+
 /* The terms for flags. A term for several flags precedes those for each of them. */
 static const struct {
     uint64_t flags;
@@ -145,6 +148,21 @@ static int print_access(const char *word, const struct wolfaren_filter_test *tes
     return len + printf(" %s %llu", comparison, (unsigned long long)test->number);
 }
 
+/* Prints how a length on the wire compares: at most or at least, as terms ask it. */
+static int print_wire_length(const char *word, const struct wolfaren_filter_test *test)
+{
+    (void)word;
+    if (test->comparison != WOLFAREN_AT_MOST && test->comparison != WOLFAREN_AT_LEAST) return print_never();
+    return print_number(test->comparison == WOLFAREN_AT_MOST ? "less" : "greater", test);
+}
+
+/* Prints an EtherType, of which there is a term for ARP alone. */
+static int print_ether_type(const char *word, const struct wolfaren_filter_test *test)
+{
+    (void)word;
+    return test->number == ARP ? printf("arp") : print_never();
+}
+
 static int print_network(const char *word, const struct wolfaren_filter_test *test)
 {
     char text[NETWORK_ROOM];
@@ -189,6 +207,11 @@ static const struct {
     [WOLFAREN_TEST_NO_LENGTH] = {print_word, "no-length"},
     [WOLFAREN_TEST_BASE_ACCESS] = {print_access, ""},
     [WOLFAREN_TEST_TRANSPORT_ACCESS] = {print_access, "protocol"},
+    [WOLFAREN_TEST_WIRE_LENGTH] = {print_wire_length, ""},
+    [WOLFAREN_TEST_VLAN] = {print_word, "vlan"},
+    [WOLFAREN_TEST_VLAN_OF] = {print_number, "vlan"},
+    [WOLFAREN_TEST_ETHER_TYPE] = {print_ether_type, ""},
+    [WOLFAREN_TEST_MISMATCHED] = {print_word, "mismatched"},
 };
 
 /* Prints a test, and returns the length. No packet meets a test of an unknown kind. */
@@ -207,23 +230,13 @@ static void write_index(size_t index, size_t count, char text[INDEX_ROOM])
         snprintf(text, INDEX_ROOM, "%s", index == WOLFAREN_FILTER_PASSED ? "pass" : "refuse");
 }
 
-/* Returns the test for the term of this program that has this index, or null if it is one of the library's. */
-static const struct own_test *own_test_at(const struct condition *condition, size_t index)
-{
-    for (size_t i = 0; i < condition->own_count; i++)
-        if (condition->own[i].test == index) return &condition->own[i];
-    return NULL;
-}
-
-void print_program(const struct condition *condition)
+void print_program(const struct wolfaren_filter *filter)
 {
     char if_met[INDEX_ROOM], if_not[INDEX_ROOM];
-    const struct wolfaren_filter *filter = &condition->filter;
     for (size_t i = 0; i < filter->count; i++) {
         const struct wolfaren_filter_test *test = &filter->tests[i];
-        const struct own_test *own = own_test_at(condition, i);
         printf("(%03zu) ", i);
-        int len = own ? print_own_term() : print_test(test);
+        int len = print_test(test);
         write_index(test->if_met, filter->count, if_met);
         write_index(test->if_not, filter->count, if_not);
         printf("%*s jt %-6s jf %s\n", len < TERM_WIDTH ? TERM_WIDTH - len : 0, "", if_met, if_not);

@@ -8,6 +8,6 @@
  * Writes a line for each test of a condition: the index of the test, its term, and where it leads a packet that meets it
  * and one that doesn't.
  */
-void print_program(const struct condition *condition);
+void print_program(const struct wolfaren_filter *filter);
 
 #endif

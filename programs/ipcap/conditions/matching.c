@@ -14,11 +14,7 @@ void enter_tunnel(struct packet *packet, const struct inner *inner)
     packet->header.caplen = (uint32_t)(packet->ip_offset + inner->len);
     packet->is_ip = inner->is_ip;
     packet->protocol = inner->protocol;
-}
-
-static bool does_meet(struct matcher *matcher, const struct packet *packet)
-{
-    return does_match(filter_for(matcher->condition, packet), packet);
+    packet->found = inner->found;
 }
 
 /* Decides whether a packet in the tunnels of a packet meets the condition. */
@@ -29,7 +25,7 @@ static bool decide_inner(struct matcher *matcher, struct packet packet)
         parse_captured(&matcher->parts, &packet);
         if (!find_inner(&matcher->parts, &inner)) return false;
         enter_tunnel(&packet, &inner);
-        if (does_meet(matcher, &packet)) return true;
+        if (does_match(matcher->condition, &packet)) return true;
     }
     return false;
 }
@@ -37,5 +33,5 @@ static bool decide_inner(struct matcher *matcher, struct packet packet)
 bool decide(struct matcher *matcher, const struct packet *packet)
 {
     if (packet->is_left_out) return false;
-    return !matcher->condition || does_meet(matcher, packet) || (matcher->has_tunnels && decide_inner(matcher, *packet));
+    return !matcher->condition || does_match(matcher->condition, packet) || (matcher->has_tunnels && decide_inner(matcher, *packet));
 }

@@ -6,13 +6,12 @@
 
 #include "capture/capture.h"
 #include "capture/tunnel.h"
-#include "conditions/condition.h"
 #include "packets/parts.h"
 
 struct matcher {
-    struct condition *condition; /* null if every packet meets it */
-    bool has_tunnels;            /* a packet also meets it if one in its tunnels does */
-    struct parts parts;          /* all zeros before the first call */
+    const struct wolfaren_filter *condition; /* null if every packet meets it */
+    bool has_tunnels;                        /* a packet also meets it if one in its tunnels does */
+    struct parts parts;                      /* all zeros before the first call */
 };
 
 /* Decides whether a packet meets the condition. One whose link layer isn't supported meets none. */

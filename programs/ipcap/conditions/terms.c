@@ -26,7 +26,6 @@ void print_terms(void)
     printf("%-18s  %-45s  %s\n", "term", "meaning", "example");
     for (uint8_t i = 0; *wolfaren_term(i); i++)
         printf("%-18s  %-45s  %s\n", wolfaren_term(i), wolfaren_term_meaning(i), wolfaren_term_example(i));
-    printf("%-18s  %-45s  %s\n", "mismatched", "IPv4 announced as IPv6, or the reverse", "mismatched");
     putchar('\n');
     for (uint8_t i = 0; *wolfaren_argument(i); i++) {
         printf("%-10s", wolfaren_argument(i));

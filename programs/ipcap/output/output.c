@@ -147,7 +147,6 @@ void end_output(struct output *output)
 bool does_match(const struct wolfaren_filter *condition, const struct packet *packet)
 {
     if (packet->is_left_out) return false;
-    if (!packet->is_ip) return wolfaren_filter_matches_other(condition);
-    return wolfaren_filter_matches(condition, packet->frame + packet->ip_offset,
-                                   packet->header.caplen - packet->ip_offset);
+    return wolfaren_filter_matches_frame(condition, &packet->found, packet->header.len, packet->frame + packet->ip_offset,
+                                         packet->header.caplen - packet->ip_offset);
 }

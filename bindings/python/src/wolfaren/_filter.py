@@ -3,7 +3,7 @@
 from __future__ import annotations
 
 import itertools
-from collections.abc import Callable
+from collections.abc import Callable, Sequence
 from typing import Any, NamedTuple
 
 from ._captures import Path, Written, write_matching
@@ -46,6 +46,16 @@ def filter_terms() -> list[FilterTerm]:
     calls = (lib.wolfaren_find_term, lib.wolfaren_find_term_meaning, lib.wolfaren_find_term_example)
     rows = (FilterTerm(*(name_of(call, index) for call in calls)) for index in range(256))
     return list(itertools.takewhile(lambda row: row.term, rows))
+def _frame(ether_type: int | None, version: int | None, vlans: Sequence[int]) -> Any:
+    """Returns what is known of a frame with an IP packet, for C."""
+    frame = ffi.new("struct wolfaren_frame *")
+    if ether_type is not None:
+        frame.number_kind = lib.WOLFAREN_ETHERTYPE
+        frame.number = ether_type
+    frame.version = version or 0
+    frame.vlan_count = len(vlans)
+    frame.first_vlan, frame.second_vlan = (*vlans, 0, 0)[:2]
+    return frame
 
 
 class Filter:
@@ -84,6 +94,12 @@ class Filter:
       truncated           a header is truncated
       truncated LAYER     this header is truncated
       incomplete          bytes of the stated length are missing
+      mismatched          IPv4 announced as IPv6, or the reverse
+      less N              the frame has at most N bytes on the wire
+      greater N           the frame has at least N bytes on the wire
+      vlan                the frame has a VLAN tag
+      vlan N              one of its first two tags has this number
+      arp                 the EtherType of the frame is that of ARP
       version N           the IP version, 4 or 6
       ip                  as version 4
       ip6                 as version 6
@@ -143,6 +159,9 @@ class Filter:
     UDP-Lite and ICMP after IPv4 (8 bytes) and of ICMPv6 after IPv6 (4 bytes). It holds of a first fragment that has
     less of it (RFC 7112), and of a packet whose data offset is too small.
 
+    `mismatched`, `less`, `greater`, `vlan` and `arp` ask the frame, of which a match may be told. Of a packet alone,
+    `less` and `greater` ask the length as `length` does, and the others are false.
+
     As in tcpdump's expressions, `host`, `net`, `port` or `portrange` may follow `src` and `dst`, and `ip`, `ip6` or
     the name of a protocol may precede `src`, `dst` and these: `tcp src port 80` is `( tcp and src port 80 )`, of two
     terms. `src or dst` is either one, and `src and dst port 53` is `( src port 53 and dst port 53 )`. An address,
@@ -198,10 +217,20 @@ class Filter:
         """The text of which the filter was made."""
         return self._text
 
-    def matches(self, packet: Buffer) -> bool:
-        """Returns whether the packet at the start of the bytes, which may be any bytes, meets the condition."""
+    def matches(self, packet: Buffer, *, wire_length: int | None = None, ether_type: int | None = None,
+                version: int | None = None, vlans: Sequence[int] = ()) -> bool:
+        """Returns whether the packet at the start of the bytes, which may be any bytes, meets the condition.
+
+        The keywords say what its frame was, for terms that ask it: its length on the wire in bytes, the EtherType and the IP
+        version that it announced, and the identifiers of its VLAN tags, the outer one first. With any of them but without
+        `wire_length`, the length is that of the bytes. Raises `OverflowError` for numbers beyond their fields.
+        """
         view = ffi.from_buffer("uint8_t[]", packet)
-        return bool(lib.wolfaren_filter_matches(self._filter, view, len(view)))
+        if wire_length is None and ether_type is None and version is None and not vlans:
+            return bool(lib.wolfaren_filter_matches(self._filter, view, len(view)))
+        frame = _frame(ether_type, version, vlans)
+        length = len(view) if wire_length is None else wire_length
+        return bool(lib.wolfaren_filter_matches_frame(self._filter, frame, length, view, len(view)))
 
     def matches_many(self, buffer: Buffer, offsets: Any, lengths: Any) -> Any:
         """Returns whether each of many packets in a buffer meets the condition, as a numpy array of type `bool`.
@@ -213,9 +242,20 @@ class Filter:
         packets.pass_to(lib.wolfaren_filter_packets, self._filter, array=ffi.from_buffer("uint8_t[]", matches))
         return matches
 
-    def matches_other_frame(self) -> bool:
-        """Returns whether a frame without an IP packet meets the condition, as it meets `not fault`."""
-        return bool(lib.wolfaren_filter_matches_other(self._filter))
+    def matches_other_frame(self, *, wire_length: int | None = None, ether_type: int | None = None,
+                            vlans: Sequence[int] = ()) -> bool:
+        """Returns whether a frame without an IP packet meets the condition, as it meets `not fault`.
+
+        With `wire_length`, the terms that ask the frame may hold, too: the keywords are those of `matches`. Raises `TypeError`
+        for the others without it.
+        """
+        if wire_length is None:
+            if ether_type is not None or vlans:
+                raise TypeError("a frame has a length on the wire: give wire_length, too")
+            return bool(lib.wolfaren_filter_matches_other(self._filter))
+        frame = _frame(ether_type, None, vlans)
+        frame.end = lib.WOLFAREN_FRAME_OTHER
+        return bool(lib.wolfaren_filter_matches_frame(self._filter, frame, wire_length, ffi.NULL, 0))
 
     def write(self, path_in: Path, path_out: Path) -> Written:
         """Writes the frames of a capture that meet the condition to another file, and returns how many were read and written.

@@ -60,6 +60,10 @@ pub enum Term {
     Icmp6Code(u64),
     TcpFlags(TcpFlags),
     Access(Access),
+    WireLength(Comparison),
+    Vlan(Option<u64>),
+    Arp,
+    Mismatched,
 }
 
 /// A number of a packet, which terms compare.

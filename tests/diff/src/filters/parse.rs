@@ -294,6 +294,14 @@ impl Parser {
             "id" => Term::Id(self.take(number, Expected::Number)?),
             "no-transport" => Term::NoTransport,
             "no-length" => Term::NoLength,
+            "less" => self.wire_length("<=")?,
+            "greater" => self.wire_length(">=")?,
+            "vlan" => {
+                let identifier = |word: &str| self::number(word, 4095);
+                Term::Vlan(self.take(identifier, Expected::Operand).ok())
+            }
+            "arp" => Term::Arp,
+            "mismatched" => Term::Mismatched,
             "option" => Term::Option(self.take(byte, Expected::Byte)?),
             "routing-type" => Term::RoutingType(self.take(byte, Expected::Byte)?),
             "segments-left" => Term::SegmentsLeft(self.comparison()?),
@@ -327,6 +335,13 @@ impl Parser {
                 self.refuse(Expected::Operand)
             }
         }
+    }
+
+    /// Takes the length on the wire that a frame's is compared with.
+    fn wire_length(&mut self, sign: &str) -> Result<Term, Refusal> {
+        let number = self.take(|word| number(word, u32::MAX.into()), Expected::Number)?;
+        let sign = sign.to_owned();
+        Ok(Term::WireLength(Comparison { sign, number }))
     }
 
     fn comparison(&mut self) -> Result<Comparison, Refusal> {

@@ -113,6 +113,9 @@ fn term(packet: &[u8], random: &mut Random, words: &mut Vec<String>) {
         "no-length",
         "ip",
         "ip6",
+        "arp",
+        "mismatched",
+        "vlan",
     ];
     match random.below(20) {
         0..4 => {
@@ -172,6 +175,10 @@ fn term(packet: &[u8], random: &mut Random, words: &mut Vec<String>) {
             word(words, "proto");
             word(words, protocol(random));
             alone(random, words, protocol);
+        }
+        7 if random.percent(20) => {
+            word(words, one_of(&["less", "greater", "vlan"], random));
+            word(words, count(random));
         }
         7 => {
             word(words, "leads-to");

@@ -110,6 +110,11 @@ fn is_met(term: &Term, packet: &Dissected<'_>) -> bool {
         Term::TcpFlags(flags) => upper_layer(packet, &[TCP])
             .and_then(|bytes| bytes.get(13))
             .is_some_and(|found| found & flags.mask == flags.set),
+        // of a packet alone
+        Term::WireLength(comparison) => {
+            value(Quantity::Length, packet).is_some_and(|value| compares(value, comparison))
+        }
+        Term::Vlan(_) | Term::Arp | Term::Mismatched => false,
         Term::Access(access) => accesses::read(packet, access.start, access.offset, access.size)
             .is_some_and(|found| compares((found & access.mask) as usize, &access.comparison)),
     }

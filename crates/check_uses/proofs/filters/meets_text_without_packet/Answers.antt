@@ -1,0 +1,12 @@
+use Rattle.std.proofs.Common.{None}
+use Rattle.ip_spec.proofs.Common.{◌∙◌}
+use Rattle.check_uses.proofs.filters.meets_text_without_packet.Goals as goal
+
+pub returns-in-Ok : goal.returns-in-Ok
+returns-in-Ok c =
+    let p = c.in-Ok.ensures.ok in (
+      p.written,
+      p.filter,
+      p.words_of,
+      c.matches_other_frame.ensures ∙ p.framed c.args.frame.now None,
+    )

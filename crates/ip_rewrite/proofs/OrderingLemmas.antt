@@ -58,11 +58,3 @@ follow_ordered v l c m (inr none) f =
       ipv4 = λ four. record { one = omega (arith, (f.ipv4 four).one, ordered_count c); number = all_ordered (λ g. g.number ≡ 51) c (f.ipv4 four).number };
       last = λ four n. omega (arith, f.last four n, ordered_count c);
     }
-
-pub ordering_dissects : (a : Authentication) (room : ℕ) (s : List ℕ) (o : Option BaseHeader) → IsBaseOf s o → ordering_fault a (dissected s) room ≡ None
-    → dissected (rewritten (dissected s) (in_order (dissected s).headers) (dissected s).number (dissected s).payload) ≡ rewritten_parts (dissected s) (in_order (dissected s).headers) (dissected s).number (dissected s).payload
-ordering_dissects a room s o is e =
-    let p : DissectedParts = dissected s in
-    let first = none_first (packet_fault p) _ e in
-    let rest = none_first (order_fault a p) _ first.1 in
-    changed (in_order p.headers) p.number p.payload room s o is first.0 (follow_ordered p.version (is_later_end p.end) p.headers p.number (can_order a p rest.0) (as_is p (whole_chain s o is first.0))) (has_ordered (jumbo_offset p) p.headers (has_option p)) rest.1

@@ -20,17 +20,7 @@ use Rattle.ip_rewrite.proofs.ClearingLemmas.{later_same, follow_cleared, has_cle
 use Rattle.ip_rewrite.proofs.OrderLemmas.{has_ordered}
 use Rattle.ip_rewrite.proofs.OrderingLemmas.{CanOrder, can_order, follow_ordered}
 use Rattle.ip_rewrite.proofs.RequestLemmas.{cleared_routing}
-
--- no header is left out
-all_stay : (w : Which) (i : ℕ) (c : List ExtHeader) → any_selected (λ h. true) w i c ≡ false → kept_from w i c ≡ c
-all_stay w i [] e = refl
-all_stay w i (h ∷ c) e =
-    let parts = neither (selects w i h) (any_selected (λ h. true) w (i + 1) c) e in
-    cond-false (selects w i h) (kept_from w (i + 1) c) (h ∷ kept_from w (i + 1) c) parts.0 ∙ ap (λ d. h ∷ d) (all_stay w (i + 1) c parts.1)
-  where
-    neither : (s x : Bool) → (s && true || x) ≡ false → (s ≡ false) × (x ≡ false)
-    neither true x e = absurd (false≢true (sym e))
-    neither false x e = (refl, e)
+use Rattle.ip_rewrite.proofs.SelectionLemmas.{all_stay}
 
 -- headers are left out
 follow_left : (r : Request) (p : DissectedParts) → IsWholeChain p → leaving_fault r p ≡ None → CanFollow p.version (is_later_end p.end) (kept r.without p.headers) p.number

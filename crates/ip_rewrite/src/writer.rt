@@ -12,7 +12,7 @@ ghost use Rattle.ip_rewrite.specs.Writing.{AreWritten, routing_index};
 
 use crate::clearing::clear_at;
 use crate::insertion::Written;
-use crate::keeper::{append, put_at};
+use crate::buffer::{append, put_at};
 use crate::order::{RANKS, rank};
 use crate::write::base_of;
 use crate::{Request, Which};

@@ -4,7 +4,7 @@ use Rattle.ip_rewrite.specs.Selection.{selects, kept}
 use Rattle.ip_rewrite.specs.Writing.{AreWritten}
 use Rattle.ip_rewrite.specs.declared.which.Which.{Which}
 use Rattle.ip_rewrite.specs.declared.writer.Choice.{Choice}
-use Rattle.ip_rewrite.proofs.SurveyLemmas.{left_in, left_out}
+use Rattle.ip_rewrite.proofs.SelectionLemmas.{left_in, left_out}
 use Rattle.ip_rewrite.proofs.RequestLemmas.{kept_count, chosen_less}
 use Rattle.ip_rewrite.proofs.writer.WriterHeaderVisitor.visit.Goals as goal
 

@@ -1,12 +1,12 @@
--- One more header: whether it is kept, and what a survey then says.
-use Rattle.ip_spec.proofs.Common.{◌≡◌, ℕ, ◌+◌, ◌≤◌, ◌<◌, ◌^◌, List, [], ◌∷◌, ◌++◌, length, refl, sym, ◌∙◌, ap, arith, and-true, Bool, true, false, ◌||◌, ◌&&◌, not, or-false, or_assoc, cases_Bool, inl, inr, cond-true, cond-false, if◌then◌else◌, length-append, list_any, ExtHeader, bytes_of}
+-- One more header: whether it is kept, and what a selection then says.
+use Rattle.ip_spec.proofs.Common.{◌≡◌, ℕ, ◌+◌, ◌≤◌, ◌<◌, ◌^◌, List, [], ◌∷◌, ◌++◌, length, refl, sym, ◌∙◌, ap, arith, and-true, Bool, true, false, false≢true, ◌||◌, ◌&&◌, not, or-false, or_assoc, cases_Bool, inl, inr, cond-true, cond-false, if◌then◌else◌, length-append, list_any, ExtHeader, bytes_of}
 use Rattle.std.proofs.lemmas.List.Folds.{list_any-append}
 use Rattle.ip_dissect.specs.Fragment.{fragments}
 use Rattle.ip_rewrite.specs.Selection.{selects, kept_from, kept, any_selected, selects_fragmented}
 use Rattle.ip_rewrite.specs.Without.{is_authentication, has_segments, is_covered, selects_covered}
-use Rattle.ip_rewrite.specs.Writing.{facts_of, surveyed, surveyed_one}
+use Rattle.ip_rewrite.specs.Writing.{facts_of, selection_after, selection_with}
 use Rattle.ip_rewrite.specs.declared.which.Which.{Which}
-use Rattle.ip_rewrite.specs.declared.survey.Survey.{Survey}
+use Rattle.ip_rewrite.specs.declared.selection.Selection.{Selection}
 use Rattle.ip_rewrite.proofs.FrontLemmas.{more_len}
 
 -- The header h with the index j comes after the headers c, of which the first has the index i.
@@ -81,16 +81,16 @@ joined_or a b x y e = or_assoc a b x ∙ ap (λ z. a || z) (sym e)
 pub more_or : (old now result fresh x any all : Bool) → now ≡ (old || any) → fresh ≡ x → result ≡ (now || fresh) → all ≡ (any || x) → result ≡ (old || all)
 more_or old now result fresh x any all before is sum whole = sum ∙ (ap (λ z. z || fresh) before ∙ (ap (λ z. (old || any) || z) is ∙ joined_or old any x all whole))
 
-pub same_survey : (v u : Survey) → v.which ≡ u.which → v.selects ≡ u.selects → v.selects_fragmenting ≡ u.selects_fragmenting → v.selects_fragmented ≡ u.selects_fragmented → v.selects_covered ≡ u.selects_covered → v.selects_segments ≡ u.selects_segments
+pub same_selection : (v u : Selection) → v.which ≡ u.which → v.selects ≡ u.selects → v.selects_fragmenting ≡ u.selects_fragmenting → v.selects_fragmented ≡ u.selects_fragmented → v.selects_covered ≡ u.selects_covered → v.selects_segments ≡ u.selects_segments
     → v.is_fragmented ≡ u.is_fragmented → v.has_authentication ≡ u.has_authentication → v.keeps_authentication ≡ u.keeps_authentication → v.kept_len ≡ u.kept_len → v ≡ u
-same_survey v u a b d e f g h i j k = rw (a, b, d, e, f, g, h, i, j, k) refl
+same_selection v u a b d e f g h i j k = rw (a, b, d, e, f, g, h, i, j, k) refl
 
-pub survey_more : (v : Survey) (c : List ExtHeader) (h : ExtHeader) → surveyed_one (surveyed v c) (facts_of v.which (length c) h) ≡ surveyed v (c ++ h ∷ [])
-survey_more v c h =
+pub selection_more : (v : Selection) (c : List ExtHeader) (h : ExtHeader) → selection_with (selection_after v c) (facts_of v.which (length c) h) ≡ selection_after v (c ++ h ∷ [])
+selection_more v c h =
     let w : Which = v.which in
     let j : ℕ = length c in
     let at : j ≡ 0 + j = omega arith in
-    same_survey (surveyed_one (surveyed v c) (facts_of w j h)) (surveyed v (c ++ h ∷ [])) refl
+    same_selection (selection_with (selection_after v c) (facts_of w j h)) (selection_after v (c ++ h ∷ [])) refl
     (joined_or v.selects (any_selected (λ k. true) w 0 c) (selects w j h) (any_selected (λ k. true) w 0 (c ++ h ∷ [])) (any_more (λ k. true) w 0 j c h at ∙ ap (λ b. any_selected (λ k. true) w 0 c || b) (and-true (selects w j h))))
     (joined_or v.selects_fragmenting (any_selected fragments w 0 c) (selects w j h && fragments h) (any_selected fragments w 0 (c ++ h ∷ [])) (any_more fragments w 0 j c h at))
     (joined_or v.selects_fragmented (selects_fragmented w 0 v.is_fragmented c) ((v.is_fragmented || list_any fragments c) && selects w j h) (selects_fragmented w 0 v.is_fragmented (c ++ h ∷ [])) (fragmented_more w 0 j v.is_fragmented c h at))
@@ -101,6 +101,27 @@ survey_more v c h =
     (joined_or v.keeps_authentication (list_any is_authentication (kept w c)) (not (selects w j h) && is_authentication h) (list_any is_authentication (kept w (c ++ h ∷ []))) (kept_any is_authentication w j c h at))
     (kept_size w j v.kept_len c h at)
 
+-- Of headers of which none is selected, all are kept.
+pub or_none : (a b : Bool) → (a || b) ≡ false → (a ≡ false) × (b ≡ false)
+or_none true b e = absurd (false≢true (sym e))
+or_none false b e = (refl, e)
+
+none_here : (s x : Bool) → (s && true || x) ≡ false → (s ≡ false) × (x ≡ false)
+none_here true x e = absurd (false≢true (sym e))
+none_here false x e = (refl, e)
+
+pub all_stay : (w : Which) (i : ℕ) (c : List ExtHeader) → any_selected (λ h. true) w i c ≡ false → kept_from w i c ≡ c
+all_stay w i [] e = refl
+all_stay w i (h ∷ c) e =
+    let parts = none_here (selects w i h) (any_selected (λ h. true) w (i + 1) c) e in
+    cond-false (selects w i h) (kept_from w (i + 1) c) (h ∷ kept_from w (i + 1) c) parts.0 ∙ ap (λ d. h ∷ d) (all_stay w (i + 1) c parts.1)
+
+pub none_passes : (t : ExtHeader → Bool) (w : Which) (i : ℕ) (c : List ExtHeader) → any_selected (λ h. true) w i c ≡ false → any_selected t w i c ≡ false
+none_passes t w i [] e = refl
+none_passes t w i (h ∷ c) e =
+    let parts = none_here (selects w i h) (any_selected (λ h. true) w (i + 1) c) e in
+    ap (λ b. b && t h || any_selected t w (i + 1) c) parts.0 ∙ none_passes t w (i + 1) c parts.1
+
 -- what is kept is no longer than all
 pub kept_less : (w : Which) (i : ℕ) (c : List ExtHeader) → length (bytes_of (kept_from w i c)) ≤ length (bytes_of c)
 kept_less w i [] = omega arith
@@ -109,5 +130,5 @@ kept_less w i (h ∷ c) = elim (cases_Bool (selects w i h)) [
   | inr s ↦ omega (arith, kept_less w (i + 1) c, length-append h.bytes (bytes_of c), length-append h.bytes (bytes_of (kept_from w (i + 1) c)), ap (λ d. length (bytes_of d)) (cond-false (selects w i h) (kept_from w (i + 1) c) (h ∷ kept_from w (i + 1) c) s))
 ]
 
-pub survey_fits : (v : Survey) (c : List ExtHeader) (h : ExtHeader) → v.kept_len + length (bytes_of (c ++ h ∷ [])) < 2 ^ 64 → (surveyed v c).kept_len + length h.bytes < 2 ^ 64
-survey_fits v c h fits = omega (arith, kept_less v.which 0 c, more_len c h)
+pub selection_fits : (v : Selection) (c : List ExtHeader) (h : ExtHeader) → v.kept_len + length (bytes_of (c ++ h ∷ [])) < 2 ^ 64 → (selection_after v c).kept_len + length h.bytes < 2 ^ 64
+selection_fits v c h fits = omega (arith, kept_less v.which 0 c, more_len c h)

@@ -1,6 +1,6 @@
 use Rattle.ip_spec.proofs.Common.{◌≡◌, ◌+◌, ◌≤◌, length, slice_set, subst, ap, sym, ◌∙◌, arith, IsHeader, ExtHeader, bytes_of}
 use Rattle.ip_rewrite.proofs.FrontLemmas.{written_more, link_within, out_len, more_len}
-use Rattle.ip_rewrite.proofs.keeper.append.Goals as goal
+use Rattle.ip_rewrite.proofs.buffer.append.Goals as goal
 
 pub returns : goal.returns
 returns c = λ l b buffer d h is w fits small.

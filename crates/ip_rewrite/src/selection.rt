@@ -1,20 +1,20 @@
-//! What is known of a packet's headers before some are left out.
+//! What is known of the headers that are left out.
 ghost use Rattle.std.specs.Prelude.{◌≡◌, ◌≤◌, ◌<◌, ◌+◌, ◌^◌, ℕ, List, [], length};
 ghost use Rattle.std.proofs.Common.{rules};
 ghost use Rattle.ip_spec.specs.Header.{IsHeader};
 ghost use Rattle.ip_spec.specs.Chain.{ExtHeader, bytes_of};
 ghost use Rattle.ip_dissect.specs.Fragment.{fragments};
 ghost use Rattle.ip_rewrite.specs.Without.{is_authentication, has_segments};
-ghost use Rattle.ip_rewrite.specs.Writing.{no_survey, surveyed, surveyed_one, facts_of};
+ghost use Rattle.ip_rewrite.specs.Writing.{empty_selection, selection_after, selection_with, facts_of};
 
 use crate::Which;
+use crate::header::{fragments, has_segments};
 use ip_base::{IpNumber, ip_number};
 use ip_dissect::HeaderVisitor;
-use ip_ext_headers::Ipv6FragmentHeaderSlice;
 
 /// What was seen of a packet's headers so far.
 #[derive(Clone, Copy, Debug)]
-pub(crate) struct Survey {
+pub(crate) struct Selection {
     /// The headers that are to be left out.
     pub(crate) which: Which,
     /// Some header is selected.
@@ -54,8 +54,8 @@ pub(crate) struct HeaderFacts {
     pub(crate) len: usize,
 }
 
-impl HeaderVisitor for Survey {
-    ghost visited = { λ old k c new. old.kept_len + length (bytes_of c) < 2 ^ 64 → new ≡ surveyed old c };
+impl HeaderVisitor for Selection {
+    ghost visited = { λ old k c new. old.kept_len + length (bytes_of c) < 2 ^ 64 → new ≡ selection_after old c };
 
     ghost none = { λ v k fits. Prim.search rules };
 
@@ -83,40 +83,13 @@ fn facts_of(which: Which, number: IpNumber, header: &[u8], index: usize) -> Head
     }
 }
 
-/// Returns whether a header fragments the payload.
-#[inline(always)]
-pub(crate) fn fragments(number: IpNumber, header: &[u8]) -> bool
-    requires { IsHeader number.0 header.now }
-    ensures { (h : ExtHeader) → h ≡ record { number = number.0; bytes = header.now }
-        → result ≡ fragments h }
-{
-    if number != ip_number::IPV6_FRAG {
-        return false;
-    }
-    match Ipv6FragmentHeaderSlice::from_slice(header) {
-        Ok(fields) => fields.is_fragmenting_payload(),
-        Err(_) => false,
-    }
-}
-
-/// Returns whether a header is a routing header with segments left (RFC 8200, section 4.4).
-#[inline(always)]
-pub(crate) fn has_segments(number: IpNumber, header: &[u8]) -> bool
-    requires { IsHeader number.0 header.now }
-    ensures { (h : ExtHeader) → h ≡ record { number = number.0; bytes = header.now }
-        → result ≡ has_segments h }
-{
-    // no branch: which headers are routing headers can't be predicted
-    (number == ip_number::IPV6_ROUTE) & (header[3] != 0)
-}
-
-impl Survey {
+impl Selection {
     /// Returns what is known before the first header.
     #[inline(always)]
-    pub(crate) fn new(which: Which) -> Survey
-        ensures { result ≡ no_survey which }
+    pub(crate) fn new(which: Which) -> Selection
+        ensures { result ≡ empty_selection which }
     {
-        Survey {
+        Selection {
             which,
             selects: false,
             selects_fragmenting: false,
@@ -133,7 +106,7 @@ impl Survey {
     /// Adds one more header.
     #[inline(always)]
     fn add(&mut self, facts: HeaderFacts)
-        ensures { self.old.kept_len + facts.len < 2 ^ 64 → self.new ≡ surveyed_one self.old facts }
+        ensures { self.old.kept_len + facts.len < 2 ^ 64 → self.new ≡ selection_with self.old facts }
     {
         self.selects |= facts.is_selected;
         self.selects_fragmenting |= facts.is_selected & facts.fragments;

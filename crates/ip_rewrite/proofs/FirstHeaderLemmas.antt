@@ -1,5 +1,5 @@
 -- The first header of a packet is left out, and no other.
-use Rattle.ip_spec.proofs.Common.{◌≡◌, ℕ, ◌+◌, ◌-◌, ◌≤◌, ◌<◌, List, [], ◌∷◌, ◌++◌, length, take, drop, slice_set, refl, sym, ◌∙◌, subst, ap, arith, common_steps, false≢true, true, cond-true, cond-false, false, Bool, ◌||◌, ◌&&◌, ◌==◌, not, if◌then◌else◌, or-false, and-true, or_assoc, eqb-true, ne_eqb, list_any, append_assoc, drop-drop, length-append, length-set, Option, None, Some, ExtHeader, AreLinked, bytes_of, leads_to}
+use Rattle.ip_spec.proofs.Common.{◌≡◌, ℕ, ◌+◌, ◌-◌, ◌≤◌, ◌<◌, List, [], ◌∷◌, ◌++◌, length, take, drop, slice_set, refl, sym, ◌∙◌, subst, ap, arith, common_steps, false≢true, true, cond-true, cond-false, false, Bool, ◌||◌, ◌&&◌, ◌==◌, not, if◌then◌else◌, or-false, and-true, or_assoc, ne_eqb, list_any, append_assoc, drop-drop, length-append, length-set, Option, None, Some, ExtHeader, AreLinked, bytes_of, leads_to}
 use Rattle.std.proofs.Math.Seq.{take-add}
 use Rattle.std.proofs.lemmas.List.{drop-take, set-append_left}
 use Rattle.ip_dissect.specs.Fragment.{fragments}
@@ -7,7 +7,8 @@ use Rattle.ip_dissect.specs.Summary.{is_later_end}
 use Rattle.ip_dissect.specs.End.{has_error}
 use Rattle.ip_dissect.specs.Dissection.{DissectedParts}
 use Rattle.ip_rewrite.specs.Headers.{linked_headers}
-use Rattle.ip_rewrite.specs.Jumbogram.{is_unstated}
+use Rattle.std.specs.Prelude.{is_some}
+use Rattle.ip_rewrite.specs.Jumbogram.{is_unstated, jumbo_offset}
 use Rattle.ip_rewrite.specs.Rewritten.{jumbo_fault, room_fault, rewritten_field}
 use Rattle.ip_rewrite.specs.Selection.{selects, selects_first, kept_from, kept, any_selected, selects_fragmented}
 use Rattle.ip_rewrite.specs.Without.{is_authentication, has_segments, packet_fault, selection_fault, without_fault, len_without, keeps_checksums}
@@ -17,17 +18,18 @@ use Rattle.ip_rewrite.specs.declared.which.Authentication.{Authentication}
 use Rattle.ip_rewrite.specs.declared.err.RewriteError.{RewriteError}
 use Rattle.ip_rewrite.specs.declared.err.RewriteError.TheVariants.{NotAJumbogram}
 use Rattle.ip_rewrite.proofs.JumbogramLemmas.{unstated_no_jumbogram}
+use Rattle.ip_rewrite.proofs.ResultLemmas.{all_none}
 use Rattle.ip_rewrite.proofs.SelectionLemmas.{or_none, all_stay, none_passes}
 use Rattle.ip_rewrite.proofs.FrontLemmas.{first_is, linked_same, copied_after}
 
 -- one more header, which is the first one or isn't
-pub first_here : (n j : ℕ) (b : Bool) (c : List ExtHeader) (h : ExtHeader) → j ≡ length c → (j == 0) ≡ true → (first_len n (c ++ h ∷ []) ≡ length h.bytes) × (first_segments b (c ++ h ∷ []) ≡ has_segments h)
+pub first_here : (n j : ℕ) (b : Bool) (c : List ExtHeader) (h : ExtHeader) → j ≡ length c → j ≡ 0 → (first_len n (c ++ h ∷ []) ≡ length h.bytes) × (first_segments b (c ++ h ∷ []) ≡ has_segments h)
 first_here n j b [] h at is = (refl, refl)
-first_here n j b (g ∷ c) h at is = absurd (let e : j ≡ 0 = eqb-true j 0 is in let f : ⊥ = omega (arith, e, at) in f)
+first_here n j b (g ∷ c) h at is = absurd (let f : ⊥ = omega (arith, is, at) in f)
 
-pub first_before : (n j : ℕ) (b : Bool) (c : List ExtHeader) (h : ExtHeader) → j ≡ length c → (j == 0) ≡ false → (first_len n (c ++ h ∷ []) ≡ first_len n c) × (first_segments b (c ++ h ∷ []) ≡ first_segments b c)
-first_before n j b [] h at isnt = absurd (false≢true (sym isnt ∙ ap (λ k. k == 0) at))
-first_before n j b (g ∷ c) h at isnt = (refl, refl)
+pub first_before : (n j : ℕ) (b : Bool) (c : List ExtHeader) (h : ExtHeader) → j ≡ length c → 0 < j → (first_len n (c ++ h ∷ []) ≡ first_len n c) × (first_segments b (c ++ h ∷ []) ≡ first_segments b c)
+first_before n j b [] h at less = absurd (let f : ⊥ = omega (arith, less, at) in f)
+first_before n j b (g ∷ c) h at less = (refl, refl)
 
 pub otherwise_more : (w : Which) (i j : ℕ) (c : List ExtHeader) (h : ExtHeader) → j ≡ i + length c → selects_otherwise w i (c ++ h ∷ []) ≡ (selects_otherwise w i c || is_otherwise w j h)
 otherwise_more w i j [] h at = let e : j ≡ i = omega arith in or-false (is_otherwise w i h) ∙ ap (λ k. is_otherwise w k h) (sym e)
@@ -47,8 +49,8 @@ not_none : (b : Bool) → not b ≡ false → b ≡ true
 not_none true e = refl
 not_none false e = absurd (false≢true (sym e))
 
-pub first_alone : (w : Which) (c : List ExtHeader) (len : ℕ) → selects_otherwise w 0 c ≡ false → len ≡ first_len 0 c → (len == 0) ≡ false → SelectsFirst w c len
-first_alone w [] len is size some = absurd (false≢true (sym some ∙ ap (λ k. k == 0) size))
+pub first_alone : (w : Which) (c : List ExtHeader) (len : ℕ) → selects_otherwise w 0 c ≡ false → len ≡ first_len 0 c → 0 < len → SelectsFirst w c len
+first_alone w [] len is size some = absurd (let f : ⊥ = omega (arith, size, some) in f)
 first_alone w (h ∷ c) len is size some =
     let parts = or_none (not (selects w 0 h)) (selects_otherwise w (0 + 1) c) is in
     let selected : selects w 0 h ≡ true = not_none (selects w 0 h) parts.0 in
@@ -91,12 +93,12 @@ no_fragmented w i (h ∷ c) e =
     ap (λ b. selects_fragmented w (i + 1) b c) (none_restricts h parts.0).0 ∙ no_fragmented w (i + 1) c parts.1
 
 -- What is known of a packet whose first header can be left out.
-record IsFree (p : DissectedParts) : Type 0 where
-  no_error : has_error p.end ≡ false
-  whole : (p.missing == 0) ≡ true
-  not_later : is_later_end p.end ≡ false
-  ipv6 : (p.version == 4) ≡ false
-  stated : is_unstated p ≡ false
+pub record IsFree (p : DissectedParts) : Type 0 where
+  pub no_error : has_error p.end ≡ false
+  pub whole : (p.missing == 0) ≡ true
+  pub not_later : is_later_end p.end ≡ false
+  pub ipv6 : (p.version == 4) ≡ false
+  pub stated : is_unstated p ≡ false
 
 pub free : (p : DissectedParts) → is_unrestricted p ≡ true → IsFree p
 free p e = record { no_error = grind (arith, common_steps); whole = grind (arith, common_steps); not_later = grind (arith, common_steps); ipv6 = grind (arith, common_steps); stated = grind (arith, common_steps) }
@@ -118,15 +120,19 @@ free_room p c q room free short fits = rw (free.stated, free.ipv6) (grind (arith
 pub free_field : (p : DissectedParts) (c : List ExtHeader) (q : List ℕ) → is_unrestricted p ≡ true → rewritten_field p c q ≡ length (bytes_of c) + length q
 free_field p c q e = let f = free p e in rw (f.stated, f.ipv6) refl
 
-pub free_fault : (w : Which) (a : Authentication) (p : DissectedParts) (len room : ℕ) → SelectsFirst w p.headers len → list_any restricts p.headers ≡ false → is_unrestricted p ≡ true
-    → length (bytes_of (kept w p.headers)) + length p.payload ≤ 65535 → len_without w p ≤ room → without_fault w a p room ≡ None
-free_fault w a p len room f r e short fits =
-    let is : IsFree p = free p e in
-    rw (free_packet p e, free_selection w a p len f r is, unstated_no_jumbogram p is.stated, free_room p (kept w p.headers) p.payload room is short fits) (no_end (selects_first w p.headers))
+no_jumbo : (b : Bool) (p : DissectedParts) → jumbo_offset p ≡ None → jumbo_fault b p ≡ None
+no_jumbo b p e = ap (λ (o : Option ℕ). let x : Option RewriteError = if b && is_some o then Some NotAJumbogram else None in x) e ∙ no_end b
   where
     no_end : (b : Bool) → (let x : Option RewriteError = if b && false then Some NotAJumbogram else None in x) ≡ None
     no_end true = refl
     no_end false = refl
+
+pub free_fault : (w : Which) (a : Authentication) (p : DissectedParts) (len room : ℕ) → SelectsFirst w p.headers len → list_any restricts p.headers ≡ false → is_unrestricted p ≡ true
+    → length (bytes_of (kept w p.headers)) + length p.payload ≤ 65535 → len_without w p ≤ room → without_fault w a p room ≡ None
+free_fault w a p len room f r e short fits =
+    let is : IsFree p = free p e in
+    all_none (packet_fault p) (selection_fault w a p) (jumbo_fault (selects_first w p.headers) p) (room_fault p (kept w p.headers) p.payload room) (free_packet p e) (free_selection w a p len f r is) (no_jumbo (selects_first w p.headers) p (unstated_no_jumbogram p is.stated))
+    ∙ free_room p (kept w p.headers) p.payload room is short fits
 
 pub free_checksums : (w : Which) (p : DissectedParts) (len : ℕ) → SelectsFirst w p.headers len → keeps_checksums w p ≡ not (first_segments false p.headers)
 free_checksums w p len f =

@@ -175,4 +175,4 @@ restricts h = (h.number == FRAGMENT) || is_authentication h
 
 -- an IPv6 packet that is whole and states its length, and is no later fragment
 abbrev pub is_unrestricted : DissectedParts → Bool
-is_unrestricted p = (not (has_error p.end) && (p.missing == 0)) && (not (is_later_end p.end) && (p.version == 6)) && not (is_unstated p)
+is_unrestricted p = (p.version == 6) && ((not (has_error p.end) && (p.missing == 0)) && not (is_later_end p.end)) && not (is_unstated p)

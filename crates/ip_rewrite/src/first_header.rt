@@ -108,9 +108,11 @@ fn is_unrestricted(summary: &Summary) -> bool
     requires { summary.now.extensions_len + summary.now.payload_len < 2 ^ 64 }
     ensures { (p : DissectedParts) → summary.now ≡ summary_of p → result ≡ is_unrestricted p }
 {
+    if summary.version != 6 {
+        return false;
+    }
     let is_whole = !summary.has_error & (summary.missing == 0);
-    let is_first = !summary.is_later_fragment & (summary.version == 6);
-    is_whole & is_first & !is_unstated(summary)
+    is_whole & !summary.is_later_fragment & !is_unstated(summary)
 }
 
 /// Returns the number of what follows a header.
@@ -160,13 +162,7 @@ fn put_base(out: &mut [u8], base: &[u8])
 
 /// Writes the packet without its first header, which has `len` bytes; `field` is the number for the length field.
 #[inline(always)]
-fn write_after_first(
-    packet: &Packet<'_>,
-    which: Which,
-    len: usize,
-    field: u16,
-    out: &mut [u8],
-)
+fn write_after_first(packet: &Packet<'_>, which: Which, len: usize, field: u16, out: &mut [u8])
     requires small { length out.old < 2 ^ 64 }
     requires whole { packet_fault (dissected packet.now.bytes.now) ≡ None }
     requires base { (if (dissected packet.now.bytes.now).version == 4 then 20 else 40)
@@ -206,7 +202,10 @@ pub(crate) fn write_without_first(packet: &[u8], which: Which, out: &mut [u8]) -
     }
     let (packet, first) = first_of(packet, which);
     let summary = &packet.summary;
-    if first.selects_otherwise | first.restricts | (first.len == 0) | !is_unrestricted(summary) {
+    if !is_unrestricted(summary) {
+        return None;
+    }
+    if first.selects_otherwise | first.restricts | (first.len == 0) {
         return None;
     }
     let field = summary.extensions_len - first.len + summary.payload_len;

@@ -11,10 +11,10 @@ ghost use Rattle.ip_rewrite.specs.Selection.{kept};
 ghost use Rattle.ip_rewrite.specs.Without.{without, len_without};
 ghost use Rattle.ip_rewrite.specs.Writing.{AreWritten, HasOption, front_with, link_of};
 
-use crate::base::state;
-use crate::jumbogram::{state_jumbo, test_unstated};
 use crate::RewriteError;
+use crate::base::state;
 use crate::buffer::{put_at, set};
+use crate::jumbogram::{state_jumbo, test_unstated};
 use ip_base::IpNumber;
 use ip_dissect::{Packet, Summary};
 

@@ -1,9 +1,8 @@
 -- A packet with cleared reserved bits.
-use Rattle.ip_spec.proofs.Common.{◌≡◌, ℕ, ◌≤◌, List, [], ◌∷◌, ◌++◌, length, drop, inl, inr, refl, sym, ◌∙◌, ap, arith, and_assoc, Bool, cases_Bool, eqb-true, or-false, or_assoc, ◌&&◌, ◌||◌, ◌==◌, list_any, slice_set, slice_index, length-append, length-set, get_or-set_other, get_or-set_same, get_or_append_left, append_assoc, append-nil, AllByRecursion, bit_and, Option, None, Some, IsHeader, cleared_header, cleared_chain, unreserved_bits, ExtHeader, bytes_of}
+use Rattle.ip_spec.proofs.Common.{◌≡◌, ℕ, ◌≤◌, List, [], ◌∷◌, ◌++◌, length, drop, inl, inr, refl, sym, ◌∙◌, ap, arith, and_assoc, Bool, cases_Bool, eqb-true, or-false, or_assoc, ◌&&◌, ◌||◌, ◌==◌, list_any, slice_set, slice_index, length-append, length-set, get_or-set_other, get_or-set_same, get_or_append_left, AllByRecursion, bit_and, Option, None, Some, IsHeader, cleared_header, cleared_chain, unreserved_bits, ExtHeader, bytes_of}
 use Rattle.std.proofs.lemmas.List.{set-append_left}
 use Rattle.ip_spec.proofs.ClearedLemmas.{cleared_same}
 use Rattle.ip_spec.proofs.HeaderLemmas.{header-least}
-use Rattle.ip_spec.proofs.StepLemmas.{bytes_of-more}
 use Rattle.ip_dissect.specs.LaterDemand.{is_later, has_later, NothingAfterLater}
 use Rattle.ip_dissect.specs.Fragment.{fragments}
 use Rattle.ip_dissect.specs.Dissection.{DissectedParts, dissected}

@@ -2,20 +2,13 @@
 use Rattle.ip_spec.proofs.Common.{◌≡◌, ℕ, ◌⊎◌, List, [], ◌∷◌, inl, inr, subst, refl, sym, ◌∙◌, arith, common_steps, Bool, true, false, false≢true, cases_Bool, ◌||◌, list_any, AllByRecursion, None, IsHeader, ExtHeader}
 use Rattle.ip_dissect.specs.LaterDemand.{is_later, has_later}
 use Rattle.ip_dissect.specs.Fragment.{fragments}
-use Rattle.ip_dissect.specs.Dissection.{DissectedParts, dissected}
-use Rattle.ip_dissect.specs.Summary.{IsBaseOf, is_later_end}
-use Rattle.ip_dissect.specs.declared.dissection.BaseHeader.{BaseHeader}
-use Rattle.std.specs.Prelude.{Option}
+use Rattle.ip_dissect.specs.Dissection.{DissectedParts}
 use Rattle.ip_dissect.proofs.LaterLemmas.{met}
-use Rattle.ip_rewrite.specs.Rewritten.{rewritten, rewritten_parts}
-use Rattle.ip_rewrite.specs.Without.{packet_fault}
-use Rattle.ip_rewrite.specs.Order.{in_order, is_in_order, order_fault, ordering_fault}
+use Rattle.ip_rewrite.specs.Order.{in_order, is_in_order, order_fault}
 use Rattle.ip_rewrite.specs.declared.which.Authentication.{Authentication}
 use Rattle.ip_rewrite.proofs.ChainLemmas.{not_later}
-use Rattle.ip_rewrite.specs.Jumbogram.{jumbo_offset}
-use Rattle.ip_rewrite.proofs.JumbogramLemmas.{has_option}
-use Rattle.ip_rewrite.proofs.DissectLemmas.{none_first, whole_chain, CanFollow, as_is, changed}
-use Rattle.ip_rewrite.proofs.OrderLemmas.{all_ordered, ordered_count, has_ordered, zero_first}
+use Rattle.ip_rewrite.proofs.DissectLemmas.{CanFollow}
+use Rattle.ip_rewrite.proofs.OrderLemmas.{all_ordered, ordered_count, zero_first}
 use Rattle.ip_rewrite.proofs.OrderLawLemmas.{in_order_same}
 
 -- no header is that of a later fragment

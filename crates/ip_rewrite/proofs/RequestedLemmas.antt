@@ -1,18 +1,17 @@
 -- A packet of which several things are changed dissects as the old one with these changes.
-use Rattle.ip_spec.proofs.Common.{◌≡◌, ℕ, ◌+◌, List, [], ◌∷◌, inl, inr, subst, refl, sym, ◌∙◌, ap, Bool, true, false, false≢true, cases_Bool, cond-true, cond-false, ◌||◌, ◌&&◌, list_any, nat_le, Option, None, AllByRecursion, cleared_chain, ExtHeader}
+use Rattle.ip_spec.proofs.Common.{◌≡◌, ℕ, List, [], ◌∷◌, inl, inr, subst, refl, sym, ◌∙◌, ap, Bool, true, false, cases_Bool, cond-true, ◌&&◌, nat_le, Option, None, AllByRecursion, cleared_chain, ExtHeader}
 use Rattle.ip_dissect.specs.LaterDemand.{is_later}
 use Rattle.ip_dissect.specs.Dissection.{DissectedParts, dissected}
 use Rattle.ip_dissect.specs.Summary.{IsBaseOf, is_later_end}
 use Rattle.ip_dissect.specs.declared.dissection.BaseHeader.{BaseHeader}
 use Rattle.ip_rewrite.specs.Jumbogram.{jumbo_offset}
 use Rattle.ip_rewrite.specs.Rewritten.{jumbo_fault}
-use Rattle.ip_rewrite.specs.Selection.{selects, selects_first, kept_from, kept, any_selected}
+use Rattle.ip_rewrite.specs.Selection.{selects_first, kept, any_selected}
 use Rattle.ip_rewrite.specs.Without.{packet_fault, selection_fault}
-use Rattle.ip_rewrite.specs.Order.{is_routing, rank, rank_of, rises_from, is_in_order}
+use Rattle.ip_rewrite.specs.Order.{rank, rank_of, rises_from}
 use Rattle.ip_rewrite.specs.Request.{cleared_if, ordered_if, changed_headers, leaving_fault, clearing_step_fault, ordering_step_fault, with_kept, change_fault, requested, requested_parts}
 use Rattle.ip_rewrite.specs.Writing.{HasOption}
 use Rattle.ip_rewrite.specs.declared.request.Request.{Request}
-use Rattle.ip_rewrite.specs.declared.which.Which.{Which}
 use Rattle.ip_rewrite.proofs.ChainLemmas.{AreHeaders}
 use Rattle.ip_rewrite.proofs.JumbogramLemmas.{has_option}
 use Rattle.ip_rewrite.proofs.DissectLemmas.{none_first, IsWholeChain, whole_chain, CanFollow, as_is, follow_kept, has_kept, changed}

@@ -1,5 +1,5 @@
 -- Results of tests that are made one after the other.
-use Rattle.ip_spec.proofs.Common.{◌≡◌, refl, sym, Option, None, Some, option_or, Result, Ok, Err}
+use Rattle.ip_spec.proofs.Common.{◌≡◌, refl, Option, None, option_or, Result, Ok, Err}
 use Rattle.std.specs.Prelude.{OnOk, IfOk}
 
 pub weaker : {X E : Type 0} (P Q : X → Type 0) (r : Result X E) → ((x : X) → P x → Q x) → IfOk r P → IfOk r Q

@@ -1,8 +1,8 @@
 -- Requests for a single change.
-use Rattle.ip_spec.proofs.Common.{◌≡◌, ℕ, ◌+◌, List, [], ◌∷◌, refl, sym, ◌∙◌, ap, Bool, true, false, ◌||◌, ◌&&◌, not, cond-true, cond-false, if◌then◌else◌, and-false, Option, None, Some, option_or, cleared_chain, ExtHeader}
+use Rattle.ip_spec.proofs.Common.{◌≡◌, ℕ, ◌+◌, List, [], ◌∷◌, refl, ◌∙◌, ap, Bool, true, false, ◌||◌, ◌&&◌, not, cond-true, cond-false, and-false, Option, None, Some, option_or, cleared_chain, ExtHeader}
 use Rattle.ip_dissect.specs.Dissection.{DissectedParts}
 use Rattle.ip_rewrite.specs.Rewritten.{jumbo_fault, room_fault}
-use Rattle.ip_rewrite.specs.Selection.{has_number, selects, selects_first, kept_from, kept, any_selected}
+use Rattle.ip_rewrite.specs.Selection.{selects, selects_first, kept, any_selected}
 use Rattle.ip_rewrite.specs.Without.{packet_fault, selection_fault, without_fault, has_segments, keeps_checksums}
 use Rattle.ip_rewrite.specs.Clearing.{reserved_fault, clearing_fault}
 use Rattle.ip_rewrite.specs.Order.{in_order, order_fault, ordering_fault}

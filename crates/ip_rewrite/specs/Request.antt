@@ -1,6 +1,6 @@
 -- Any number of changes of a packet's extension headers at once: some are left out, then the reserved bits of the others are
 -- cleared, then these are put in order.
-use Rattle.std.specs.Prelude.{ℕ, Bool, true, false, ◌&&◌, ◌||◌, not, List, Option, Some, None, if◌then◌else◌}
+use Rattle.std.specs.Prelude.{ℕ, Bool, true, false, ◌&&◌, ◌||◌, not, List, Option, None, if◌then◌else◌}
 use Rattle.std.specs.List.{list_any}
 use Rattle.std.specs.Option.{option_or}
 use Rattle.ip_spec.specs.Encoding.{cleared_chain}

@@ -1,4 +1,4 @@
-use Rattle.ip_spec.proofs.Common.{rules, ◌≡◌, ℕ, ◌+◌, ◌-◌, ◌≤◌, ◌<◌, ◌||◌, ◌++◌, List, Bool, true, false, length, take, drop, subst, sym, ◌∙◌, ap, arith, common_steps, not, nat_lt, nat_eq, None, list_any, length-append, ExtHeader, bytes_of}
+use Rattle.ip_spec.proofs.Common.{rules, ◌≡◌, ℕ, ◌+◌, ◌-◌, ◌≤◌, ◌<◌, ◌||◌, ◌++◌, List, Bool, true, false, length, drop, subst, sym, ◌∙◌, ap, arith, common_steps, not, nat_lt, nat_eq, None, list_any, length-append, ExtHeader, bytes_of}
 use Rattle.ip_dissect.specs.Dissection.{DissectedParts, dissected}
 use Rattle.ip_dissect.specs.Summary.{summary_of}
 use Rattle.ip_dissect.specs.declared.summary.Summary.{Summary}
@@ -45,12 +45,19 @@ gather s t w n o b same is len other restrict unrestricted passed alone none som
 size_is : (s : List ℕ) (w : Which) (n : First) (o : Summary) → IsAlone s w n o → o ≡ summary_of (dissected s) → o.base_len + (o.extensions_len - n.len + o.payload_len) ≡ len_without w (dissected s)
 size_is s w n o alone is = omega (arith, ap (λ (x : Summary). x.base_len) is, ap (λ (x : Summary). x.payload_len) is, alone.size)
 
+fits : (s : List ℕ) (w : Which) (n : First) (o : Summary) (room : ℕ) → IsAlone s w n o → o ≡ summary_of (dissected s)
+    → (nat_lt 65535 (o.extensions_len - n.len + o.payload_len) || nat_lt room (o.base_len + (o.extensions_len - n.len + o.payload_len))) ≡ false → len_without w (dissected s) ≤ room
+fits s w n o room alone is e =
+    let size : ℕ = o.base_len + (o.extensions_len - n.len + o.payload_len) in
+    let most : size ≤ room = at_most room size (or_none (nat_lt 65535 (o.extensions_len - n.len + o.payload_len)) (nat_lt room size) e).1 in
+    omega (arith, most, size_is s w n o alone is)
+
 accepted : (s : List ℕ) (w : Which) (n : First) (o : Summary) (room : ℕ) → IsAlone s w n o → o ≡ summary_of (dissected s)
     → (nat_lt 65535 (o.extensions_len - n.len + o.payload_len) || nat_lt room (o.base_len + (o.extensions_len - n.len + o.payload_len))) ≡ false → (a : Authentication) → without_fault w a (dissected s) room ≡ None
 accepted s w n o room alone is e a =
     let parts = or_none (nat_lt 65535 (o.extensions_len - n.len + o.payload_len)) (nat_lt room (o.base_len + (o.extensions_len - n.len + o.payload_len))) e in
     let payload : o.payload_len ≡ length (dissected s).payload = ap (λ (x : Summary). x.payload_len) is in
-    free_fault w a (dissected s) n.len room alone.first alone.unrestricted alone.free (omega (arith, at_most _ _ parts.0, alone.size, payload)) (omega (arith, at_most _ _ parts.1, size_is s w n o alone is))
+    free_fault w a (dissected s) n.len room alone.first alone.unrestricted alone.free (omega (arith, at_most _ _ parts.0, alone.size, payload)) (fits s w n o room alone is e)
 
 pub is_unrestricted-requires : goal.is_unrestricted-requires
 is_unrestricted-requires c = let fits = summary_fits c.first_of.result.0.bytes.now _ _ c.first_of.result.0.base_is c.first_of.result.0.summary_is in search (rules, fits)
@@ -108,9 +115,7 @@ write_after_first-requires-clause-fits c =
     gather s c.args.packet.now w n packet.summary c.is_unrestricted.result c.first_of.ensures.bytes packet.summary_is c.first_of.ensures.len c.first_of.ensures.otherwise c.first_of.ensures.restricts c.is_unrestricted.ensures c.if-not-is_unrestricted.false
     (grind (arith, common_steps, c.if-first.false)) (grind (arith, common_steps, c.if-first.false)) (grind (arith, common_steps, c.if-first.false)) in
     let room : ℕ = length c.args.out.now in
-    let none = accepted s w n packet.summary room alone packet.summary_is c.if-field-len.false in
-    let size = size_is s w n packet.summary alone packet.summary_is in
-    omega (arith, size, at_most _ _ (or_none _ _ c.if-field-len.false).1)
+    fits s w n packet.summary room alone packet.summary_is c.if-field-len.false
 
 pub returns-clause-fault : goal.returns-clause-fault
 returns-clause-fault c =

@@ -1,4 +1,4 @@
-use Rattle.ip_spec.proofs.Common.{◌≡◌, ℕ, ◌++◌, List, length, drop, take, ◌∙◌, ap, true}
+use Rattle.ip_spec.proofs.Common.{◌≡◌, ℕ, ◌++◌, length, drop, take, ◌∙◌, ap, true}
 use Rattle.ip_dissect.specs.Dissection.{DissectedParts, dissected}
 use Rattle.ip_rewrite.specs.Rewritten.{rewritten, rewritten_len, rewritten_parts}
 use Rattle.ip_rewrite.specs.Without.{keeps_checksums}

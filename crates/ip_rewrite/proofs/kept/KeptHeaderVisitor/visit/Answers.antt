@@ -1,4 +1,4 @@
-use Rattle.ip_spec.proofs.Common.{◌≡◌, ◌+◌, ◌<◌, ◌^◌, [], ◌∷◌, ◌++◌, true, false, length, refl, subst, sym, ◌∙◌, ap, arith, length-append, List, ExtHeader, bytes_of}
+use Rattle.ip_spec.proofs.Common.{◌≡◌, ◌+◌, [], ◌∷◌, ◌++◌, true, false, length, refl, subst, sym, ◌∙◌, ap, arith, length-append, List, ExtHeader, bytes_of}
 use Rattle.ip_rewrite.specs.Selection.{selects, kept}
 use Rattle.ip_rewrite.specs.declared.which.Which.{Which}
 use Rattle.ip_rewrite.proofs.FrontLemmas.{more_len}

@@ -1,4 +1,4 @@
-use Rattle.ip_spec.proofs.Common.{◌≡◌, ◌+◌, ◌≤◌, ◌<◌, ◌^◌, ℕ, List, true, false, [], ◌∷◌, ◌++◌, length, refl, subst, sym, ◌∙◌, ap, arith, length-append, ExtHeader, bytes_of}
+use Rattle.ip_spec.proofs.Common.{◌≡◌, ◌+◌, ◌≤◌, List, true, false, [], ◌∷◌, ◌++◌, length, refl, subst, sym, ◌∙◌, ap, arith, length-append, ExtHeader, bytes_of}
 use Rattle.ip_rewrite.specs.Planning.{chosen}
 use Rattle.ip_rewrite.specs.Selection.{selects, kept}
 use Rattle.ip_rewrite.specs.Writing.{AreWritten}

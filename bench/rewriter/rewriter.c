@@ -82,10 +82,18 @@ static void without_first(const struct packet *packet)
     total += rewritten.len;
 }
 
+/* Leaves out the headers with the number of the first, which few packets have twice. */
+static void without_number(const struct packet *packet)
+{
+    struct wolfaren_rewritten rewritten;
+    if (!wolfaren_remove_headers(packet->bytes, packet->len, packet->bytes[6], false, out, sizeof out, &rewritten)) exit(2);
+    total += rewritten.len;
+}
+
 static const struct job {
     const char *name;
     void (*run)(const struct packet *packet);
-} jobs[] = {{"copy", copy}, {"without", without_first}};
+} jobs[] = {{"copy", copy}, {"without", without_first}, {"by-number", without_number}};
 
 enum { JOBS = sizeof jobs / sizeof *jobs };
 

@@ -1,9 +1,8 @@
 -- A packet with cleared reserved bits.
-use Rattle.ip_spec.proofs.Common.{◌≡◌, ℕ, ◌≤◌, List, [], ◌∷◌, ◌++◌, length, drop, inl, inr, refl, sym, ◌∙◌, ap, arith, and_assoc, Bool, cases_Bool, eqb-true, or-false, or_assoc, ◌&&◌, ◌||◌, ◌==◌, list_any, slice_set, slice_index, length-append, length-set, get_or-set_other, get_or-set_same, get_or_append_left, append_assoc, append-nil, AllByRecursion, bit_and, Option, None, Some, IsHeader, cleared_header, cleared_chain, unreserved_bits, ExtHeader, bytes_of}
+use Rattle.ip_spec.proofs.Common.{◌≡◌, ℕ, ◌≤◌, List, [], ◌∷◌, ◌++◌, length, drop, inl, inr, refl, sym, ◌∙◌, ap, arith, and_assoc, Bool, cases_Bool, eqb-true, or-false, or_assoc, ◌&&◌, ◌||◌, ◌==◌, list_any, slice_set, slice_index, length-append, length-set, get_or-set_other, get_or-set_same, get_or_append_left, AllByRecursion, bit_and, Option, None, Some, IsHeader, cleared_header, cleared_chain, unreserved_bits, ExtHeader, bytes_of}
 use Rattle.std.proofs.lemmas.List.{set-append_left}
 use Rattle.ip_spec.proofs.ClearedLemmas.{cleared_same}
 use Rattle.ip_spec.proofs.HeaderLemmas.{header-least}
-use Rattle.ip_spec.proofs.StepLemmas.{bytes_of-more}
 use Rattle.ip_dissect.specs.LaterDemand.{is_later, has_later, NothingAfterLater}
 use Rattle.ip_dissect.specs.Fragment.{fragments}
 use Rattle.ip_dissect.specs.Dissection.{DissectedParts, dissected}
@@ -37,10 +36,6 @@ covered_more after (g ∷ c) h =
     ap (λ x. mine || x) (covered_more (after || is_authentication g) c h)
     ∙ (sym (or_assoc mine later ((((after || is_authentication g) || list_any is_authentication c) || is_authentication h) && has_reserved h))
     ∙ ap (λ b. (mine || later) || (b || is_authentication h) && has_reserved h) (or_assoc after (is_authentication g) (list_any is_authentication c)))
-
-pub cleared_more : (c : List ExtHeader) (h : ExtHeader) → bytes_of (cleared_chain (c ++ h ∷ [])) ≡ bytes_of (cleared_chain c) ++ cleared_header h.number h.bytes
-cleared_more [] h = append-nil (cleared_header h.number h.bytes)
-cleared_more (g ∷ c) h = ap (λ x. cleared_header g.number g.bytes ++ x) (cleared_more c h) ∙ sym (append_assoc (cleared_header g.number g.bytes) (bytes_of (cleared_chain c)) (cleared_header h.number h.bytes))
 
 -- the header at the start of bytes
 pub cleared_start : (n : ℕ) (b r : List ℕ) → 4 ≤ length b → cleared_header n (b ++ r) ≡ cleared_header n b ++ r
@@ -77,13 +72,6 @@ link_cleared l k b d (h ∷ c) size same = omega (arith, size, link_cleared 0 0 
 
 pub cleared_link : (l : ℕ) (b : List ℕ) (c : List ExtHeader) → link_of l b (cleared_chain c) ≡ link_of l b c
 cleared_link l b c = link_cleared l l b b c refl refl
-
--- one more header of a copy is cleared
-pub copy_more : (f r : List ℕ) (c : List ExtHeader) (h : ExtHeader) → f ++ bytes_of (c ++ h ∷ []) ++ r ≡ f ++ bytes_of c ++ (h.bytes ++ r)
-copy_more f r c h = ap (λ x. f ++ x ++ r) (bytes_of-more c h) ∙ (append_assoc f (bytes_of c ++ h.bytes) r ∙ (ap (λ x. f ++ x) (append_assoc (bytes_of c) h.bytes r) ∙ sym (append_assoc f (bytes_of c) (h.bytes ++ r))))
-
-pub copy_cleared : (f r : List ℕ) (c : List ExtHeader) (h : ExtHeader) → f ++ bytes_of (cleared_chain c) ++ cleared_header h.number h.bytes ++ r ≡ f ++ bytes_of (cleared_chain (c ++ h ∷ [])) ++ r
-copy_cleared f r c h = ap (λ x. x ++ r) (append_assoc f (bytes_of (cleared_chain c)) (cleared_header h.number h.bytes) ∙ ap (λ x. f ++ x) (sym (cleared_more c h)))
 
 high_bits : (x : ℕ) → bit_and (unreserved_bits x) 0xf8 ≡ bit_and x 0xf8
 high_bits x = and_assoc 0xf8 x 0xf9

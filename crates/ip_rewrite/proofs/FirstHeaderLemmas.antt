@@ -1,52 +1,146 @@
 -- The first header of a packet is left out, and no other.
-use Rattle.ip_spec.proofs.Common.{◌≡◌, ℕ, ◌+◌, ◌-◌, ◌≤◌, ◌<◌, List, [], ◌∷◌, ◌++◌, length, take, drop, slice_set, inl, inr, subst, refl, sym, ◌∙◌, ap, arith, common_steps, suc, false≢true, true, cases_Bool, cond-true, cond-false, false, Bool, ◌||◌, ◌&&◌, ◌==◌, not, or-false, and-false, ne_eqb, nat_lt, list_any, append_assoc, drop-drop, length-append, length-set, IsHeader, ExtHeader, IsChain, AreLinked, IsEnd, take-append_seam, bytes_of, leads_to}
+use Rattle.ip_spec.proofs.Common.{◌≡◌, ℕ, ◌+◌, ◌-◌, ◌≤◌, ◌<◌, List, [], ◌∷◌, ◌++◌, length, take, drop, slice_set, refl, sym, ◌∙◌, subst, ap, arith, common_steps, false≢true, true, cond-true, cond-false, false, Bool, ◌||◌, ◌&&◌, ◌==◌, not, if◌then◌else◌, or-false, and-true, or_assoc, ne_eqb, list_any, append_assoc, drop-drop, length-append, length-set, Option, None, Some, ExtHeader, AreLinked, bytes_of, leads_to}
 use Rattle.std.proofs.Math.Seq.{take-add}
-use Rattle.std.proofs.lemmas.List.{take-append-drop, length-take-le, drop-take, set-append_left}
-use Rattle.ip_spec.proofs.HeaderLemmas.{header-least, one_header}
-use Rattle.ip_rewrite.specs.Headers.{linked_headers}
-use Rattle.ip_rewrite.specs.Selection.{selects, kept_from, kept, any_selected, selects_fragmented}
+use Rattle.std.proofs.lemmas.List.{drop-take, set-append_left}
 use Rattle.ip_dissect.specs.Fragment.{fragments}
-use Rattle.ip_rewrite.specs.Without.{is_authentication, has_segments, is_covered, selects_covered}
-use Rattle.ip_rewrite.specs.Writing.{front_with, SelectsFirst, surveyed, no_survey}
+use Rattle.ip_dissect.specs.Summary.{is_later_end}
+use Rattle.ip_dissect.specs.End.{has_error}
+use Rattle.ip_dissect.specs.Dissection.{DissectedParts}
+use Rattle.ip_rewrite.specs.Headers.{linked_headers}
+use Rattle.std.specs.Prelude.{is_some}
+use Rattle.ip_rewrite.specs.Jumbogram.{is_unstated, jumbo_offset}
+use Rattle.ip_rewrite.specs.Rewritten.{jumbo_fault, room_fault, rewritten_field}
+use Rattle.ip_rewrite.specs.Selection.{selects, selects_first, kept_from, kept, any_selected, selects_fragmented}
+use Rattle.ip_rewrite.specs.Without.{is_authentication, has_segments, packet_fault, selection_fault, without_fault, len_without, keeps_checksums}
+use Rattle.ip_rewrite.specs.Writing.{front_with, SelectsFirst, first_len, first_segments, is_otherwise, selects_otherwise, restricts, is_unrestricted}
 use Rattle.ip_rewrite.specs.declared.which.Which.{Which}
-use Rattle.ip_rewrite.specs.declared.which.Which.TheVariants.{Index}
-use Rattle.ip_rewrite.specs.declared.survey.Survey.{Survey}
-use Rattle.ip_rewrite.proofs.ChainLemmas.{AreHeaders}
-use Rattle.ip_rewrite.proofs.SurveyLemmas.{kept_less, any_last, same_survey}
+use Rattle.ip_rewrite.specs.declared.which.Authentication.{Authentication}
+use Rattle.ip_rewrite.specs.declared.err.RewriteError.{RewriteError}
+use Rattle.ip_rewrite.specs.declared.err.RewriteError.TheVariants.{NotAJumbogram}
+use Rattle.ip_rewrite.proofs.JumbogramLemmas.{unstated_no_jumbogram}
+use Rattle.ip_rewrite.proofs.ResultLemmas.{all_none}
+use Rattle.ip_rewrite.proofs.SelectionLemmas.{or_none, all_stay, none_passes}
 use Rattle.ip_rewrite.proofs.FrontLemmas.{first_is, linked_same, copied_after}
 
--- headers of which as many bytes are kept as there are
-all_kept : (w : Which) (i : ℕ) (c : List ExtHeader) → AreHeaders c → length (bytes_of (kept_from w i c)) ≡ length (bytes_of c) → kept_from w i c ≡ c
-all_kept w i [] a e = refl
-all_kept w i (h ∷ c) a e = elim (cases_Bool (selects w i h)) [
-  | inl s ↦ absurd (
-      let less : length (bytes_of (kept_from w i (h ∷ c))) ≡ length (bytes_of (kept_from w (i + 1) c)) = ap (λ d. length (bytes_of d)) (cond-true (selects w i h) (kept_from w (i + 1) c) (h ∷ kept_from w (i + 1) c) s) in
-      let h : ⊥ = omega (arith, less, header-least h.number h.bytes a.0, kept_less w (i + 1) c, length-append h.bytes (bytes_of c), e) in h)
-  | inr s ↦
-      let is : kept_from w i (h ∷ c) ≡ h ∷ kept_from w (i + 1) c = cond-false (selects w i h) (kept_from w (i + 1) c) (h ∷ kept_from w (i + 1) c) s in
-      let rest : length (bytes_of (kept_from w (i + 1) c)) ≡ length (bytes_of c) = omega (arith, e, ap (λ d. length (bytes_of d)) is, length-append h.bytes (bytes_of c), length-append h.bytes (bytes_of (kept_from w (i + 1) c))) in
-      is ∙ ap (λ d. h ∷ d) (all_kept w (i + 1) c a.1 rest)
-]
+-- one more header, which is the first one or isn't
+pub first_here : (n j : ℕ) (b : Bool) (c : List ExtHeader) (h : ExtHeader) → j ≡ length c → j ≡ 0 → (first_len n (c ++ h ∷ []) ≡ length h.bytes) × (first_segments b (c ++ h ∷ []) ≡ has_segments h)
+first_here n j b [] h at is = (refl, refl)
+first_here n j b (g ∷ c) h at is = absurd (let f : ⊥ = omega (arith, is, at) in f)
 
--- The first header is selected, and as many bytes are kept as the others have.
-pub selects_first : (w : Which) (n : ℕ) (c : List ExtHeader) (s : List ℕ) (len k : ℕ) → IsChain n c → s ≡ bytes_of c → ((h : ExtHeader) → h.number ≡ n → selects w 0 h ≡ true) → IsHeader n (take len s) → len ≤ length s → length s - len ≡ k → k ≡ length (bytes_of (kept w c)) → SelectsFirst w c len
-selects_first w n [] s len k chain is sel header within minus size =
-    absurd (let none : length s ≡ 0 = ap length is in let h : ⊥ = omega (arith, header-least n (take len s) header, length-take-le len s within, none, within) in h)
-selects_first w n (h ∷ c) s len k chain is sel header within minus size =
-    let number : h.number ≡ n = chain.links.0 in
-    let mine : IsHeader n h.bytes = subst (λ m. IsHeader m h.bytes) number chain.headers.0 in
-    let whole : take len s ++ drop len s ≡ h.bytes ++ bytes_of c = take-append-drop len s ∙ is in
-    let one : take len s ≡ h.bytes = one_header n (take len s) h.bytes (drop len s) (bytes_of c) header mine whole in
-    let at : len ≡ length h.bytes = sym (length-take-le len s within) ∙ ap length one in
-    let rest : kept w (h ∷ c) ≡ kept_from w (0 + 1) c = cond-true (selects w 0 h) (kept_from w (0 + 1) c) (h ∷ kept_from w (0 + 1) c) (sel h number) in
-    let same : length (bytes_of (kept_from w (0 + 1) c)) ≡ length (bytes_of c) = omega (arith, ap (λ d. length (bytes_of d)) rest, size, minus, at, ap length is, length-append h.bytes (bytes_of c)) in
+pub first_before : (n j : ℕ) (b : Bool) (c : List ExtHeader) (h : ExtHeader) → j ≡ length c → 0 < j → (first_len n (c ++ h ∷ []) ≡ first_len n c) × (first_segments b (c ++ h ∷ []) ≡ first_segments b c)
+first_before n j b [] h at less = absurd (let f : ⊥ = omega (arith, less, at) in f)
+first_before n j b (g ∷ c) h at less = (refl, refl)
+
+pub otherwise_more : (w : Which) (i j : ℕ) (c : List ExtHeader) (h : ExtHeader) → j ≡ i + length c → selects_otherwise w i (c ++ h ∷ []) ≡ (selects_otherwise w i c || is_otherwise w j h)
+otherwise_more w i j [] h at = let e : j ≡ i = omega arith in or-false (is_otherwise w i h) ∙ ap (λ k. is_otherwise w k h) (sym e)
+otherwise_more w i j (g ∷ c) h at =
+    let e : j ≡ i + 1 + length c = omega arith in
+    ap (λ x. is_otherwise w i g || x) (otherwise_more w (i + 1) j c h e) ∙ sym (or_assoc (is_otherwise w i g) (selects_otherwise w (i + 1) c) (is_otherwise w j h))
+
+-- After the first header, those that are selected are.
+later_otherwise : (w : Which) (i : ℕ) (c : List ExtHeader) → 0 < i → selects_otherwise w i c ≡ any_selected (λ h. true) w i c
+later_otherwise w i [] less = refl
+later_otherwise w i (h ∷ c) less =
+    let later : (i == 0) ≡ false = ne_eqb i 0 (λ e. omega (arith, e, less)) in
+    ap (λ b. b || selects_otherwise w (i + 1) c) (cond-false (i == 0) (not (selects w i h)) (selects w i h) later ∙ sym (and-true (selects w i h)))
+    ∙ ap (λ b. selects w i h && true || b) (later_otherwise w (i + 1) c (omega (arith, less)))
+
+not_none : (b : Bool) → not b ≡ false → b ≡ true
+not_none true e = refl
+not_none false e = absurd (false≢true (sym e))
+
+pub first_alone : (w : Which) (c : List ExtHeader) (len : ℕ) → selects_otherwise w 0 c ≡ false → len ≡ first_len 0 c → 0 < len → SelectsFirst w c len
+first_alone w [] len is size some = absurd (let f : ⊥ = omega (arith, size, some) in f)
+first_alone w (h ∷ c) len is size some =
+    let parts = or_none (not (selects w 0 h)) (selects_otherwise w (0 + 1) c) is in
+    let selected : selects w 0 h ≡ true = not_none (selects w 0 h) parts.0 in
+    let alone : any_selected (λ h. true) w (0 + 1) c ≡ false = sym (later_otherwise w (0 + 1) c (omega arith)) ∙ parts.1 in
     record {
       first = h;
       others = c;
       all = refl;
-      kept = rest ∙ all_kept w (0 + 1) c chain.headers.1 same;
-      size = at;
+      selected = selected;
+      alone = alone;
+      kept = cond-true (selects w 0 h) (kept_from w (0 + 1) c) (h ∷ kept_from w (0 + 1) c) selected ∙ all_stay w (0 + 1) c alone;
+      size = size;
     }
+
+-- Without fragment and authentication headers there is nothing that a change has to leave alone.
+none_restricts : (h : ExtHeader) → restricts h ≡ false → (fragments h ≡ false) × (is_authentication h ≡ false)
+none_restricts h e = let parts = or_none (h.number == 44) (is_authentication h) e in (rw parts.0 refl, parts.1)
+
+pub no_authentication : (c : List ExtHeader) → list_any restricts c ≡ false → list_any is_authentication c ≡ false
+no_authentication [] e = refl
+no_authentication (h ∷ c) e =
+    let parts = or_none (restricts h) (list_any restricts c) e in
+    ap (λ b. b || list_any is_authentication c) (none_restricts h parts.0).1 ∙ no_authentication c parts.1
+
+no_fragmenting : (w : Which) (i : ℕ) (c : List ExtHeader) → list_any restricts c ≡ false → any_selected fragments w i c ≡ false
+no_fragmenting w i [] e = refl
+no_fragmenting w i (h ∷ c) e =
+    let parts = or_none (restricts h) (list_any restricts c) e in
+    ap (λ b. selects w i h && b || any_selected fragments w (i + 1) c) (none_restricts h parts.0).0
+    ∙ (ap (λ b. b || any_selected fragments w (i + 1) c) (and_false (selects w i h)) ∙ no_fragmenting w (i + 1) c parts.1)
+  where
+    and_false : (b : Bool) → (b && false) ≡ false
+    and_false true = refl
+    and_false false = refl
+
+no_fragmented : (w : Which) (i : ℕ) (c : List ExtHeader) → list_any restricts c ≡ false → selects_fragmented w i false c ≡ false
+no_fragmented w i [] e = refl
+no_fragmented w i (h ∷ c) e =
+    let parts = or_none (restricts h) (list_any restricts c) e in
+    ap (λ b. selects_fragmented w (i + 1) b c) (none_restricts h parts.0).0 ∙ no_fragmented w (i + 1) c parts.1
+
+-- What is known of a packet whose first header can be left out.
+pub record IsFree (p : DissectedParts) : Type 0 where
+  pub no_error : has_error p.end ≡ false
+  pub whole : (p.missing == 0) ≡ true
+  pub not_later : is_later_end p.end ≡ false
+  pub ipv6 : (p.version == 4) ≡ false
+  pub stated : is_unstated p ≡ false
+
+pub free : (p : DissectedParts) → is_unrestricted p ≡ true → IsFree p
+free p e = record { no_error = grind (arith, common_steps); whole = grind (arith, common_steps); not_later = grind (arith, common_steps); ipv6 = grind (arith, common_steps); stated = grind (arith, common_steps) }
+
+pub free_packet : (p : DissectedParts) → is_unrestricted p ≡ true → packet_fault p ≡ None
+free_packet p e = let f = free p e in rw (f.no_error, f.whole, f.ipv6) refl
+
+free_selection : (w : Which) (a : Authentication) (p : DissectedParts) (len : ℕ) → SelectsFirst w p.headers len → list_any restricts p.headers ≡ false → IsFree p → selection_fault w a p ≡ None
+free_selection w a p len f r free =
+    let some : any_selected (λ h. true) w 0 p.headers ≡ true = ap (any_selected (λ h. true) w 0) f.all ∙ ap (λ b. b && true || any_selected (λ h. true) w (0 + 1) f.others) f.selected in
+    let others : list_any is_authentication f.others ≡ false =
+    (or_none (is_authentication f.first) (list_any is_authentication f.others) (sym (ap (list_any is_authentication) f.all) ∙ no_authentication p.headers r)).1 in
+    let kept_none : list_any is_authentication (kept w p.headers) ≡ false = ap (list_any is_authentication) f.kept ∙ others in
+    rw (some, no_fragmenting w 0 p.headers r, no_fragmented w 0 p.headers r, kept_none, free.not_later, free.ipv6) refl
+
+free_room : (p : DissectedParts) (c : List ExtHeader) (q : List ℕ) (room : ℕ) → IsFree p → length (bytes_of c) + length q ≤ 65535 → length p.base + length (bytes_of c) + length q ≤ room → room_fault p c q room ≡ None
+free_room p c q room free short fits = rw (free.stated, free.ipv6) (grind (arith, common_steps))
+
+pub free_field : (p : DissectedParts) (c : List ExtHeader) (q : List ℕ) → is_unrestricted p ≡ true → rewritten_field p c q ≡ length (bytes_of c) + length q
+free_field p c q e = let f = free p e in rw (f.stated, f.ipv6) refl
+
+no_jumbo : (b : Bool) (p : DissectedParts) → jumbo_offset p ≡ None → jumbo_fault b p ≡ None
+no_jumbo b p e = ap (λ (o : Option ℕ). let x : Option RewriteError = if b && is_some o then Some NotAJumbogram else None in x) e ∙ no_end b
+  where
+    no_end : (b : Bool) → (let x : Option RewriteError = if b && false then Some NotAJumbogram else None in x) ≡ None
+    no_end true = refl
+    no_end false = refl
+
+pub free_fault : (w : Which) (a : Authentication) (p : DissectedParts) (len room : ℕ) → SelectsFirst w p.headers len → list_any restricts p.headers ≡ false → is_unrestricted p ≡ true
+    → length (bytes_of (kept w p.headers)) + length p.payload ≤ 65535 → len_without w p ≤ room → without_fault w a p room ≡ None
+free_fault w a p len room f r e short fits =
+    let is : IsFree p = free p e in
+    all_none (packet_fault p) (selection_fault w a p) (jumbo_fault (selects_first w p.headers) p) (room_fault p (kept w p.headers) p.payload room) (free_packet p e) (free_selection w a p len f r is) (no_jumbo (selects_first w p.headers) p (unstated_no_jumbogram p is.stated))
+    ∙ free_room p (kept w p.headers) p.payload room is short fits
+
+pub free_checksums : (w : Which) (p : DissectedParts) (len : ℕ) → SelectsFirst w p.headers len → keeps_checksums w p ≡ not (first_segments false p.headers)
+free_checksums w p len f =
+    let some : any_selected has_segments w 0 p.headers ≡ has_segments f.first =
+    ap (any_selected has_segments w 0) f.all
+    ∙ (ap (λ b. b && has_segments f.first || any_selected has_segments w (0 + 1) f.others) f.selected
+    ∙ (ap (λ b. has_segments f.first || b) (none_passes has_segments w (0 + 1) f.others f.alone) ∙ or-false (has_segments f.first))) in
+    ap (λ b. not b) (some ∙ sym (ap (first_segments false) f.all))
 
 -- The others and q are written after the base header.
 pub written_after : (l : ℕ) (b buffer : List ℕ) (c : List ExtHeader) (k : ℕ) (q r x y : List ℕ) → l < length b → AreLinked k c → r ≡ bytes_of c ++ q
@@ -79,89 +173,3 @@ rest_of_part s start size more n e q fits first second =
     let rest : drop a (drop n t) ≡ drop (start + size) s = drop-drop a n t ∙ (ap (λ k. drop k t) whole ∙ drop-drop size start s) in
     let back : take more (drop a (drop n t)) ≡ q = ap (take more) rest ∙ (ap (λ k. take k (drop (start + size) s)) (omega arith) ∙ second) in
     ap (λ k. take k (drop (start + n) s)) count ∙ (ap (take (a + more)) from ∙ (take-add a more (drop n t) ∙ (ap (λ x. x ++ take more (drop a (drop n t))) front_with ∙ ap (λ x. drop n e ++ x) back)))
-
-some_before : (n : ℕ) → nat_lt 0 (suc n) ≡ true
-some_before n = grind (arith, common_steps)
-
--- some header after the first
-pub later_more : (t : ExtHeader → Bool) (c : List ExtHeader) (h : ExtHeader) → list_any t (drop 1 (c ++ h ∷ [])) ≡ (list_any t (drop 1 c) || nat_lt 0 (length c) && t h)
-later_more t [] h = refl
-later_more t (g ∷ c) h = any_last t c h ∙ ap (λ b. list_any t c || b && t h) (sym (some_before (length c)))
-
--- Of headers after the first, the index 0 selects none.
-unselected : (i : ℕ) (h : ExtHeader) → 0 < i → selects (Index 0) i h ≡ false
-unselected i h less = ne_eqb i 0 (λ e. omega (arith, e, less))
-
-any_later : (t : ExtHeader → Bool) (i : ℕ) (c : List ExtHeader) → 0 < i → any_selected t (Index 0) i c ≡ false
-any_later t i [] less = refl
-any_later t i (h ∷ c) less = ap (λ b. b && t h || any_selected t (Index 0) (i + 1) c) (unselected i h less) ∙ any_later t (i + 1) c (omega (arith, less))
-
-fragmented_later : (i : ℕ) (after : Bool) (c : List ExtHeader) → 0 < i → selects_fragmented (Index 0) i after c ≡ false
-fragmented_later i after [] less = refl
-fragmented_later i after (h ∷ c) less =
-    ap (λ b. after && b || selects_fragmented (Index 0) (i + 1) (after || fragments h) c) (unselected i h less)
-    ∙ (ap (λ b. b || selects_fragmented (Index 0) (i + 1) (after || fragments h) c) (and-false after) ∙ fragmented_later (i + 1) (after || fragments h) c (omega (arith, less)))
-
-covered_later : (i : ℕ) (after : Bool) (c : List ExtHeader) → 0 < i → selects_covered (Index 0) i after c ≡ false
-covered_later i after [] less = refl
-covered_later i after (h ∷ c) less =
-    ap (λ b. b && is_covered after h || selects_covered (Index 0) (i + 1) (after || is_authentication h) c) (unselected i h less)
-    ∙ covered_later (i + 1) (after || is_authentication h) c (omega (arith, less))
-
-kept_later : (i : ℕ) (c : List ExtHeader) → 0 < i → kept_from (Index 0) i c ≡ c
-kept_later i [] less = refl
-kept_later i (h ∷ c) less =
-    cond-false (selects (Index 0) i h) (kept_from (Index 0) (i + 1) c) (h ∷ kept_from (Index 0) (i + 1) c) (unselected i h less)
-    ∙ ap (λ d. h ∷ d) (kept_later (i + 1) c (omega (arith, less)))
-
--- A survey of the first header h, which the headers c follow.
-pub first_surveyed : (h : ExtHeader) (c : List ExtHeader) (v : Survey) → v.which ≡ Index 0 → v.selects ≡ true → v.selects_fragmenting ≡ fragments h → v.selects_fragmented ≡ false → v.selects_covered ≡ not (h.number == 44) → v.selects_segments ≡ has_segments h
-    → v.is_fragmented ≡ list_any fragments (h ∷ c) → v.has_authentication ≡ list_any is_authentication (h ∷ c) → v.keeps_authentication ≡ list_any is_authentication c → v.kept_len ≡ length (bytes_of c) → v ≡ surveyed (no_survey (Index 0)) (h ∷ c)
-first_surveyed h c v a b d e x f g y j k =
-    let rest : kept (Index 0) (h ∷ c) ≡ c = kept_later (0 + 1) c (omega arith) in
-    same_survey v (surveyed (no_survey (Index 0)) (h ∷ c)) a
-    b
-    (d ∙ (sym (or-false (fragments h)) ∙ ap (λ x. fragments h || x) (sym (any_later fragments (0 + 1) c (omega arith)))))
-    (e ∙ sym (fragmented_later (0 + 1) (fragments h) c (omega arith)))
-    (x ∙ (sym (or-false (not (h.number == 44))) ∙ ap (λ z. not (h.number == 44) || z) (sym (covered_later (0 + 1) (is_authentication h) c (omega arith)))))
-    (f ∙ (sym (or-false (has_segments h)) ∙ ap (λ x. has_segments h || x) (sym (any_later has_segments (0 + 1) c (omega arith)))))
-    g
-    y
-    (j ∙ ap (list_any is_authentication) (sym rest))
-    (omega (arith, k, ap (λ x. length (bytes_of x)) rest))
-
--- A header of the chain's number is its first one, and the first one is such a header.
-pub first_of : (n : ℕ) (c : List ExtHeader) (s : List ℕ) (len : ℕ) → IsChain n c → s ≡ bytes_of c → IsHeader n (take len s) → len ≤ length s
-    → (d : List ExtHeader) × (c ≡ (record { number = n; bytes = take len s }) ∷ d) × (length s - len ≡ length (bytes_of d))
-first_of n [] s len chain is header within =
-    absurd (let none : length s ≡ 0 = ap length is in let h : ⊥ = omega (arith, header-least n (take len s) header, length-take-le len s within, none, within) in h)
-first_of n (h ∷ c) s len chain is header within =
-    let number : h.number ≡ n = chain.links.0 in
-    let mine : IsHeader n h.bytes = subst (λ m. IsHeader m h.bytes) number chain.headers.0 in
-    let one : take len s ≡ h.bytes = one_header n (take len s) h.bytes (drop len s) (bytes_of c) header mine (take-append-drop len s ∙ is) in
-    let same : h ≡ record { number = n; bytes = take len s } = rw (sym number, one) refl in
-    (c, ap (λ g. g ∷ c) same, omega (arith, length-take-le len s within, ap length one, ap length is, length-append h.bytes (bytes_of c)))
-
-pub no_first : (n : ℕ) (c : List ExtHeader) (s : List ℕ) → IsChain n c → s ≡ bytes_of c → IsEnd true n s → c ≡ []
-no_first n [] s chain is end = refl
-no_first n (h ∷ c) s chain is end =
-    let number : h.number ≡ n = chain.links.0 in
-    absurd (end h (record {
-      number = number;
-      header = subst (λ m. IsHeader m h.bytes) number chain.headers.0;
-      prefix = ap (take (length h.bytes)) is ∙ take-append_seam h.bytes (bytes_of c);
-      zero_only_first = λ e. refl;
-    }))
-
--- If a survey of the first header says that it is selected, there is one.
-pub first_selected : (c : List ExtHeader) (v : Survey) (len : ℕ) → v ≡ surveyed (no_survey (Index 0)) c → v.selects ≡ true → len ≡ length (bytes_of c) - v.kept_len → SelectsFirst (Index 0) c len
-first_selected [] v len is sel size = absurd (false≢true (sym (ap (λ (x : Survey). x.selects) is) ∙ sel))
-first_selected (h ∷ c) v len is sel size =
-    let rest : kept (Index 0) (h ∷ c) ≡ c = kept_later (0 + 1) c (omega arith) in
-    record {
-      first = h;
-      others = c;
-      all = refl;
-      kept = rest;
-      size = omega (arith, size, ap (λ (x : Survey). x.kept_len) is, ap (λ d. length (bytes_of d)) rest, length-append h.bytes (bytes_of c));
-    }

@@ -13,7 +13,7 @@ use Rattle.ip_rewrite.specs.Insertion.{inserted, is_header, is_misplaced, header
 use Rattle.ip_rewrite.specs.Writing.{HasOption, inserted_so_far}
 use Rattle.ip_rewrite.specs.declared.which.Authentication.{Authentication}
 use Rattle.ip_rewrite.proofs.ChainLemmas.{NoZero, not_later}
-use Rattle.ip_rewrite.proofs.SurveyLemmas.{any_last}
+use Rattle.ip_rewrite.proofs.SelectionLemmas.{any_last}
 use Rattle.ip_rewrite.proofs.JumbogramLemmas.{has_option}
 use Rattle.ip_rewrite.proofs.DissectLemmas.{none_first, IsWholeChain, whole_chain, changed}
 

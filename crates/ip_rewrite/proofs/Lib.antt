@@ -1,7 +1,7 @@
 pub mod OptionLemmas
 pub mod StatingLemmas
 pub mod FrontLemmas
-pub mod SurveyLemmas
+pub mod SelectionLemmas
 pub mod BaseLemmas
 pub mod ResultLemmas
 pub mod ChainLemmas
@@ -25,3 +25,4 @@ pub mod OrderLawLemmas
 pub mod OrderingLemmas
 pub mod RequestLemmas
 pub mod RequestedLemmas
+pub mod SingleLemmas

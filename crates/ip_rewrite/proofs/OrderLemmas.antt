@@ -8,7 +8,7 @@ use Rattle.std.proofs.lemmas.List.Sorted.{IsPermutation-refl, IsPermutation-sym,
 use Rattle.ip_rewrite.specs.Order.{is_routing, rank_of, rank, of_rank, in_order, rises_from, is_in_order, recommended_index}
 use Rattle.ip_rewrite.specs.Writing.{HasOption, routing_index, rank_at, of_rank_from, below_rank, last_rank, rises_at, first_above}
 use Rattle.ip_rewrite.proofs.ChainLemmas.{NoZero}
-use Rattle.ip_rewrite.proofs.SurveyLemmas.{any_last}
+use Rattle.ip_rewrite.proofs.SelectionLemmas.{any_last}
 
 -- one more header
 any_more : (b : Bool) (c : List ExtHeader) (h : ExtHeader) → is_routing h ≡ b → list_any is_routing (c ++ h ∷ []) ≡ (list_any is_routing c || b)

@@ -2,20 +2,13 @@
 use Rattle.ip_spec.proofs.Common.{◌≡◌, ℕ, ◌⊎◌, List, [], ◌∷◌, inl, inr, subst, refl, sym, ◌∙◌, arith, common_steps, Bool, true, false, false≢true, cases_Bool, ◌||◌, list_any, AllByRecursion, None, IsHeader, ExtHeader}
 use Rattle.ip_dissect.specs.LaterDemand.{is_later, has_later}
 use Rattle.ip_dissect.specs.Fragment.{fragments}
-use Rattle.ip_dissect.specs.Dissection.{DissectedParts, dissected}
-use Rattle.ip_dissect.specs.Summary.{IsBaseOf, is_later_end}
-use Rattle.ip_dissect.specs.declared.dissection.BaseHeader.{BaseHeader}
-use Rattle.std.specs.Prelude.{Option}
+use Rattle.ip_dissect.specs.Dissection.{DissectedParts}
 use Rattle.ip_dissect.proofs.LaterLemmas.{met}
-use Rattle.ip_rewrite.specs.Rewritten.{rewritten, rewritten_parts}
-use Rattle.ip_rewrite.specs.Without.{packet_fault}
-use Rattle.ip_rewrite.specs.Order.{in_order, is_in_order, order_fault, ordering_fault}
+use Rattle.ip_rewrite.specs.Order.{in_order, is_in_order, order_fault}
 use Rattle.ip_rewrite.specs.declared.which.Authentication.{Authentication}
 use Rattle.ip_rewrite.proofs.ChainLemmas.{not_later}
-use Rattle.ip_rewrite.specs.Jumbogram.{jumbo_offset}
-use Rattle.ip_rewrite.proofs.JumbogramLemmas.{has_option}
-use Rattle.ip_rewrite.proofs.DissectLemmas.{none_first, whole_chain, CanFollow, as_is, changed}
-use Rattle.ip_rewrite.proofs.OrderLemmas.{all_ordered, ordered_count, has_ordered, zero_first}
+use Rattle.ip_rewrite.proofs.DissectLemmas.{CanFollow}
+use Rattle.ip_rewrite.proofs.OrderLemmas.{all_ordered, ordered_count, zero_first}
 use Rattle.ip_rewrite.proofs.OrderLawLemmas.{in_order_same}
 
 -- no header is that of a later fragment
@@ -58,11 +51,3 @@ follow_ordered v l c m (inr none) f =
       ipv4 = λ four. record { one = omega (arith, (f.ipv4 four).one, ordered_count c); number = all_ordered (λ g. g.number ≡ 51) c (f.ipv4 four).number };
       last = λ four n. omega (arith, f.last four n, ordered_count c);
     }
-
-pub ordering_dissects : (a : Authentication) (room : ℕ) (s : List ℕ) (o : Option BaseHeader) → IsBaseOf s o → ordering_fault a (dissected s) room ≡ None
-    → dissected (rewritten (dissected s) (in_order (dissected s).headers) (dissected s).number (dissected s).payload) ≡ rewritten_parts (dissected s) (in_order (dissected s).headers) (dissected s).number (dissected s).payload
-ordering_dissects a room s o is e =
-    let p : DissectedParts = dissected s in
-    let first = none_first (packet_fault p) _ e in
-    let rest = none_first (order_fault a p) _ first.1 in
-    changed (in_order p.headers) p.number p.payload room s o is first.0 (follow_ordered p.version (is_later_end p.end) p.headers p.number (can_order a p rest.0) (as_is p (whole_chain s o is first.0))) (has_ordered (jumbo_offset p) p.headers (has_option p)) rest.1

@@ -5,7 +5,7 @@ use Rattle.ip_spec.proofs.StepLemmas.{leads_to-more, all_more}
 use Rattle.ip_rewrite.proofs.ChainLemmas.{AreHeaders}
 use Rattle.ip_rewrite.proofs.FrontLemmas.{front_len, front_more, link_more, more_len}
 use Rattle.std.specs.List.{list_any}
-use Rattle.ip_rewrite.specs.Order.{is_routing, in_order}
+use Rattle.ip_rewrite.specs.Order.{is_routing}
 use Rattle.ip_rewrite.specs.Selection.{selects, kept_from, kept}
 use Rattle.ip_rewrite.specs.Request.{cleared_if, ordered_if, changed_headers}
 use Rattle.ip_rewrite.specs.Planning.{is_chosen, chosen}

@@ -1,18 +1,17 @@
 -- A packet of which several things are changed dissects as the old one with these changes.
-use Rattle.ip_spec.proofs.Common.{◌≡◌, ℕ, ◌+◌, List, [], ◌∷◌, inl, inr, subst, refl, sym, ◌∙◌, ap, Bool, true, false, false≢true, cases_Bool, cond-true, cond-false, ◌||◌, ◌&&◌, list_any, nat_le, Option, None, AllByRecursion, cleared_chain, ExtHeader}
+use Rattle.ip_spec.proofs.Common.{◌≡◌, ℕ, List, [], ◌∷◌, inl, inr, subst, refl, sym, ◌∙◌, ap, Bool, true, false, cases_Bool, cond-true, ◌&&◌, nat_le, Option, None, AllByRecursion, cleared_chain, ExtHeader}
 use Rattle.ip_dissect.specs.LaterDemand.{is_later}
 use Rattle.ip_dissect.specs.Dissection.{DissectedParts, dissected}
 use Rattle.ip_dissect.specs.Summary.{IsBaseOf, is_later_end}
 use Rattle.ip_dissect.specs.declared.dissection.BaseHeader.{BaseHeader}
 use Rattle.ip_rewrite.specs.Jumbogram.{jumbo_offset}
 use Rattle.ip_rewrite.specs.Rewritten.{jumbo_fault}
-use Rattle.ip_rewrite.specs.Selection.{selects, selects_first, kept_from, kept, any_selected}
+use Rattle.ip_rewrite.specs.Selection.{selects_first, kept, any_selected}
 use Rattle.ip_rewrite.specs.Without.{packet_fault, selection_fault}
-use Rattle.ip_rewrite.specs.Order.{is_routing, rank, rank_of, rises_from, is_in_order}
+use Rattle.ip_rewrite.specs.Order.{rank, rank_of, rises_from}
 use Rattle.ip_rewrite.specs.Request.{cleared_if, ordered_if, changed_headers, leaving_fault, clearing_step_fault, ordering_step_fault, with_kept, change_fault, requested, requested_parts}
 use Rattle.ip_rewrite.specs.Writing.{HasOption}
 use Rattle.ip_rewrite.specs.declared.request.Request.{Request}
-use Rattle.ip_rewrite.specs.declared.which.Which.{Which}
 use Rattle.ip_rewrite.proofs.ChainLemmas.{AreHeaders}
 use Rattle.ip_rewrite.proofs.JumbogramLemmas.{has_option}
 use Rattle.ip_rewrite.proofs.DissectLemmas.{none_first, IsWholeChain, whole_chain, CanFollow, as_is, follow_kept, has_kept, changed}
@@ -20,17 +19,7 @@ use Rattle.ip_rewrite.proofs.ClearingLemmas.{later_same, follow_cleared, has_cle
 use Rattle.ip_rewrite.proofs.OrderLemmas.{has_ordered}
 use Rattle.ip_rewrite.proofs.OrderingLemmas.{CanOrder, can_order, follow_ordered}
 use Rattle.ip_rewrite.proofs.RequestLemmas.{cleared_routing}
-
--- no header is left out
-all_stay : (w : Which) (i : ℕ) (c : List ExtHeader) → any_selected (λ h. true) w i c ≡ false → kept_from w i c ≡ c
-all_stay w i [] e = refl
-all_stay w i (h ∷ c) e =
-    let parts = neither (selects w i h) (any_selected (λ h. true) w (i + 1) c) e in
-    cond-false (selects w i h) (kept_from w (i + 1) c) (h ∷ kept_from w (i + 1) c) parts.0 ∙ ap (λ d. h ∷ d) (all_stay w (i + 1) c parts.1)
-  where
-    neither : (s x : Bool) → (s && true || x) ≡ false → (s ≡ false) × (x ≡ false)
-    neither true x e = absurd (false≢true (sym e))
-    neither false x e = (refl, e)
+use Rattle.ip_rewrite.proofs.SelectionLemmas.{all_stay}
 
 -- headers are left out
 follow_left : (r : Request) (p : DissectedParts) → IsWholeChain p → leaving_fault r p ≡ None → CanFollow p.version (is_later_end p.end) (kept r.without p.headers) p.number

@@ -1,5 +1,5 @@
 -- Results of tests that are made one after the other.
-use Rattle.ip_spec.proofs.Common.{◌≡◌, refl, sym, Option, None, Some, option_or, Result, Ok, Err}
+use Rattle.ip_spec.proofs.Common.{◌≡◌, refl, Option, None, option_or, Result, Ok, Err}
 use Rattle.std.specs.Prelude.{OnOk, IfOk}
 
 pub weaker : {X E : Type 0} (P Q : X → Type 0) (r : Result X E) → ((x : X) → P x → Q x) → IfOk r P → IfOk r Q
@@ -10,14 +10,8 @@ pub on_ok : {X E : Type 0} {P : Type 0} (r : Result X E) → P → OnOk r P
 on_ok (Ok x) p = p
 on_ok (Err e) p = tt
 
-pub both_none : {E : Type 0} (a b r : Option E) → a ≡ None → b ≡ None → option_or a (option_or b r) ≡ r
-both_none a b r none also = rw (none, also) refl
-
 pub all_none : {E : Type 0} (a b c r : Option E) → a ≡ None → b ≡ None → c ≡ None → option_or a (option_or b (option_or c r)) ≡ r
 all_none a b c r none also third = rw (none, also, third) refl
-
-pub third_some : {E : Type 0} (a b c r : Option E) (x : E) → a ≡ None → b ≡ None → Some x ≡ c → Some x ≡ option_or a (option_or b (option_or c r))
-third_some a b c r x none also is = rw (none, also, sym is) refl
 
 pub four_none : {E : Type 0} (a b c d r : Option E) → a ≡ None → b ≡ None → c ≡ None → d ≡ None → option_or a (option_or b (option_or c (option_or d r))) ≡ r
 four_none a b c d r none also third fourth = rw (none, also, third, fourth) refl

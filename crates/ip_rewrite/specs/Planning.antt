@@ -8,14 +8,14 @@ use Rattle.ip_rewrite.specs.Without.{is_authentication}
 use Rattle.ip_rewrite.specs.Clearing.{has_reserved, reserved_fragmented, reserved_covered}
 use Rattle.ip_rewrite.specs.Order.{is_in_order}
 use Rattle.ip_rewrite.specs.Request.{cleared_if}
-use Rattle.ip_rewrite.specs.Writing.{no_survey, surveyed, routing_index, rank_at, of_rank_from}
+use Rattle.ip_rewrite.specs.Writing.{empty_selection, selection_after, routing_index, rank_at, of_rank_from}
 use Rattle.ip_rewrite.specs.declared.request.Request.{Request}
 use Rattle.ip_rewrite.specs.declared.plan.Plan.{Plan}
 use Rattle.ip_rewrite.specs.declared.writer.Choice.{Choice}
 
 -- what was seen of the headers c for the request r
 pub record IsPlan (r : Request) (c : List ExtHeader) (v : Plan) : Type 0 where
-  pub survey : v.survey ≡ surveyed (no_survey r.without) c
+  pub selection : v.selection ≡ selection_after (empty_selection r.without) c
   pub set : v.reserved.is_set ≡ list_any has_reserved (kept r.without c)
   pub fragmented : v.reserved.is_set_fragmented ≡ reserved_fragmented false (kept r.without c)
   pub covered : v.reserved.is_set_covered ≡ reserved_covered false (kept r.without c)

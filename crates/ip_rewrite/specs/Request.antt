@@ -1,6 +1,6 @@
 -- Any number of changes of a packet's extension headers at once: some are left out, then the reserved bits of the others are
 -- cleared, then these are put in order.
-use Rattle.std.specs.Prelude.{ℕ, Bool, true, ◌&&◌, ◌||◌, not, List, Option, Some, None, if◌then◌else◌}
+use Rattle.std.specs.Prelude.{ℕ, Bool, true, false, ◌&&◌, ◌||◌, not, List, Option, None, if◌then◌else◌}
 use Rattle.std.specs.List.{list_any}
 use Rattle.std.specs.Option.{option_or}
 use Rattle.ip_spec.specs.Encoding.{cleared_chain}
@@ -12,6 +12,9 @@ use Rattle.ip_rewrite.specs.Without.{packet_fault, selection_fault}
 use Rattle.ip_rewrite.specs.Clearing.{has_reserved, reserved_fault}
 use Rattle.ip_rewrite.specs.Order.{in_order, is_in_order, order_fault}
 use Rattle.ip_rewrite.specs.declared.request.Request.{Request}
+use Rattle.ip_rewrite.specs.declared.which.Which.{Which}
+use Rattle.ip_rewrite.specs.declared.which.Which.TheVariants.{Headers}
+use Rattle.ip_rewrite.specs.declared.which.Authentication.{Authentication}
 use Rattle.ip_rewrite.specs.declared.err.RewriteError.{RewriteError}
 
 -- the headers c, with their reserved bits cleared if `clears`
@@ -73,3 +76,18 @@ requested_len r p = rewritten_len p (changed_headers r p.headers) p.payload
 -- and its parts
 abbrev pub requested_parts : Request → DissectedParts → DissectedParts
 requested_parts r p = rewritten_parts p (changed_headers r p.headers) p.number p.payload
+
+-- the request that leaves headers out and changes nothing else
+abbrev pub leaving : Which → Authentication → Request
+leaving w a = record { without = w; clears = false; orders = false; authentication = a }
+
+-- no header
+abbrev pub no_headers : Which
+no_headers = Headers (record { hop_by_hop = false; routing = false; fragment = false; authentication = false; destination_options = false })
+
+-- the request that clears reserved bits, and the one that puts the headers in order
+abbrev pub clearing : Authentication → Request
+clearing a = record { without = no_headers; clears = true; orders = false; authentication = a }
+
+abbrev pub ordering : Authentication → Request
+ordering a = record { without = no_headers; clears = false; orders = true; authentication = a }

@@ -5,16 +5,19 @@ use Rattle.ip_spec.specs.Numbers.{FRAGMENT}
 use Rattle.ip_spec.specs.Header.{IsHeader}
 use Rattle.ip_spec.specs.Chain.{ExtHeader, bytes_of, leads_to}
 use Rattle.ip_dissect.specs.Fragment.{fragments}
+use Rattle.ip_dissect.specs.End.{has_error}
+use Rattle.ip_dissect.specs.Summary.{is_later_end}
+use Rattle.ip_dissect.specs.Dissection.{DissectedParts}
 use Rattle.ip_header_contents.specs.Options.{OptionFields}
 use Rattle.ip_rewrite.specs.Headers.{number_of_first, linked_headers, is_options}
-use Rattle.ip_rewrite.specs.Jumbogram.{is_jumbo_payload, only_jumbo_payload}
+use Rattle.ip_rewrite.specs.Jumbogram.{is_unstated, is_jumbo_payload, only_jumbo_payload}
 use Rattle.ip_rewrite.specs.Selection.{selects, kept, any_selected, selects_fragmented}
 use Rattle.ip_rewrite.specs.Without.{is_authentication, has_segments, selects_covered}
 use Rattle.ip_rewrite.specs.Insertion.{inserted}
 use Rattle.ip_rewrite.specs.Order.{is_routing, rank_of}
 use Rattle.ip_rewrite.specs.declared.which.Which.{Which}
-use Rattle.ip_rewrite.specs.declared.survey.Survey.{Survey}
-use Rattle.ip_rewrite.specs.declared.survey.HeaderFacts.{HeaderFacts}
+use Rattle.ip_rewrite.specs.declared.selection.Selection.{Selection}
+use Rattle.ip_rewrite.specs.declared.selection.HeaderFacts.{HeaderFacts}
 
 -- what matters of the header h with the index i
 abbrev pub facts_of : Which → ℕ → ExtHeader → HeaderFacts
@@ -27,9 +30,9 @@ facts_of w i h = record {
   len = length h.bytes;
 }
 
--- a survey before the first header
-abbrev pub no_survey : Which → Survey
-no_survey w = record {
+-- a selection before the first header
+abbrev pub empty_selection : Which → Selection
+empty_selection w = record {
   which = w;
   selects = false;
   selects_fragmenting = false;
@@ -42,9 +45,9 @@ no_survey w = record {
   kept_len = 0;
 }
 
--- a survey after one more header
-abbrev pub surveyed_one : Survey → HeaderFacts → Survey
-surveyed_one v s = record v {
+-- a selection after one more header
+abbrev pub selection_with : Selection → HeaderFacts → Selection
+selection_with v s = record v {
   selects = v.selects || s.is_selected;
   selects_fragmenting = v.selects_fragmenting || s.is_selected && s.fragments;
   selects_fragmented = v.selects_fragmented || v.is_fragmented && s.is_selected;
@@ -57,8 +60,8 @@ surveyed_one v s = record v {
 }
 
 -- after all headers of a chain
-abbrev pub surveyed : Survey → List ExtHeader → Survey
-surveyed v c = record v {
+abbrev pub selection_after : Selection → List ExtHeader → Selection
+selection_after v c = record v {
   selects = v.selects || any_selected (λ h. true) v.which 0 c;
   selects_fragmenting = v.selects_fragmenting || any_selected fragments v.which 0 c;
   selects_fragmented = v.selects_fragmented || selects_fragmented v.which 0 v.is_fragmented c;
@@ -131,6 +134,8 @@ pub record SelectsFirst (w : Which) (c : List ExtHeader) (len : ℕ) : Type 0 wh
   pub first : ExtHeader
   pub others : List ExtHeader
   pub all : c ≡ first ∷ others
+  pub selected : selects w 0 first ≡ true
+  pub alone : any_selected (λ h. true) w 1 others ≡ false
   pub kept : kept w c ≡ others
   pub size : len ≡ length first.bytes
 
@@ -145,3 +150,29 @@ HasOption (Some k) (h ∷ c) = (is_options h ≡ true) × (2 ≤ k) × (k + 6 �
 abbrev pub found_or : Option ℕ → ℕ → List OptionFields → Option ℕ
 found_or None k xs = only_jumbo_payload k xs
 found_or (Some j) k xs = if list_any is_jumbo_payload xs then None else Some j
+
+-- the length of the first of the headers c, or n without one, and whether it is a routing header with segments left
+abbrev pub first_len : ℕ → List ExtHeader → ℕ
+first_len n [] = n
+first_len n (h ∷ c) = length h.bytes
+
+abbrev pub first_segments : Bool → List ExtHeader → Bool
+first_segments b [] = b
+first_segments b (h ∷ c) = has_segments h
+
+-- the header h with the index i is selected, or for the first one: it isn't
+abbrev pub is_otherwise : Which → ℕ → ExtHeader → Bool
+is_otherwise w i h = if i == 0 then not (selects w i h) else selects w i h
+
+-- some header is, of headers whose first has the index i
+abbrev pub selects_otherwise : Which → ℕ → List ExtHeader → Bool
+selects_otherwise w i [] = false
+selects_otherwise w i (h ∷ c) = is_otherwise w i h || selects_otherwise w (i + 1) c
+
+-- a header that restricts changes: a fragment or authentication header
+abbrev pub restricts : ExtHeader → Bool
+restricts h = (h.number == FRAGMENT) || is_authentication h
+
+-- an IPv6 packet that is whole and states its length, and is no later fragment
+abbrev pub is_unrestricted : DissectedParts → Bool
+is_unrestricted p = (p.version == 6) && ((not (has_error p.end) && (p.missing == 0)) && not (is_later_end p.end)) && not (is_unstated p)

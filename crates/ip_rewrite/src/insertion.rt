@@ -15,11 +15,11 @@ ghost use Rattle.ip_rewrite.specs.Jumbogram.{jumbo_offset};
 ghost use Rattle.ip_rewrite.specs.Insertion.{inserted, is_header, is_misplaced, header_fault, insertion_fault};
 ghost use Rattle.ip_rewrite.specs.Writing.{AreWritten, HasOption, inserted_so_far};
 
+use crate::buffer::{append, put_at};
+use crate::header::{fragments, has_segments};
 use crate::jumbogram::test_jumbogram;
-use crate::keeper::{append, put_at};
 use crate::payload::is_extension_number;
 use crate::removal::{authentication_follows, test_packet};
-use crate::survey::{fragments, has_segments};
 use crate::write::{base_of, finish, number_offset, test_room};
 use crate::{Authentication, RewriteError, Rewritten};
 use ip_base::{IpNumber, ip_number};

@@ -10,7 +10,7 @@ ghost use Rattle.ip_rewrite.specs.Rewritten.{joined, jumbo_fault, unstated_fault
 ghost use Rattle.ip_rewrite.specs.Writing.{HasOption};
 
 use crate::RewriteError;
-use crate::keeper::put_at;
+use crate::buffer::put_at;
 use ip_base::{IpNumber, ip_number};
 use ip_dissect::{HeaderVisitor, Packet};
 use ip_header_contents::option_at;

@@ -30,15 +30,15 @@
 
 mod base;
 mod both;
+mod buffer;
 mod checksum_laws;
 mod clearing;
 mod err;
 mod first_header;
-mod first_survey;
+mod header;
 mod insertion;
 mod insertion_laws;
 mod jumbogram;
-mod keeper;
 mod kept;
 mod order;
 mod order_laws;
@@ -48,7 +48,7 @@ mod plan;
 mod removal;
 mod request;
 mod rewriting;
-mod survey;
+mod selection;
 mod which;
 mod write;
 mod writer;

@@ -12,14 +12,11 @@ ghost use Rattle.ip_rewrite.specs.Without.{is_authentication};
 ghost use Rattle.ip_rewrite.specs.Order.{in_order, is_in_order, order_fault, ordering_fault};
 ghost use Rattle.ip_rewrite.specs.Writing.{AreWritten, routing_index, rank_at, of_rank_from, last_rank, rises_at};
 
-use crate::insertion::Written;
-use crate::keeper::{append, put_at};
-use crate::removal::test_packet;
-use crate::survey::fragments;
-use crate::write::{base_of, finish, number_offset, test_room};
-use crate::{Authentication, RewriteError, Rewritten};
+use crate::header::fragments;
+use crate::rewriting::write_requested;
+use crate::{Authentication, Request, RewriteError, Rewritten};
 use ip_base::{IpNumber, ip_number};
-use ip_dissect::{HeaderVisitor, Packet, Summary};
+use ip_dissect::{HeaderVisitor, Packet};
 
 /// How many ranks there are.
 pub(crate) const RANKS: u8 = 5;
@@ -113,100 +110,6 @@ fn are_in_order(packet: &Packet<'_>, last_routing: usize) -> bool
     order.rises
 }
 
-/// The headers of one rank, written to a buffer after others.
-#[derive(Debug, Drop)]
-struct Ranked<'o> {
-    /// The rank.
-    rank: u8,
-    /// The index of the last routing header, or 0 without one.
-    last_routing: usize,
-    /// The buffer.
-    out: &'o mut [u8],
-    /// How many bytes are written.
-    len: usize,
-    /// The offset of the number of what follows them.
-    link: usize,
-}
-
-impl HeaderVisitor for Ranked<'_> {
-    ghost visited = { λ old k c new. (new.out.ghost_name ≡ old.out.ghost_name)
-        × (new.rank ≡ old.rank)
-        × (new.last_routing ≡ old.last_routing)
-        × ((l : ℕ) (b buffer : List ℕ) (d : List ExtHeader) → AreWritten l b buffer d old.out.now old.len old.link
-        → length b + length (bytes_of (d ++ of_rank_from old.rank old.last_routing 0 c)) ≤ length buffer → length buffer < 2 ^ 64
-        → AreWritten l b buffer (d ++ of_rank_from old.rank old.last_routing 0 c) new.out.now new.len new.link) };
-
-    ghost none = { λ v k. (
-      refl,
-      refl,
-      refl,
-      λ l b buffer d w fits small.
-          subst (λ x. AreWritten l b buffer x v.out.now v.len v.link) (sym (append-nil d)) w,
-    ) };
-
-    #[inline(always)]
-    fn visit(&mut self, number: IpNumber, header: &[u8], index: usize, _offset: usize) {
-        if rank(number, index, self.last_routing) == self.rank {
-            append(self.out, self.len, self.link, number, header);
-            self.link = self.len;
-            self.len = self.len.saturating_add(header.len());
-        }
-    }
-}
-
-/// Writes the headers of one rank after what is written.
-#[inline(always)]
-fn write_rank(
-    packet: &Packet<'_>,
-    rank: u8,
-    last_routing: usize,
-    written: Written,
-    out: &mut [u8],
-) -> Written
-    ensures { (l : ℕ) (b buffer : List ℕ) (c : List ExtHeader) → AreWritten l b buffer c out.old written.len written.link
-        → length b + length (bytes_of (c ++ of_rank_from rank last_routing 0 (dissected packet.now.bytes.now).headers)) ≤ length buffer
-        → length buffer < 2 ^ 64
-        → AreWritten l b buffer (c ++ of_rank_from rank last_routing 0 (dissected packet.now.bytes.now).headers) out.new result.len result.link }
-{
-    let mut ranked = Ranked {
-        rank,
-        last_routing,
-        out,
-        len: written.len,
-        link: written.link,
-    };
-    Packet::walk(packet.bytes, &mut ranked);
-    Written {
-        len: ranked.len,
-        link: ranked.link,
-    }
-}
-
-/// Writes the base header and the headers in the recommended order. Returns the offset of the number of what follows them.
-#[inline(always)]
-fn write_headers(packet: &Packet<'_>, last_routing: usize, offset: usize, out: &mut [u8]) -> usize
-    requires routing { last_routing ≡ routing_index (dissected packet.now.bytes.now).headers }
-    requires small { length out.old < 2 ^ 64 }
-    requires link { offset < length (dissected packet.now.bytes.now).base }
-    requires fits { length (dissected packet.now.bytes.now).base
-        + length (bytes_of (dissected packet.now.bytes.now).headers) ≤ length out.old }
-    ensures { AreWritten offset (dissected packet.now.bytes.now).base out.old
-        (in_order (dissected packet.now.bytes.now).headers) out.new
-        (length (dissected packet.now.bytes.now).base
-        + length (bytes_of (dissected packet.now.bytes.now).headers)) result }
-{
-    let base = base_of(packet);
-    put_at(out, 0, base);
-    let mut written = Written {
-        len: base.len(),
-        link: offset,
-    };
-    for rank in 0..RANKS {
-        written = write_rank(packet, rank, last_routing, written, out);
-    }
-    written.link
-}
-
 /// Returns why the order of the headers can't change.
 #[inline(always)]
 pub(crate) fn test_order(
@@ -229,67 +132,6 @@ pub(crate) fn test_order(
         return Err(RewriteError::Authenticated);
     }
     Ok(())
-}
-
-/// Returns the number for the length field, or why the packet can't be written in the recommended order.
-#[inline(always)]
-fn test(
-    packet: &Packet<'_>,
-    contents: &Contents,
-    authentication: Authentication,
-    room: usize,
-) -> Result<u16, RewriteError>
-    requires authentication { contents.now.has_authentication
-        ≡ list_any is_authentication (dissected packet.now.bytes.now).headers }
-    requires fragmented { contents.now.fragments ≡ list_any fragments (dissected packet.now.bytes.now).headers }
-    requires routing { contents.now.last_routing ≡ routing_index (dissected packet.now.bytes.now).headers }
-    requires small { length packet.now.bytes.now < 2 ^ 64 }
-    ensures fault { result_err result ≡ ordering_fault authentication (dissected packet.now.bytes.now) room }
-    ensures field { IfOk result (λ n. n ≡ rewritten_field (dissected packet.now.bytes.now)
-        (in_order (dissected packet.now.bytes.now).headers) (dissected packet.now.bytes.now).payload) }
-    ensures fits { OnOk result (rewritten_len (dissected packet.now.bytes.now)
-        (in_order (dissected packet.now.bytes.now).headers) (dissected packet.now.bytes.now).payload ≤ room) }
-    ensures base { OnOk result ((if (dissected packet.now.bytes.now).version == 4 then 20 else 40)
-        ≤ length (dissected packet.now.bytes.now).base) }
-{
-    let summary = &packet.summary;
-    test_packet(summary)?;
-    let ordered = are_in_order(packet, contents.last_routing);
-    test_order(contents, ordered, authentication)?;
-    test_room(packet, summary.extensions_len, summary.payload_len, room)
-}
-
-/// Writes the packet with its headers in the recommended order.
-#[tactic(auto, using(crate::proofs::OrderLemmas::ordered_len))]
-#[inline(always)]
-fn write_ordered(packet: &Packet<'_>, last_routing: usize, field: u16, out: &mut [u8])
-    requires routing { last_routing ≡ routing_index (dissected packet.now.bytes.now).headers }
-    requires small { length out.old < 2 ^ 64 }
-    requires base { (if (dissected packet.now.bytes.now).version == 4 then 20 else 40)
-        ≤ length (dissected packet.now.bytes.now).base }
-    requires field { field ≡ rewritten_field (dissected packet.now.bytes.now)
-        (in_order (dissected packet.now.bytes.now).headers) (dissected packet.now.bytes.now).payload }
-    requires fits { rewritten_len (dissected packet.now.bytes.now)
-        (in_order (dissected packet.now.bytes.now).headers) (dissected packet.now.bytes.now).payload ≤ length out.old }
-    ensures { out.new ≡ rewritten (dissected packet.now.bytes.now)
-        (in_order (dissected packet.now.bytes.now).headers) (dissected packet.now.bytes.now).number
-        (dissected packet.now.bytes.now).payload
-        ++ drop (rewritten_len (dissected packet.now.bytes.now)
-        (in_order (dissected packet.now.bytes.now).headers) (dissected packet.now.bytes.now).payload) out.old }
-{
-    let summary = &packet.summary;
-    let offset = number_offset(summary.version);
-    let link = write_headers(packet, last_routing, offset, out);
-    let payload = packet.payload();
-    finish(
-        packet,
-        summary.extensions_len,
-        link,
-        summary.next_header,
-        payload,
-        field,
-        out,
-    );
 }
 
 /// Returns whether the extension headers of a packet are in the order that RFC 8200, section 4.1, recommends: whether
@@ -324,18 +166,5 @@ pub fn in_order(
         dissected (take r.len out.new) ≡ rewritten_parts p (in_order p.headers) p.number p.payload) }
     ensures stays { OnErr result (out.new ≡ out.old) }
 {
-    let mut contents = Contents::default();
-    let packet = Packet::walk(packet, &mut contents);
-    match test(&packet, &contents, authentication, out.len()) {
-        Ok(field) => {
-            let summary = &packet.summary;
-            let len = summary.base_len + summary.extensions_len + summary.payload_len;
-            write_ordered(&packet, contents.last_routing, field, out);
-            Ok(Rewritten {
-                len,
-                keeps_checksums: true,
-            })
-        }
-        Err(error) => Err(error),
-    }
+    write_requested(packet, Request::ordering(authentication), out)
 }

@@ -16,7 +16,7 @@ use crate::jumbogram::test_jumbogram;
 use crate::kept::Kept;
 use crate::order::{Contents, Order, test_order};
 use crate::removal::{is_ipv4_fragment, test_packet, test_selection};
-use crate::survey::Survey;
+use crate::selection::Selection;
 use crate::write::test_room;
 use crate::{Request, RewriteError, Which};
 use ip_base::ip_number;
@@ -26,7 +26,7 @@ use ip_dissect::Packet;
 #[derive(Clone, Copy, Debug)]
 pub(crate) struct Plan {
     /// Which are left out, and how long the others are.
-    pub(crate) survey: Survey,
+    pub(crate) selection: Selection,
     /// The reserved bits of the others.
     reserved: Reserved,
     /// What else matters of the others.
@@ -63,7 +63,7 @@ pub(crate) fn seen(bytes: &[u8], request: Request) -> (Packet<'_>, Plan)
         second: Contents::default(),
     };
     let mut visitors = Both {
-        first: Survey::new(which),
+        first: Selection::new(which),
         second: Kept::new(which, others),
     };
     let packet = Packet::walk(bytes, &mut visitors);
@@ -71,7 +71,7 @@ pub(crate) fn seen(bytes: &[u8], request: Request) -> (Packet<'_>, Plan)
     let last_routing = others.second.last_routing;
     let is_in_order = !request.orders || are_kept_in_order(&packet, which, last_routing);
     let plan = Plan {
-        survey: visitors.first,
+        selection: visitors.first,
         reserved: others.first,
         contents: others.second,
         is_in_order,
@@ -87,7 +87,7 @@ impl Plan {
     {
         let is_cleared = request.clears & self.reserved.is_set;
         let is_ordered = request.orders & !self.is_in_order;
-        self.survey.selects | is_cleared | is_ordered
+        self.selection.selects | is_cleared | is_ordered
     }
 }
 
@@ -97,10 +97,10 @@ fn test_leaving(packet: &Packet<'_>, plan: &Plan, request: Request) -> Result<()
     requires { IsPlan request (dissected packet.now.bytes.now).headers plan.now }
     ensures { result_err result ≡ leaving_fault request (dissected packet.now.bytes.now) }
 {
-    if !plan.survey.selects {
+    if !plan.selection.selects {
         return Ok(());
     }
-    test_selection(&packet.summary, &plan.survey, request.authentication)?;
+    test_selection(&packet.summary, &plan.selection, request.authentication)?;
     let ends = request.without.selects(ip_number::IPV6_HOP_BY_HOP, 0);
     test_jumbogram(packet, ends)
 }
@@ -152,5 +152,5 @@ pub(crate) fn test(
     test_leaving(packet, plan, request)?;
     test_clearing(packet, plan, request)?;
     test_ordering(packet, plan, request)?;
-    test_room(packet, plan.survey.kept_len, summary.payload_len, room)
+    test_room(packet, plan.selection.kept_len, summary.payload_len, room)
 }

@@ -7,17 +7,16 @@ ghost use Rattle.ip_dissect.specs.Summary.{is_later_end, summary_of};
 ghost use Rattle.ip_rewrite.specs.Rewritten.{rewritten_field};
 ghost use Rattle.ip_rewrite.specs.Selection.{kept};
 ghost use Rattle.ip_rewrite.specs.Without.{packet_fault, is_ipv4_fragment, selection_fault, without, len_without, parts_without, without_fault, keeps_checksums};
-ghost use Rattle.ip_rewrite.specs.Writing.{SelectsFirst, no_survey, surveyed};
+ghost use Rattle.ip_rewrite.specs.Writing.{SelectsFirst, empty_selection, selection_after};
 ghost use Rattle.ip_rewrite.specs.declared.which.Which.TheVariants.{Index};
 
-use crate::first_header::{selected_first, write_without};
-use crate::first_survey::{Later, first_len, survey_first};
-use crate::jumbogram::test_jumbogram;
-use crate::survey::Survey;
-use crate::write::test_room;
-use crate::{Authentication, RewriteError, Which};
+use crate::first_header::write_without_first;
+use crate::plan::seen;
+use crate::rewriting::write_planned;
+use crate::selection::Selection;
+use crate::{Authentication, Request, RewriteError, Which};
 use ip_base::ip_number;
-use ip_dissect::{Packet, Summary};
+use ip_dissect::Summary;
 
 /// A packet that was written.
 #[derive(Clone, Copy, Debug, PartialEq, Eq)]
@@ -67,25 +66,25 @@ pub(crate) fn is_ipv4_fragment(summary: &Summary) -> bool
 #[inline(always)]
 pub(crate) fn test_selection(
     summary: &Summary,
-    survey: &Survey,
+    selection: &Selection,
     authentication: Authentication,
 ) -> Result<(), RewriteError>
     ensures { (p : DissectedParts) → summary.now ≡ summary_of p
-        → survey.now ≡ surveyed (no_survey survey.now.which) p.headers
-        → result_err result ≡ selection_fault survey.now.which authentication p }
+        → selection.now ≡ selection_after (empty_selection selection.now.which) p.headers
+        → result_err result ≡ selection_fault selection.now.which authentication p }
 {
     let is_ipv4 = summary.version == 4;
-    if !survey.selects {
+    if !selection.selects {
         return Err(RewriteError::NoHeader);
     }
-    if survey.selects_fragmenting {
+    if selection.selects_fragmenting {
         return Err(RewriteError::FragmentHeader);
     }
-    if is_ipv4 & summary.fragment.is_some() | survey.selects_fragmented {
+    if is_ipv4 & summary.fragment.is_some() | selection.selects_fragmented {
         return Err(RewriteError::Fragmented);
     }
-    let has_authentication = survey.keeps_authentication | authentication_follows(summary);
-    let is_covered = has_authentication & survey.selects_covered;
+    let has_authentication = selection.keeps_authentication | authentication_follows(summary);
+    let is_covered = has_authentication & selection.selects_covered;
     if is_covered && authentication == Authentication::Valid {
         return Err(RewriteError::Authenticated);
     }
@@ -95,90 +94,32 @@ pub(crate) fn test_selection(
     Ok(())
 }
 
-/// Returns the number for the length field, or why the packet can't be written without the headers that are selected.
-#[inline(always)]
-fn test(
-    packet: &Packet<'_>,
-    survey: &Survey,
-    authentication: Authentication,
-    room: usize,
-) -> Result<u16, RewriteError>
-    requires survey { survey.now ≡ surveyed (no_survey survey.now.which) (dissected packet.now.bytes.now).headers }
-    requires small { length packet.now.bytes.now < 2 ^ 64 }
-    ensures fault { result_err result
-        ≡ without_fault survey.now.which authentication (dissected packet.now.bytes.now) room }
-    ensures field { IfOk result (λ n. n ≡ rewritten_field (dissected packet.now.bytes.now)
-        (kept survey.now.which (dissected packet.now.bytes.now).headers) (dissected packet.now.bytes.now).payload) }
-    ensures fits { OnOk result (len_without survey.now.which (dissected packet.now.bytes.now) ≤ room) }
-    ensures base { OnOk result ((if (dissected packet.now.bytes.now).version == 4 then 20 else 40)
-        ≤ length (dissected packet.now.bytes.now).base) }
-{
-    let summary = &packet.summary;
-    test_packet(summary)?;
-    test_selection(summary, survey, authentication)?;
-    let ends = survey.which.selects(ip_number::IPV6_HOP_BY_HOP, 0);
-    test_jumbogram(packet, ends)?;
-    test_room(packet, survey.kept_len, summary.payload_len, room)
-}
-
-/// Writes the packet without the extension headers that are selected, by what a survey holds after all headers. `first` is
-/// the length of the first header if that alone is selected.
-#[inline(always)]
-fn write_surveyed(
-    packet: &Packet<'_>,
-    survey: &Survey,
-    first: Option<usize>,
-    authentication: Authentication,
-    out: &mut [u8],
-) -> Result<Rewritten, RewriteError>
-    requires survey { survey.now ≡ surveyed (no_survey survey.now.which) (dissected packet.now.bytes.now).headers }
-    requires first { IfSome first (λ len. SelectsFirst survey.now.which (dissected packet.now.bytes.now).headers len) }
-    requires small { length packet.now.bytes.now < 2 ^ 64 }
-    ensures fault { result_err result
-        ≡ without_fault survey.now.which authentication (dissected packet.now.bytes.now) (length out.old) }
-    ensures len { IfOk result (λ r. r.len ≡ len_without survey.now.which (dissected packet.now.bytes.now)) }
-    ensures checksums { IfOk result (λ r.
-        r.keeps_checksums ≡ keeps_checksums survey.now.which (dissected packet.now.bytes.now)) }
-    ensures written { IfOk result (λ r.
-        out.new ≡ without survey.now.which (dissected packet.now.bytes.now) ++ drop r.len out.old) }
-    ensures dissects { IfOk result (λ r.
-        dissected (take r.len out.new) ≡ parts_without survey.now.which (dissected packet.now.bytes.now)) }
-    ensures stays { OnErr result (out.new ≡ out.old) }
-{
-    let field = test(packet, survey, authentication, out.len())?;
-    let summary = &packet.summary;
-    let len = summary.base_len + survey.kept_len + summary.payload_len;
-    write_without(packet, survey.which, first, survey.kept_len, field, out);
-    Ok(Rewritten {
-        len,
-        keeps_checksums: !survey.selects_segments,
-    })
-}
-
-/// Writes a packet without its first extension header. The walk over the headers gathers less than a survey.
-#[inline(always)]
-fn without_first(
+/// Writes a packet without the headers that are selected, as the plan of a request that leaves them out.
+#[inline(never)]
+fn remove_selected(
     packet: &[u8],
+    which: Which,
     authentication: Authentication,
     out: &mut [u8],
 ) -> Result<Rewritten, RewriteError>
     ensures fault { result_err result
-        ≡ without_fault (Index 0) authentication (dissected packet.now) (length out.old) }
-    ensures len { IfOk result (λ r. r.len ≡ len_without (Index 0) (dissected packet.now)) }
+        ≡ without_fault which authentication (dissected packet.now) (length out.old) }
+    ensures len { IfOk result (λ r. r.len ≡ len_without which (dissected packet.now)) }
     ensures checksums { IfOk result (λ r.
-        r.keeps_checksums ≡ keeps_checksums (Index 0) (dissected packet.now)) }
+        r.keeps_checksums ≡ keeps_checksums which (dissected packet.now)) }
     ensures written { IfOk result (λ r.
-        out.new ≡ without (Index 0) (dissected packet.now) ++ drop r.len out.old) }
+        out.new ≡ without which (dissected packet.now) ++ drop r.len out.old) }
     ensures dissects { IfOk result (λ r.
-        dissected (take r.len out.new) ≡ parts_without (Index 0) (dissected packet.now)) }
+        dissected (take r.len out.new) ≡ parts_without which (dissected packet.now)) }
     ensures stays { OnErr result (out.new ≡ out.old) }
 {
-    let mut later = Later::new();
-    let packet = Packet::walk(packet, &mut later);
-    test_packet(&packet.summary)?;
-    let survey = survey_first(&packet, &later);
-    let first = first_len(&packet, &survey);
-    write_surveyed(&packet, &survey, first, authentication, out)
+    let request = Request::leaving(which, authentication);
+    let (packet, plan) = seen(packet, request);
+    if !plan.selection.selects {
+        test_packet(&packet.summary)?;
+        return Err(RewriteError::NoHeader);
+    }
+    write_planned(&packet, &plan, request, out)
 }
 
 /// Writes a packet to the front of `out` without the extension headers that are selected, and nothing else changed.
@@ -199,12 +140,8 @@ pub fn remove_header(
         dissected (take r.len out.new) ≡ parts_without which (dissected packet.now)) }
     ensures stays { OnErr result (out.new ≡ out.old) }
 {
-    if which == Which::Index(0) {
-        return without_first(packet, authentication, out);
+    match write_without_first(packet, which, out) {
+        Some(rewritten) => Ok(rewritten),
+        None => remove_selected(packet, which, authentication, out),
     }
-    let mut survey = Survey::new(which);
-    let packet = Packet::walk(packet, &mut survey);
-    test_packet(&packet.summary)?;
-    let first = selected_first(&packet, which, survey.kept_len);
-    write_surveyed(&packet, &survey, first, authentication, out)
 }

@@ -37,7 +37,7 @@ fn write(packet: &Packet<'_>, plan: &Plan, request: Request, field: u16, out: &m
     let payload = packet.payload();
     finish(
         packet,
-        plan.survey.kept_len,
+        plan.selection.kept_len,
         link,
         summary.next_header,
         payload,
@@ -49,7 +49,7 @@ fn write(packet: &Packet<'_>, plan: &Plan, request: Request, field: u16, out: &m
 /// Writes the packet with the changes, or returns why it can't be written.
 #[tactic(auto, using(crate::proofs::RequestLemmas::changed_len))]
 #[inline(always)]
-fn write_planned(
+pub(crate) fn write_planned(
     packet: &Packet<'_>,
     plan: &Plan,
     request: Request,
@@ -69,12 +69,33 @@ fn write_planned(
 {
     let field = test(packet, plan, request, out.len())?;
     let summary = &packet.summary;
-    let len = summary.base_len + plan.survey.kept_len + summary.payload_len;
+    let len = summary.base_len + plan.selection.kept_len + summary.payload_len;
     write(packet, plan, request, field, out);
     Ok(Rewritten {
         len,
-        keeps_checksums: !plan.survey.selects_segments,
+        keeps_checksums: !plan.selection.selects_segments,
     })
+}
+
+/// Writes a packet with the changes of a request, also if there are none.
+#[inline(always)]
+pub(crate) fn write_requested(
+    packet: &[u8],
+    request: Request,
+    out: &mut [u8],
+) -> Result<Rewritten, RewriteError>
+    ensures fault { result_err result ≡ change_fault request (dissected packet.now) (length out.old) }
+    ensures len { IfOk result (λ r. r.len ≡ requested_len request (dissected packet.now)) }
+    ensures checksums { IfOk result (λ r.
+        r.keeps_checksums ≡ keeps_checksums request.without (dissected packet.now)) }
+    ensures written { IfOk result (λ r.
+        out.new ≡ requested request (dissected packet.now) ++ drop r.len out.old) }
+    ensures dissects { IfOk result (λ r.
+        dissected (take r.len out.new) ≡ requested_parts request (dissected packet.now)) }
+    ensures stays { OnErr result (out.new ≡ out.old) }
+{
+    let (packet, plan) = seen(packet, request);
+    write_planned(&packet, &plan, request, out)
 }
 
 /// Writes a packet to the front of `out` with all changes of a request. Returns `None`, and writes nothing, if the request

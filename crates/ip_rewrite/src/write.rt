@@ -11,10 +11,10 @@ ghost use Rattle.ip_rewrite.specs.Selection.{kept};
 ghost use Rattle.ip_rewrite.specs.Without.{without, len_without};
 ghost use Rattle.ip_rewrite.specs.Writing.{AreWritten, HasOption, front_with, link_of};
 
+use crate::RewriteError;
 use crate::base::state;
+use crate::buffer::{put_at, set};
 use crate::jumbogram::{state_jumbo, test_unstated};
-use crate::keeper::{Keeper, put_at, set};
-use crate::{RewriteError, Which};
 use ip_base::IpNumber;
 use ip_dissect::{Packet, Summary};
 
@@ -40,7 +40,7 @@ fn length_field(summary: &Summary, kept_len: usize, payload_len: usize) -> usize
 
 /// Returns whether the length field is 0 although bytes follow the base header.
 #[inline(always)]
-fn is_unstated(summary: &Summary) -> bool
+pub(crate) fn is_unstated(summary: &Summary) -> bool
     requires { summary.now.extensions_len + summary.now.payload_len < 2 ^ 64 }
     ensures { (p : DissectedParts) → summary.now ≡ summary_of p → result ≡ is_unstated p }
 {
@@ -86,30 +86,6 @@ pub(crate) fn base_of<'a>(packet: &Packet<'a>) -> &'a [u8]
         Some(base) => base.slice(),
         None => &[],
     }
-}
-
-/// Writes the base header and the headers that are kept. Returns the offset of the number of what follows them.
-#[inline(always)]
-fn write_headers(packet: &Packet<'_>, which: Which, offset: usize, out: &mut [u8]) -> usize
-    requires small { length out.old < 2 ^ 64 }
-    requires link { offset < length (dissected packet.now.bytes.now).base }
-    requires fits { length (dissected packet.now.bytes.now).base
-        + length (bytes_of (kept which (dissected packet.now.bytes.now).headers)) ≤ length out.old }
-    ensures { AreWritten offset (dissected packet.now.bytes.now).base out.old
-        (kept which (dissected packet.now.bytes.now).headers) out.new
-        (length (dissected packet.now.bytes.now).base
-        + length (bytes_of (kept which (dissected packet.now.bytes.now).headers))) result }
-{
-    let base = base_of(packet);
-    put_at(out, 0, base);
-    let mut keeper = Keeper {
-        which,
-        out,
-        len: base.len(),
-        link: offset,
-    };
-    Packet::walk(packet.bytes, &mut keeper);
-    keeper.link
 }
 
 /// Returns the offset in the base header of the number of what follows it.
@@ -189,40 +165,4 @@ pub(crate) fn copy_headers(packet: &Packet<'_>, out: &mut [u8])
     let base = base_of(packet);
     put_at(out, 0, base);
     put_at(out, base.len(), packet.extensions());
-}
-
-/// Writes the packet of which these headers are kept, whose length is `kept_len`; `field` is the number for the length field.
-#[inline(always)]
-pub(crate) fn write_kept(
-    packet: &Packet<'_>,
-    which: Which,
-    kept_len: usize,
-    field: u16,
-    out: &mut [u8],
-)
-    requires small { length out.old < 2 ^ 64 }
-    requires base { (if (dissected packet.now.bytes.now).version == 4 then 20 else 40)
-        ≤ length (dissected packet.now.bytes.now).base }
-    requires kept { kept_len ≡ length (bytes_of (kept which (dissected packet.now.bytes.now).headers)) }
-    requires field { field ≡ rewritten_field (dissected packet.now.bytes.now)
-        (kept which (dissected packet.now.bytes.now).headers) (dissected packet.now.bytes.now).payload }
-    requires option { HasOption (jumbo_offset (dissected packet.now.bytes.now))
-        (kept which (dissected packet.now.bytes.now).headers) }
-    requires fits { len_without which (dissected packet.now.bytes.now) ≤ length out.old }
-    ensures { out.new ≡ without which (dissected packet.now.bytes.now)
-        ++ drop (len_without which (dissected packet.now.bytes.now)) out.old }
-{
-    let summary = &packet.summary;
-    let offset = number_offset(summary.version);
-    let link = write_headers(packet, which, offset, out);
-    let payload = packet.payload();
-    finish(
-        packet,
-        kept_len,
-        link,
-        summary.next_header,
-        payload,
-        field,
-        out,
-    );
 }

@@ -10,9 +10,9 @@ ghost use Rattle.ip_rewrite.specs.Request.{cleared_if, changed_headers};
 ghost use Rattle.ip_rewrite.specs.Planning.{is_chosen, chosen, none_chosen};
 ghost use Rattle.ip_rewrite.specs.Writing.{AreWritten, routing_index};
 
+use crate::buffer::{append, put_at};
 use crate::clearing::clear_at;
 use crate::insertion::Written;
-use crate::keeper::{append, put_at};
 use crate::order::{RANKS, rank};
 use crate::write::base_of;
 use crate::{Request, Which};

@@ -43,7 +43,7 @@ use Rattle.ip_rewrite.proofs.FieldLemmas.{word_is, range_same}
 use Rattle.ip_rewrite.proofs.InsertionLemmas.{IsInserted, all_inserted, header_is, inserted_len, insertion_dissects, insertion_first}
 use Rattle.ip_rewrite.proofs.FrontLemmas.{front_same, joined_len}
 use Rattle.ip_rewrite.proofs.RestoringLemmas.{word_set, word_word}
-use Rattle.ip_rewrite.proofs.SurveyLemmas.{kept_less}
+use Rattle.ip_rewrite.proofs.SelectionLemmas.{kept_less}
 use Rattle.ip_rewrite_laws.proofs.SelectionLemmas.{IsFree, free, kept_before, first_kept, linked_kept, first_append, linked_append}
 use Rattle.ip_rewrite_laws.proofs.ClearedLemmas.{first_led, linked_cleared, cleared_append, later_stays, clearing}
 use Rattle.ip_rewrite_laws.proofs.InsertedLemmas.{insertion, before_fragment, inserted_append, linked_count, first_inserted, linked_inserted, not_options, room_left}

@@ -1,24 +1,42 @@
-use Rattle.ip_spec.proofs.Common.{◌≡◌, ◌+◌, ℕ, length, drop, sym, ◌∙◌, ap, arith, List, None}
+use Rattle.ip_spec.proofs.Common.{◌≡◌, ℕ, ◌++◌, length, drop, take, ◌∙◌, ap, true}
 use Rattle.ip_dissect.specs.Dissection.{DissectedParts, dissected}
-use Rattle.ip_dissect.specs.declared.summary.Summary.{Summary}
-use Rattle.ip_rewrite.specs.Rewritten.{rewritten_len, rewritten_parts}
-use Rattle.ip_rewrite.specs.Order.{in_order, ordering_fault}
-use Rattle.ip_rewrite.specs.Jumbogram.{jumbo_offset}
-use Rattle.ip_rewrite.proofs.JumbogramLemmas.{has_option}
-use Rattle.ip_rewrite.proofs.DissectLemmas.{written_front}
-use Rattle.ip_rewrite.proofs.OrderLemmas.{ordered_len, has_ordered}
-use Rattle.ip_rewrite.proofs.OrderingLemmas.{ordering_dissects}
+use Rattle.ip_rewrite.specs.Rewritten.{rewritten, rewritten_len, rewritten_parts}
+use Rattle.ip_rewrite.specs.Without.{keeps_checksums}
+use Rattle.ip_rewrite.specs.Order.{in_order}
+use Rattle.ip_rewrite.specs.Request.{changed_headers, change_fault}
+use Rattle.ip_rewrite.specs.declared.request.Request.{Request}
+use Rattle.ip_rewrite.specs.declared.removal.Rewritten.{Rewritten}
+use Rattle.ip_rewrite.proofs.ResultLemmas.{weaker}
+use Rattle.ip_rewrite.proofs.SingleLemmas.{keeps_all, only_ordered, ordering_is}
 use Rattle.ip_rewrite.proofs.order.in_order.Goals as goal
 
-pub returns-in-Ok-clause-dissects : goal.returns-in-Ok-clause-dissects
-returns-in-Ok-clause-dissects c =
-    let packet = c.walk-packet.result in
-    let s : List ℕ = packet.bytes.now in
-    let p : DissectedParts = dissected s in
-    let none : ordering_fault c.args.authentication p (length c.args.out.now) ≡ None = sym c.in-Ok.ensures.fault in
-    let size : packet.summary.base_len + packet.summary.extensions_len + packet.summary.payload_len ≡ rewritten_len p (in_order p.headers) p.payload =
-    omega (arith, ap (λ (x : Summary). x.base_len) packet.summary_is, ap (λ (x : Summary). x.extensions_len) packet.summary_is, ap (λ (x : Summary). x.payload_len) packet.summary_is, ordered_len p.headers) in
-    let front = written_front p (in_order p.headers) p.number p.payload (drop (rewritten_len p (in_order p.headers) p.payload) c.args.out.now) c.write_ordered.new.out
-    (packet.summary.base_len + packet.summary.extensions_len + packet.summary.payload_len) (has_ordered (jumbo_offset p) p.headers (has_option p)) c.write_ordered.ensures size in
-    ap dissected front ∙ (ordering_dissects c.args.authentication (length c.args.out.now) s packet.base packet.base_is none
-    ∙ ap (λ (x : List ℕ). let r : DissectedParts = dissected x in rewritten_parts r (in_order r.headers) r.number r.payload) c.walk-packet.ensures.bytes)
+pub returns-clause-fault : goal.returns-clause-fault
+returns-clause-fault c =
+    let p : DissectedParts = dissected c.args.packet.now in
+    let n : ℕ = length c.args.out.now in
+    c.write_requested.ensures.fault ∙ (ap (λ (r : Request). change_fault r p n) c.ordering.ensures ∙ ordering_is c.args.authentication p n)
+
+pub returns-clause-len : goal.returns-clause-len
+returns-clause-len c =
+    let p : DissectedParts = dissected c.args.packet.now in
+    let same : changed_headers c.ordering.result p.headers ≡ in_order p.headers = ap (λ (r : Request). changed_headers r p.headers) c.ordering.ensures ∙ only_ordered c.args.authentication p.headers in
+    weaker _ (λ (r : Rewritten). r.len ≡ rewritten_len p (in_order p.headers) p.payload) c.write_requested.result (λ r is. is ∙ ap (λ d. rewritten_len p d p.payload) same) c.write_requested.ensures.len
+
+pub returns-clause-checksums : goal.returns-clause-checksums
+returns-clause-checksums c =
+    let p : DissectedParts = dissected c.args.packet.now in
+    weaker _ (λ (r : Rewritten). r.keeps_checksums ≡ true) c.write_requested.result (λ r is. is ∙ (ap (λ (r : Request). keeps_checksums r.without p) c.ordering.ensures ∙ keeps_all p)) c.write_requested.ensures.checksums
+
+pub returns-clause-written : goal.returns-clause-written
+returns-clause-written c =
+    let p : DissectedParts = dissected c.args.packet.now in
+    let same : changed_headers c.ordering.result p.headers ≡ in_order p.headers = ap (λ (r : Request). changed_headers r p.headers) c.ordering.ensures ∙ only_ordered c.args.authentication p.headers in
+    weaker _ (λ (r : Rewritten). c.write_requested.new.out ≡ rewritten p (in_order p.headers) p.number p.payload ++ drop r.len c.args.out.now) c.write_requested.result
+    (λ r is. is ∙ ap (λ d. rewritten p d p.number p.payload ++ drop r.len c.args.out.now) same) c.write_requested.ensures.written
+
+pub returns-clause-dissects : goal.returns-clause-dissects
+returns-clause-dissects c =
+    let p : DissectedParts = dissected c.args.packet.now in
+    let same : changed_headers c.ordering.result p.headers ≡ in_order p.headers = ap (λ (r : Request). changed_headers r p.headers) c.ordering.ensures ∙ only_ordered c.args.authentication p.headers in
+    weaker _ (λ (r : Rewritten). dissected (take r.len c.write_requested.new.out) ≡ rewritten_parts p (in_order p.headers) p.number p.payload) c.write_requested.result
+    (λ r is. is ∙ ap (λ d. rewritten_parts p d p.number p.payload) same) c.write_requested.ensures.dissects

@@ -7,7 +7,7 @@ use Rattle.ip_rewrite.specs.Selection.{kept}
 use Rattle.ip_rewrite.specs.Request.{changed_headers}
 use Rattle.ip_rewrite.specs.Writing.{AreWritten}
 use Rattle.ip_rewrite.specs.declared.request.Request.{Request}
-use Rattle.ip_rewrite.specs.declared.survey.Survey.{Survey}
+use Rattle.ip_rewrite.specs.declared.selection.Selection.{Selection}
 use Rattle.ip_rewrite.proofs.FrontLemmas.{out_len}
 use Rattle.ip_rewrite.proofs.RequestLemmas.{changed_len}
 use Rattle.ip_rewrite.proofs.rewriting.write.Goals as goal
@@ -22,14 +22,14 @@ returns c =
     let l : ℕ = number_offset p.version in
     let buffer : List ℕ = c.args.out.now in
     let k : ℕ = length b + length (bytes_of (kept r.without p.headers)) in
-    let n : ℕ = c.args.plan.now.survey.kept_len in
+    let n : ℕ = c.args.plan.now.selection.kept_len in
     let z : List ℕ = c.write_changed-link.new.out in
     let link : ℕ = c.write_changed-link.result in
     let version : o.version ≡ p.version = ap (λ (x : Summary). x.version) c.args.packet.now.summary_is in
     let size : o.base_len ≡ length b = ap (λ (x : Summary). x.base_len) c.args.packet.now.summary_is in
     let number : o.next_header.0 ≡ p.number = ap (λ (x : Summary). x.next_header.0) c.args.packet.now.summary_is in
     let offset : c.number_offset-offset.result ≡ l = c.number_offset-offset.ensures ∙ ap number_offset version in
-    let keeps : n ≡ 0 + length (bytes_of (kept r.without p.headers)) = ap (λ (v : Survey). v.kept_len) c.requires.plan.survey in
+    let keeps : n ≡ 0 + length (bytes_of (kept r.without p.headers)) = ap (λ (v : Selection). v.kept_len) c.requires.plan.selection in
     let exts : n ≡ length (bytes_of d) = omega (arith, keeps, changed_len r p.headers) in
     let here : AreWritten l b buffer d z k link = subst (λ (i : ℕ). AreWritten i b buffer d z k link) offset c.write_changed-link.ensures in
     let at : k ≡ o.base_len + n = omega (arith, size, keeps) in

@@ -6,16 +6,16 @@ use Rattle.ip_rewrite.specs.Selection.{kept}
 use Rattle.ip_rewrite.specs.Request.{changed_headers, change_fault, requested, requested_len}
 use Rattle.ip_rewrite.specs.declared.plan.Plan.{Plan}
 use Rattle.ip_rewrite.specs.declared.request.Request.{Request}
-use Rattle.ip_rewrite.specs.declared.survey.Survey.{Survey}
+use Rattle.ip_rewrite.specs.declared.selection.Selection.{Selection}
 use Rattle.ip_rewrite.specs.Planning.{IsPlan}
 use Rattle.ip_rewrite.proofs.DissectLemmas.{written_front}
 use Rattle.ip_rewrite.proofs.RequestLemmas.{changed_len}
 use Rattle.ip_rewrite.proofs.RequestedLemmas.{request_option, request_dissects}
 use Rattle.ip_rewrite.proofs.rewriting.write_planned.Goals as goal
 
-len_is : (r : Request) (p : DissectedParts) (o : Summary) (v : Plan) → o ≡ summary_of p → IsPlan r p.headers v → o.base_len + v.survey.kept_len + o.payload_len ≡ requested_len r p
+len_is : (r : Request) (p : DissectedParts) (o : Summary) (v : Plan) → o ≡ summary_of p → IsPlan r p.headers v → o.base_len + v.selection.kept_len + o.payload_len ≡ requested_len r p
 len_is r p o v is plan =
-    let keeps : v.survey.kept_len ≡ 0 + length (bytes_of (kept r.without p.headers)) = ap (λ (x : Survey). x.kept_len) plan.survey in
+    let keeps : v.selection.kept_len ≡ 0 + length (bytes_of (kept r.without p.headers)) = ap (λ (x : Selection). x.kept_len) plan.selection in
     omega (arith, ap (λ (x : Summary). x.base_len) is, ap (λ (x : Summary). x.payload_len) is, keeps, changed_len r p.headers)
 
 pub write-requires-clause-option : goal.write-requires-clause-option
@@ -35,7 +35,7 @@ returns-clause-dissects c =
     let s : List ℕ = packet.bytes.now in
     let p : DissectedParts = dissected s in
     let r : Request = c.args.request in
-    let n : ℕ = packet.summary.base_len + c.args.plan.now.survey.kept_len + packet.summary.payload_len in
+    let n : ℕ = packet.summary.base_len + c.args.plan.now.selection.kept_len + packet.summary.payload_len in
     let none : change_fault r p (length c.args.out.now) ≡ None = sym c.in_ok-field.ensures.fault in
     let front = written_front p (changed_headers r p.headers) p.number p.payload (drop (requested_len r p) c.args.out.now) c.write.new.out n (request_option r p (length c.args.out.now) none) c.write.ensures (len_is r p packet.summary c.args.plan.now packet.summary_is c.requires.plan) in
     ap dissected front ∙ request_dissects r (length c.args.out.now) s packet.base packet.base_is none

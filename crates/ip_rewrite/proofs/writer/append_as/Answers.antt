@@ -1,4 +1,4 @@
-use Rattle.ip_spec.proofs.Common.{◌≡◌, ◌+◌, ◌++◌, ◌∷◌, [], ℕ, List, Bool, length, ap, sym, ◌∙◌, subst, IsHeader, cleared_header, ExtHeader}
+use Rattle.ip_spec.proofs.Common.{◌≡◌, ◌+◌, ◌++◌, ◌∷◌, [], ℕ, List, Bool, length, ap, sym, subst, IsHeader, cleared_header, ExtHeader}
 use Rattle.ip_rewrite.specs.Request.{cleared_if}
 use Rattle.ip_rewrite.specs.Writing.{AreWritten}
 use Rattle.ip_rewrite.proofs.RequestLemmas.{last_cleared}

@@ -1,9 +1,8 @@
-use Rattle.ip_spec.proofs.Common.{◌≡◌, [], ◌∷◌, ◌++◌, ◌||◌, ◌&&◌, refl, ◌∙◌, ap, arith, list_any, ExtHeader}
+use Rattle.ip_spec.proofs.Common.{◌≡◌, [], ◌∷◌, ◌++◌, ◌||◌, ◌&&◌, refl, ◌∙◌, ap, list_any, ExtHeader}
 use Rattle.ip_dissect.specs.Fragment.{fragments}
 use Rattle.ip_rewrite.specs.Without.{is_authentication}
 use Rattle.ip_rewrite.specs.Clearing.{has_reserved, reserved_fragmented, reserved_covered}
-use Rattle.ip_rewrite.proofs.FrontLemmas.{link_more}
-use Rattle.ip_rewrite.proofs.SurveyLemmas.{any_last, more_or}
+use Rattle.ip_rewrite.proofs.SelectionLemmas.{any_last, more_or}
 use Rattle.ip_rewrite.proofs.ClearingLemmas.{reserved_more, covered_more}
 use Rattle.ip_rewrite.proofs.clearing.ReservedHeaderVisitor.visit.Goals as goal
 
@@ -20,5 +19,4 @@ returns c = λ old k d visited index at.
       more_or old.is_set_covered c.args.self.now.is_set_covered _ ((c.args.self.now.has_authentication || c.eq.result) && c.has_reserved-is_set.result) (((old.has_authentication || list_any is_authentication d) || is_authentication h) && has_reserved h) (reserved_covered old.has_authentication d) (reserved_covered old.has_authentication (d ++ h ∷ [])) visited.4
           (ap (λ z. (z || c.eq.result) && c.has_reserved-is_set.result) visited.0 ∙ (ap (λ z. ((old.has_authentication || list_any is_authentication d) || z) && c.has_reserved-is_set.result) c.eq.ensures
           ∙ ap (λ z. ((old.has_authentication || list_any is_authentication d) || is_authentication h) && z) set)) refl (covered_more old.has_authentication d h),
-      λ b size. omega (arith, at, size, link_more old.last b d h),
     )

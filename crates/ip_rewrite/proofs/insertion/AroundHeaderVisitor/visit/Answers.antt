@@ -2,7 +2,7 @@ use Rattle.ip_spec.proofs.Common.{◌≡◌, [], ◌∷◌, ◌++◌, ◌&&◌, 
 use Rattle.ip_dissect.specs.Fragment.{fragments}
 use Rattle.ip_rewrite.specs.Without.{is_authentication}
 use Rattle.ip_rewrite.specs.Headers.{is_options}
-use Rattle.ip_rewrite.proofs.SurveyLemmas.{any_last, more_or}
+use Rattle.ip_rewrite.proofs.SelectionLemmas.{any_last, more_or}
 use Rattle.ip_rewrite.proofs.InsertionLemmas.{before_more}
 use Rattle.ip_rewrite.proofs.insertion.AroundHeaderVisitor.visit.Goals as goal
 

@@ -1,8 +1,8 @@
-use Rattle.ip_spec.proofs.Common.{◌≡◌, ◌+◌, ◌<◌, ◌^◌, [], ◌∷◌, ◌++◌, true, false, length, refl, subst, sym, ◌∙◌, ap, arith, length-append, List, ExtHeader, bytes_of}
+use Rattle.ip_spec.proofs.Common.{◌≡◌, ◌+◌, [], ◌∷◌, ◌++◌, true, false, length, refl, subst, sym, ◌∙◌, ap, arith, length-append, List, ExtHeader, bytes_of}
 use Rattle.ip_rewrite.specs.Selection.{selects, kept}
 use Rattle.ip_rewrite.specs.declared.which.Which.{Which}
 use Rattle.ip_rewrite.proofs.FrontLemmas.{more_len}
-use Rattle.ip_rewrite.proofs.SurveyLemmas.{left_in, left_out, kept_less}
+use Rattle.ip_rewrite.proofs.SelectionLemmas.{left_in, left_out, kept_less}
 use Rattle.ip_rewrite.proofs.RequestLemmas.{kept_count}
 use Rattle.ip_rewrite.proofs.kept.KeptHeaderVisitor.visit.Goals as goal
 

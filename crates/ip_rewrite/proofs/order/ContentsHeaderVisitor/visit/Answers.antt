@@ -1,7 +1,7 @@
 use Rattle.ip_spec.proofs.Common.{[], ◌∷◌, ◌++◌, refl, sym, ◌∙◌, list_any, ExtHeader}
 use Rattle.ip_dissect.specs.Fragment.{fragments}
 use Rattle.ip_rewrite.specs.Without.{is_authentication}
-use Rattle.ip_rewrite.proofs.SurveyLemmas.{any_last, more_or}
+use Rattle.ip_rewrite.proofs.SelectionLemmas.{any_last, more_or}
 use Rattle.ip_rewrite.proofs.OrderLemmas.{index_there, index_before}
 use Rattle.ip_rewrite.proofs.order.ContentsHeaderVisitor.visit.Goals as goal
 

@@ -1,7 +1,7 @@
 use Rattle.ip_spec.proofs.Common.{◌||◌, sym, ◌∙◌, ap, arith, or_assoc, list_any, ExtHeader}
 use Rattle.ip_rewrite.specs.Without.{is_authentication}
 use Rattle.ip_rewrite.proofs.FrontLemmas.{link_more}
-use Rattle.ip_rewrite.proofs.SurveyLemmas.{any_last}
+use Rattle.ip_rewrite.proofs.SelectionLemmas.{any_last}
 use Rattle.ip_rewrite.proofs.payload.SeenHeaderVisitor.visit.Goals as goal
 
 pub returns : goal.returns

@@ -1,4 +1,4 @@
-use Rattle.ip_spec.proofs.Common.{◌≡◌, ◌+◌, ◌≤◌, ℕ, List, Bool, true, false, [], ◌∷◌, ◌++◌, length, refl, subst, sym, ◌∙◌, ap, arith, append_assoc, IsHeader, ExtHeader, bytes_of}
+use Rattle.ip_spec.proofs.Common.{◌≡◌, ◌+◌, ◌≤◌, ℕ, List, true, false, [], ◌∷◌, ◌++◌, length, subst, sym, ◌∙◌, ap, arith, append_assoc, IsHeader, ExtHeader, bytes_of}
 use Rattle.ip_rewrite.specs.Planning.{is_chosen, chosen}
 use Rattle.ip_rewrite.specs.Request.{cleared_if}
 use Rattle.ip_rewrite.specs.Writing.{AreWritten}

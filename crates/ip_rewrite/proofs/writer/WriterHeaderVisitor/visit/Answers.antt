@@ -1,10 +1,10 @@
-use Rattle.ip_spec.proofs.Common.{◌≡◌, ◌+◌, ◌≤◌, ◌<◌, ◌^◌, ℕ, List, true, false, [], ◌∷◌, ◌++◌, length, refl, subst, sym, ◌∙◌, ap, arith, length-append, ExtHeader, bytes_of}
+use Rattle.ip_spec.proofs.Common.{◌≡◌, ◌+◌, ◌≤◌, List, true, false, [], ◌∷◌, ◌++◌, length, refl, subst, sym, ◌∙◌, ap, arith, length-append, ExtHeader, bytes_of}
 use Rattle.ip_rewrite.specs.Planning.{chosen}
 use Rattle.ip_rewrite.specs.Selection.{selects, kept}
 use Rattle.ip_rewrite.specs.Writing.{AreWritten}
 use Rattle.ip_rewrite.specs.declared.which.Which.{Which}
 use Rattle.ip_rewrite.specs.declared.writer.Choice.{Choice}
-use Rattle.ip_rewrite.proofs.SurveyLemmas.{left_in, left_out}
+use Rattle.ip_rewrite.proofs.SelectionLemmas.{left_in, left_out}
 use Rattle.ip_rewrite.proofs.RequestLemmas.{kept_count, chosen_less}
 use Rattle.ip_rewrite.proofs.writer.WriterHeaderVisitor.visit.Goals as goal
 

@@ -1,7 +1,0 @@
-use Rattle.ip_dissect.specs.Dissection.{dissected}
-use Rattle.ip_rewrite.specs.Writing.{AreWritten, below_rank}
-use Rattle.ip_rewrite.proofs.order.write_headers.Given as goal
-
-abbrev pub invariant-loop-rank : goal.invariant-loop-rank
-invariant-loop-rank l =
-    AreWritten l.offset (dissected l.packet.bytes.now).base l.fn.out (below_rank l.rank l.last_routing (dissected l.packet.bytes.now).headers) l.out l.written.len l.written.link

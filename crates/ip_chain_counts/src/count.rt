@@ -1,12 +1,12 @@
 //! Chains that are counted.
-ghost use Rattle.std.specs.Prelude.{◌≡◌, ◌++◌, ◌∷◌, [], ℕ, List, refl};
+ghost use Rattle.std.specs.Prelude.{◌≡◌, ◌++◌, ◌∷◌, [], ℕ, List};
+ghost use Rattle.std.proofs.Common.{rules};
 ghost use Rattle.ip_dissect.specs.Dissection.{dissected};
 ghost use Rattle.ip_key_counts.specs.Counts.{Counts, keys_counted};
 ghost use Rattle.ip_key_counts.specs.Table.{counts_in, room_of, IsTable};
 ghost use Rattle.ip_chain_counts.specs.Chain.{chain_end, chain_of, numbers_of, keys_of, keys_of_all};
 ghost use Rattle.ip_chain_counts.specs.Counted.{IsChainCounted};
 ghost use Rattle.ip_chain_counts.specs.KeyBytes.{HasBytes};
-ghost use Rattle.ip_chain_counts.proofs.ChainLemmas.{nothing_more};
 ghost use Rattle.ip_statistics.specs.Packet.{counts_of};
 ghost use Rattle.ip_statistics.specs.Statistics.{merged};
 
@@ -47,7 +47,7 @@ impl HeaderVisitor for ChainVisitor<'_, '_> {
         × (new.path.now ≡ old.path.now)
         × ((xs : List ℕ) → HasBytes old.key xs → HasBytes new.key (xs ++ numbers_of c)) };
 
-    ghost none = { λ v k. (refl, refl, refl, λ xs has. nothing_more v.key xs has) };
+    ghost none = { Prim.search rules };
 
     /// Appends the number of the header.
     #[inline(always)]

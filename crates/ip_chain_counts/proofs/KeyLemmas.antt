@@ -3,6 +3,8 @@ use Rattle.std.proofs.Common.{◌≡◌, ℕ, List, [], ◌∷◌, ◌++◌, sym
 use Rattle.std.specs.Prelude.{◌<◌, ◌≤◌, ◌+◌, suc, length, take, set, slice_set, min}
 use Rattle.std.proofs.Math.Seq.{take-set-lt, set-append_seam}
 use Rattle.std.proofs.lemmas.List.{length-append, length_push}
+use Rattle.ip_dissect.specs.Dissection.{DissectedParts}
+use Rattle.ip_chain_counts.specs.Chain.{chain_end, chain_of, numbers_of}
 use Rattle.ip_chain_counts.specs.KeyBytes.{HasBytes}
 use Rattle.ip_chain_counts.specs.declared.key_bytes.KeyBytes.{KeyBytes}
 use Rattle.ip_key_counts.specs.declared.counted_key.TheConstants.{MAX_KEY_LEN}
@@ -53,3 +55,16 @@ three_replaced b xs ys v n e i at has =
           ∙ (ap (λ j. take (length old) (set (set (set b.bytes j v) (j + 1) n) (j + 2) e)) at
           ∙ three_set b.bytes xs ys v n e (length old) l (has.bytes (omega (arith, few, len))));
     }
+
+-- the key of the packet with the parts p after a path: zeros were in the places of its version v, number n and end e
+pub key_made : (old new : KeyBytes) (path : List ℕ) (p : DissectedParts) (v n e : ℕ) → v ≡ p.version → n ≡ p.number → e ≡ chain_end p.end
+    → HasBytes old ((path ++ 0 ∷ 0 ∷ 0 ∷ []) ++ numbers_of p.headers)
+    → (HasBytes old (path ++ 0 ∷ 0 ∷ 0 ∷ numbers_of p.headers) → HasBytes new (path ++ v ∷ n ∷ e ∷ numbers_of p.headers))
+    → HasBytes new (path ++ chain_of p)
+key_made old new path p v n e version number end has put =
+    let ys : List ℕ = numbers_of p.headers in
+    has_as _ _ _
+        (ap (λ (x : ℕ). path ++ x ∷ n ∷ e ∷ ys) version
+        ∙ (ap (λ (x : ℕ). path ++ p.version ∷ x ∷ e ∷ ys) number
+        ∙ ap (λ (x : ℕ). path ++ p.version ∷ p.number ∷ x ∷ ys) end))
+        (put (has_as _ _ _ (append_assoc path (0 ∷ 0 ∷ 0 ∷ []) ys) has))

@@ -12,7 +12,8 @@
  *  - For a condition on such packets: wolfaren_parse_filter once, and then wolfaren_filter_matches.
  *  - For statistics of such packets: wolfaren_count_packet, or wolfaren_count_dissection to dissect them too, and
  *    wolfaren_merge_statistics.
- *  - For counts of their chains: wolfaren_chains_init, wolfaren_chains_add and wolfaren_chains_merge.
+ *  - For counts of their chains: wolfaren_chains_init, wolfaren_chains_add, or wolfaren_count_packet_and_chain for statistics
+ *    too, and wolfaren_chains_merge.
  *  - For many packets in one buffer: wolfaren_count_packets, wolfaren_filter_packets, wolfaren_dissect_packets.
  *  - For packets that must be whole, where an error is a reason to drop them: wolfaren_find_payload, or
  *    wolfaren_parse_packet for the extension headers too. Neither stops at a later fragment, as wolfaren_dissect does.
@@ -515,9 +516,9 @@ bool wolfaren_dissect_packets(const uint8_t *bytes, size_t len, const struct wol
  * order: wolfaren_merge_statistics then returns the statistics of all of them. Any contents are valid input.
  *
  * These calls write statistics, so threads that share them need a lock: wolfaren_init_statistics, wolfaren_count_packet,
- * wolfaren_count_packets, wolfaren_count_dissection, wolfaren_count_other_frame, wolfaren_count_truncated_frame, and
- * wolfaren_merge_statistics for `into`. The last only reads `from`. Threads that count in statistics of their own, merged
- * at the end, need no lock.
+ * wolfaren_count_packets, wolfaren_count_dissection, wolfaren_count_packet_and_chain, wolfaren_count_packets_and_chains,
+ * wolfaren_count_other_frame, wolfaren_count_truncated_frame, and wolfaren_merge_statistics for `into`. The last only reads
+ * `from`. Threads that count in statistics of their own, merged at the end, need no lock.
  *
  * Each packet is counted once in `packets`, once in the three counts by version, and once in the four counts by why its
  * headers end. A packet that starts with an IP header has a chain, possibly of no headers, and is counted once in

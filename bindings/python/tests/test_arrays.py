@@ -69,7 +69,7 @@ class AsSingleCalls(unittest.TestCase):
         statistics = Statistics()
         statistics.add_many(buffer, offsets, lengths)
         self.assertEqual(statistics, counted(cut))
-        self.assertEqual(list(statistics._chains), list(counted(cut)._chains))
+        self.assertEqual(*([name for name in it._chains if name != "other"] for it in (statistics, counted(cut))))
         self.assertEqual(Statistics.from_json(statistics.to_json()), statistics)
 
     def check_parts(self, parts, row):

@@ -64,7 +64,7 @@ pub key_made : (old new : KeyBytes) (path : List ℕ) (p : DissectedParts) (v n 
 key_made old new path p v n e version number end has put =
     let ys : List ℕ = numbers_of p.headers in
     has_as _ _ _
-        (ap (λ (x : ℕ). path ++ x ∷ n ∷ e ∷ ys) version
-        ∙ (ap (λ (x : ℕ). path ++ p.version ∷ x ∷ e ∷ ys) number
-        ∙ ap (λ (x : ℕ). path ++ p.version ∷ p.number ∷ x ∷ ys) end))
-        (put (has_as _ _ _ (append_assoc path (0 ∷ 0 ∷ 0 ∷ []) ys) has))
+    (ap (λ (x : ℕ). path ++ x ∷ n ∷ e ∷ ys) version
+    ∙ (ap (λ (x : ℕ). path ++ p.version ∷ x ∷ e ∷ ys) number
+    ∙ ap (λ (x : ℕ). path ++ p.version ∷ p.number ∷ x ∷ ys) end))
+    (put (has_as _ _ _ (append_assoc path (0 ∷ 0 ∷ 0 ∷ []) ys) has))

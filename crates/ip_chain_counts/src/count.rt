@@ -67,8 +67,7 @@ impl WalkVisitor for ChainVisitor<'_, '_> {
         }
         let end = chain_end(&packet.end());
         let summary = &packet.summary;
-        self.key
-            .put(self.path.len(), summary.version, summary.next_header.0, end);
+        self.key.put(self.path.len(), summary.version, summary.next_header.0, end);
         match self.key.get() {
             Some(key) => self.counts.count(key, 1),
             None => self.counts.count_too_long(1),

@@ -56,12 +56,7 @@ pub extern "C" fn wolfaren_count_packet_and_chain(
     ensures room { room_of chains.new ≡ room_of chains.old }
     ensures seed { chains.new.seed ≡ chains.old.seed }
 {
-    count_packet_and_chain(
-        &mut statistics.packets,
-        chains,
-        path.slice(),
-        bytes.slice(),
-    );
+    count_packet_and_chain(&mut statistics.packets, chains, path.slice(), bytes.slice());
 }
 
 /// Calls `Batch::count_with_chains` with the packets at the spans. Returns whether each span lies within the bytes. If so,

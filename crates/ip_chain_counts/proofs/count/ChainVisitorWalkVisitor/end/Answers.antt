@@ -35,7 +35,7 @@ returns-in-Some c = λ old before.
     let ends : c.chain_end-end.result ≡ chain_end p.end = c.chain_end-end.ensures ∙ ap chain_end c.end.ensures in
     let apart : p.version ≢ 0 = λ none. c.if-packet-eq0.false (version ∙ none) in
     let has : HasBytes old.key (path ++ 0 ∷ 0 ∷ 0 ∷ []) → HasBytes c.put.new.self (path ++ chain_of p) = λ start.
-        key_made c.args.self.now.key c.put.new.self path p _ _ _ version number ends (before.3 _ start) (c.put.ensures path _ (ap length before.2)) in
+    key_made c.args.self.now.key c.put.new.self path p _ _ _ version number ends (before.3 _ start) (c.put.ensures path _ (ap length before.2)) in
     record {
       same_counts = before.0;
       counts = λ start table. c.count.ensures.counts (subst IsTable (sym before.1) table)
@@ -57,7 +57,7 @@ returns-in-None c = λ old before.
     let ends : c.chain_end-end.result ≡ chain_end p.end = c.chain_end-end.ensures ∙ ap chain_end c.end.ensures in
     let apart : p.version ≢ 0 = λ none. c.if-packet-eq0.false (version ∙ none) in
     let has : HasBytes old.key (path ++ 0 ∷ 0 ∷ 0 ∷ []) → HasBytes c.put.new.self (path ++ chain_of p) = λ start.
-        key_made c.args.self.now.key c.put.new.self path p _ _ _ version number ends (before.3 _ start) (c.put.ensures path _ (ap length before.2)) in
+    key_made c.args.self.now.key c.put.new.self path p _ _ _ version number ends (before.3 _ start) (c.put.ensures path _ (ap length before.2)) in
     record {
       same_counts = before.0;
       counts = λ start table. c.count_too_long.ensures.counts (path ++ chain_of p) (c.in-None.ensures.too_many (path ++ chain_of p) (has start) refl) (subst IsTable (sym before.1) table)

@@ -1,6 +1,6 @@
 -- The bytes of keys.
 use Rattle.std.proofs.Common.{◌≡◌, ℕ, List, [], ◌∷◌, ◌++◌, sym, ap, ◌∙◌, subst, append_assoc, arith}
-use Rattle.std.specs.Prelude.{◌<◌, ◌≤◌, ◌+◌, suc, length, take, set, slice_set, min}
+use Rattle.std.specs.Prelude.{◌<◌, ◌+◌, length, take, set, slice_set, min}
 use Rattle.std.proofs.Math.Seq.{take-set-lt, set-append_seam}
 use Rattle.std.proofs.lemmas.List.{length-append, length_push}
 use Rattle.ip_dissect.specs.Dissection.{DissectedParts}

@@ -1,4 +1,4 @@
-use Rattle.std.proofs.Common.{[], ℕ, List}
+use Rattle.std.proofs.Common.{[]}
 use Rattle.ip_chain_counts.proofs.KeyLemmas.{has_as, joined}
 use Rattle.ip_chain_counts.proofs.key_bytes.KeyBytes.after.Goals as goal
 

@@ -1,6 +1,3 @@
-use Rattle.std.proofs.Common.{◌≡◌, ◌++◌, ◌∷◌, [], ℕ, List}
-use Rattle.ip_chain_counts.specs.KeyBytes.{HasBytes}
-use Rattle.ip_chain_counts.specs.declared.key_bytes.KeyBytes.{KeyBytes}
 use Rattle.ip_chain_counts.proofs.KeyLemmas.{three_replaced}
 use Rattle.ip_chain_counts.proofs.key_bytes.KeyBytes.put.Goals as goal
 

@@ -232,7 +232,8 @@ class Statistics:
         for start in range(0, packets.count, _TOGETHER):
             lib.wolfaren_chains_clear(chains.counts)
             packets.pass_to(lib.wolfaren_count_packets_and_chains, counted._counts, chains.counts, start=start, most=_TOGETHER)
-            counted._add_chains(chains.named())
+            for name, count in chains.named().items():  # as many as there are: what has room is decided below
+                counted._chains[name] = counted._chains.get(name, 0) + count
         self += counted
 
     def _add_chains(self, chains: Mapping[str, int]) -> None:

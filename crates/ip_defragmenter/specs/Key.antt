@@ -2,7 +2,7 @@
 use Rattle.std.specs.Prelude.{◌≡◌, ℕ, ◌<◌, ◌+◌, ◌*◌, ◌^◌, length, Bool, false, ◌&&◌, ◌==◌, List, [], ◌∷◌, slice_index}
 use Rattle.std.specs.Int.{from_be_bytes, w32}
 use Rattle.std.specs.Str.{bytes_eq}
-use Rattle.ip_defragmenter.specs.SipHash.{sip_hash}
+use Rattle.ip_hash.specs.SipHash.{sip_hash}
 use Rattle.ip_defragmenter.specs.declared.key.FragmentKey.{FragmentKey}
 use Rattle.ip_defragmenter.specs.declared.key.FragmentKey.TheVariants.{Ipv4, Ipv6}
 

@@ -1,7 +1,6 @@
 pub mod Split
 pub mod Finder
 pub mod FragmentOf
-pub mod SipHash
 pub mod Key
 pub mod Slot
 pub mod Slots

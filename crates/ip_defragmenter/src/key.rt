@@ -3,8 +3,8 @@
 ghost use Rattle.std.specs.Prelude.{◌≡◌, ◌<◌, ◌+◌, ◌*◌, length};
 ghost use Rattle.ip_defragmenter.specs.Key.{IsKey, hash_of, word_at, long_at};
 
-use crate::siphash::sip_hash;
 use ip_base::IpNumber;
+use ip_hash::sip_hash;
 
 /// What all fragments of one packet have in common, and those of two packets don't (RFC 791, section 3.2; RFC 8200,
 /// section 4.5).

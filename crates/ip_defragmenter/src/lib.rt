@@ -70,7 +70,6 @@ mod pending;
 mod points;
 mod sent_laws;
 mod settings;
-mod siphash;
 mod slot;
 mod slot_laws;
 mod slots;

@@ -18,7 +18,11 @@ pub extern "C" fn wolfaren_version() -> u32
 /// Returns the checksum of the structs, codes and calls.
 #[unsafe(no_mangle)]
 pub extern "C" fn wolfaren_abi() -> u32
+<<<<<<< HEAD
     ensures { result ≡ 2802179328 }
+=======
+    ensures { result ≡ 3201130622 }
+>>>>>>> origin/chain-tables
 {
     ABI
 }

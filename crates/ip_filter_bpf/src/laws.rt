@@ -19,6 +19,4 @@ pub fn verdicts_err_on_one_side(filter: &Filter)
         → passes (tests_of filter.now) (λ x. meets x (dissected s)) ≡ true }
     ensures exact { (u : Undecided) (s : List ℕ) → list_all is_decided (tests_of filter.now) ≡ true
         → verdict u filter.now s ≡ passes (tests_of filter.now) (λ x. meets x (dissected s)) }
-{
-    let _ = filter.used_tests();
-}
+{}

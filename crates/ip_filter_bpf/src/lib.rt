@@ -3,7 +3,7 @@
 //!
 //! | To | Call |
 //! |---|---|
-//! | compile a filter | `compile_filter`, then `Assembler::program` of `ip_bpf` |
+//! | compile a filter | `compile_filter` to an `Assembler` of `ip_bpf`, then `Assembler::program` |
 //!
 //! - The kernel accepts each program, and it fits: no filter is too long.
 //! - A program decides tests of addresses (`is_decided`). A packet that comes to another test is accepted with
@@ -12,7 +12,7 @@
 //!   Where it decides all tests, it accepts exactly the packets that the filter matches (`verdicts_err_on_one_side`).
 //! - This holds for each packet of less than 4 GiB, also for bytes without a base header.
 //!
-//! No crate here calls it.
+//! `wolfaren_compile_filter` of `ipexts_c` calls it.
 #![tactic(auto)]
 
 mod blocks;

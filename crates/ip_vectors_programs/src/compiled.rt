@@ -1,4 +1,5 @@
 //! Tests: filters that are compiled, on packets whose addresses are in the networks or not.
+use ip_bpf::Assembler;
 use ip_filter::Filter;
 use ip_filter_bpf::{Undecided, compile_filter};
 use std::process::Abort;
@@ -13,7 +14,8 @@ const IPV6: &[u8; 40] =
 /// Checks whether the program of a filter accepts a packet.
 fn check(rt: &impl Abort, text: &str, undecided: Undecided, packet: &[u8], wanted: bool) {
     let filter = Filter::parse(text.as_bytes()).expect(rt, "the text is a filter");
-    let code = compile_filter(&filter, undecided);
+    let mut code = Assembler::new();
+    compile_filter(&filter, undecided, &mut code);
     let program = code.program().expect(rt, "the program is accepted");
     let result = program.run(packet);
     assert!(rt;

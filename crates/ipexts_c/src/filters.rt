@@ -1,17 +1,22 @@
 //! Filters.
-ghost use Rattle.std.specs.Prelude.{◌≡◌, ◌≤◌, ◌<◌, ◌+◌, drop, length, slice_index, false, IsTrue, Some, None};
+ghost use Rattle.std.specs.Prelude.{◌≡◌, ◌≤◌, ◌<◌, ◌+◌, ◌↔◌, List, drop, take, length, slice_index, false, IsTrue, Some, None, if◌then◌else◌};
 ghost use Rattle.ip_dissect.specs.Dissection.{dissected};
 ghost use Rattle.ip_filter.specs.Tests.{meets};
 ghost use Rattle.ip_filter.specs.Program.{tests_of, passes};
 ghost use Rattle.ip_filter.specs.Parsed.{IsParsedFilter, IsFirstError};
 ghost use Rattle.ip_filter.specs.declared.parse_error.Expected.{Expected as WasExpected};
+ghost use Rattle.ip_bpf.specs.declared.instruction.Instruction.{Instruction as BpfInstruction};
+ghost use Rattle.ip_filter_bpf.specs.Compiled.{IsCompiled};
+ghost use Rattle.ip_filter_bpf.specs.declared.undecided.Undecided.TheVariants.{Keep, Drop};
 ghost use Rattle.ip_spans.specs.FilterError.{expected_code};
 ghost use Rattle.ip_spans.specs.HeaderSpan.{filled};
 ghost use Rattle.ip_batches.specs.Batch.{packets_at, first_outside, matches_of};
 
 use crate::bytes::Bytes;
 use ip_batches::{Batch, PacketSpan};
+use ip_bpf::{Assembler, Instruction};
 use ip_filter::Filter;
+use ip_filter_bpf::{Undecided, compile_filter};
 use ip_spans::{FilterError, expected_text, parse_filter};
 
 /// Calls `parse_filter`. Returns whether the text is a filter. If so, stores it in `filter`, and `error` is unchanged;
@@ -93,4 +98,37 @@ pub extern "C" fn wolfaren_filter_matches_other(filter: &Filter) -> bool
     ensures { result ≡ passes (tests_of filter.now) (λ x. false) }
 {
     filter.matches_other()
+}
+
+/// Calls `compile_filter`, with `Keep` if `keeps_undecided` is true, otherwise with `Drop`. Stores the number of instructions in
+/// `count`, and returns whether they fit. If so, stores them in `instructions`; otherwise `instructions` is unchanged.
+#[unsafe(no_mangle)]
+pub extern "C" fn wolfaren_compile_filter(
+    filter: &Filter,
+    keeps_undecided: bool,
+    instructions: &mut [Instruction],
+    count: &mut usize,
+) -> bool
+    ensures fits { IsTrue result ↔ (count.new ≤ length instructions.old) }
+    ensures compiled { let u = if keeps_undecided then Keep else Drop in
+        IsTrue result → IsCompiled u filter.now (take count.new instructions.new) }
+    ensures after { IsTrue result → drop count.new instructions.new ≡ drop count.new instructions.old }
+    ensures same { result ≡ false → instructions.new ≡ instructions.old }
+    ensures count { let u = if keeps_undecided then Keep else Drop in
+        (program : List BpfInstruction) × IsCompiled u filter.now program × (length program ≡ count.new) }
+{
+    let undecided = if keeps_undecided {
+        Undecided::Keep
+    } else {
+        Undecided::Drop
+    };
+    let mut code = Assembler::new();
+    compile_filter(filter, undecided, &mut code);
+    let program = code.instructions();
+    *count = program.len();
+    if instructions.len() < program.len() {
+        return false;
+    }
+    instructions[..program.len()].copy_from_slice(program);
+    true
 }

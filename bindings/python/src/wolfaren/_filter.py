@@ -3,8 +3,9 @@
 from __future__ import annotations
 
 from collections.abc import Callable
-from typing import Any
+from typing import Any, Literal
 
+from ._bpf import BpfProgram, compile_filter
 from ._captures import Path, Written, write_matching
 from ._library import Buffer, ffi, lib, text_of
 from ._many import Packets
@@ -141,6 +142,15 @@ class Filter:
     def matches_other_frame(self) -> bool:
         """Returns whether a frame without an IP packet meets the condition, as it meets `not fault`."""
         return bool(lib.wolfaren_filter_matches_other(self._filter))
+
+    def to_bpf(self, undecided: Literal["keep", "drop"] | None = None) -> BpfProgram:
+        """Compiles the condition to a program of classic BPF, for packets that begin with an IP header.
+
+        The program decides the terms `src`, `dst`, `net` and `host`. If there are other terms, `undecided` has to be given: with
+        `"keep"` the program accepts the packets that it can't decide, and so each packet that meets the condition; with
+        `"drop"` it refuses them, and accepts no packet that doesn't meet it. Otherwise raises `ValueError`.
+        """
+        return compile_filter(self._filter, undecided)
 
     def write(self, path_in: Path, path_out: Path) -> Written:
         """Writes the frames of a capture that meet the condition to another file, and returns how many were read and written.

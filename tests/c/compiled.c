@@ -172,7 +172,7 @@ static void make_packet(void)
     const bool is_ipv4 = draw(2);
     len = is_ipv4 ? 20 + draw(40) : 40 + draw(40);
     draw_bytes(packet, len, draw(2) ? 3 : 256);
-    packet[0] = (uint8_t)(is_ipv4 ? 0x45 + draw(draw(4) ? 1 : 4) : 0x60);
+    packet[0] = (uint8_t)(is_ipv4 ? 0x45 + draw(draw(4) ? 1 : 4) : 0x60 + draw(draw(4) ? 1 : 16));
     packet[is_ipv4 ? 3 : 5] = (uint8_t)(is_ipv4 ? len : len - 40);
     memset(packet + (is_ipv4 ? 12 : 8), 0, is_ipv4 ? 8 : 32);
     for (size_t i = 0; i < 2; i++) {
@@ -188,10 +188,15 @@ static void make_packet(void)
 static void append_term(char *text, bool *is_decided)
 {
     static const char *const directions[] = {"src", "dst", "net"}, *const others[] = {"fault", "payload > 9", "header 44", "tcp"};
+    static const char *const fields[] = {"ttl", "hop-limit", "dscp", "ecn", "flow"};
+    static const char *const comparisons[] = {"=", "!=", "<", "<=", ">", ">="};
+    static const unsigned long long numbers[] = {0, 1, 2, 3, 16, 63, 255, 0xfffff, 0xfffffffe, 0xffffffff, 1ULL << 32, UINT64_MAX};
     char term[64];
     if (draw(8) == 0) {
         *is_decided = false;
         strcpy(term, others[draw(4)]);
+    } else if (draw(3) == 0) {
+        snprintf(term, sizeof term, "%s %s %llu", fields[draw(5)], comparisons[draw(6)], draw(2) ? draw(70) : numbers[draw(12)]);
     } else if (draw(2)) {
         snprintf(term, sizeof term, "%s 10.%u.0.%u/%u", directions[draw(3)], (unsigned)draw(2), (unsigned)draw(2), (unsigned)draw(33));
     } else {
@@ -256,6 +261,30 @@ static void undecided_tests(void)
     check(!accepts(&kept) && !accepts(&dropped) && are_equal(), "a filter without tests");
 }
 
+/* Whether the programs of a text, which has to be decided, accept the packet. */
+static bool is_accepted(const char *text)
+{
+    struct wolfaren_filter filter;
+    parse(text, &filter);
+    compile(&filter);
+    check(are_equal() && accepts(&kept) == accepts(&dropped), text);
+    return accepts(&kept);
+}
+
+/* Fields of base headers that RFC 791 and RFC 8200 lay out. */
+static void known_fields(void)
+{
+    static const uint8_t ipv4[20] = {0x45, 0xb9, 0, 20, [8] = 7}, ipv6[40] = {0x6b, 0x9c, 0xde, 0xf1, [7] = 9};
+    memcpy(packet, ipv4, len = sizeof ipv4);
+    check(is_accepted("ttl = 7 and hop-limit < 8 and dscp = 46 and ecn = 1"), "fields of IPv4");
+    check(!is_accepted("flow >= 0") && !is_accepted("ttl > 4294967303") && is_accepted("dscp != 4294967342"), "numbers of 64 bits");
+    memcpy(packet, ipv6, len = sizeof ipv6);
+    check(is_accepted("ttl = 9 and hop-limit >= 9 and dscp = 46 and ecn = 1 and flow = 0xcdef1"), "fields of IPv6");
+    check(!is_accepted("flow > 0xcdef1") && is_accepted("flow <= 0xcdef1") && !is_accepted("ecn = 9"), "numbers that differ by a bit");
+    len = 39;
+    check(!is_accepted("flow >= 0") && is_accepted("not ttl >= 0"), "fields of a truncated header");
+}
+
 /* The source 10.0.0.1 at offset 12 and its network of 8 bits, by bpf(4). */
 static void known_packets(void)
 {
@@ -310,6 +339,7 @@ int main(void)
 {
     random_filters();
     undecided_tests();
+    known_fields();
     known_packets();
     rooms();
     longest_filter();

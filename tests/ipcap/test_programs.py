@@ -17,7 +17,7 @@ ALL, NONE = 0xFFFFFFFF, 0
 PACKETS = {name: frame[18 if frame[12:14] == b"\x81\x00" else 14:] for name, frame in FRAMES.items() if name != "arp"}
 
 # Terms that a program decides: conditions of these alone need no `--undecided`.
-DECIDED = re.compile(r"(src|dst|net|and|not) ?|[0-9a-f.:]+(/\d+)? ?")
+DECIDED = re.compile(r"(src|dst|net|and|not|ttl|hop-limit|dscp|ecn|flow) ?|[=!<>]+ (0x)?[0-9a-f]+ ?|[0-9a-f.:]+(/\d+)? ?")
 
 
 def is_decided(condition):

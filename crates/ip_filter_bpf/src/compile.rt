@@ -23,7 +23,7 @@ const ACCEPT: usize = 2;
 /// Compiles a filter to a program that the kernel accepts, for packets that begin with an IP header. Replaces what is in `code`.
 ///
 /// For each packet of less than 4 GiB the program returns 2^32 - 1 where the tests that it decides let the packet pass
-/// (`verdict`), and otherwise 0. It decides tests of addresses. It leads a packet that comes to another test to the end that
+/// (`verdict`), and otherwise 0. It decides tests of addresses and of fields of the base header. It leads a packet that comes to another test to the end that
 /// `undecided` names.
 pub fn compile_filter(filter: &Filter, undecided: Undecided, code: &mut Assembler)
     ensures accepted { IsProgram code.new }

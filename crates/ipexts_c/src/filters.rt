@@ -14,9 +14,9 @@ ghost use Rattle.ip_batches.specs.Batch.{packets_at, first_outside, matches_of};
 
 use crate::bytes::Bytes;
 use ip_batches::{Batch, PacketSpan};
-use ip_bpf::{Assembler, Instruction};
+use ip_bpf::Instruction;
 use ip_filter::Filter;
-use ip_filter_bpf::{Undecided, compile_filter};
+use ip_filter_bpf::{Undecided, write_program};
 use ip_spans::{FilterError, expected_text, parse_filter};
 
 /// Calls `parse_filter`. Returns whether the text is a filter. If so, stores it in `filter`, and `error` is unchanged;
@@ -100,8 +100,19 @@ pub extern "C" fn wolfaren_filter_matches_other(filter: &Filter) -> bool
     filter.matches_other()
 }
 
-/// Calls `compile_filter`, with `Keep` if `keeps_undecided` is true, otherwise with `Drop`. Stores the number of instructions in
-/// `count`, and returns whether they fit. If so, stores them in `instructions`; otherwise `instructions` is unchanged.
+/// Returns what a program does with packets that it can't decide.
+fn undecided(keeps: bool) -> Undecided
+    ensures { result ≡ (if keeps then Keep else Drop) }
+{
+    if keeps {
+        Undecided::Keep
+    } else {
+        Undecided::Drop
+    }
+}
+
+/// Calls `write_program`, with `Keep` if `keeps_undecided` is true, otherwise with `Drop`. Stores the number of instructions in
+/// `count`, and returns whether they fit.
 #[unsafe(no_mangle)]
 pub extern "C" fn wolfaren_compile_filter(
     filter: &Filter,
@@ -110,25 +121,13 @@ pub extern "C" fn wolfaren_compile_filter(
     count: &mut usize,
 ) -> bool
     ensures fits { IsTrue result ↔ (count.new ≤ length instructions.old) }
+    ensures count { let u = if keeps_undecided then Keep else Drop in
+        (program : List BpfInstruction) × IsCompiled u filter.now program × (length program ≡ count.new) }
     ensures compiled { let u = if keeps_undecided then Keep else Drop in
         IsTrue result → IsCompiled u filter.now (take count.new instructions.new) }
     ensures after { IsTrue result → drop count.new instructions.new ≡ drop count.new instructions.old }
     ensures same { result ≡ false → instructions.new ≡ instructions.old }
-    ensures count { let u = if keeps_undecided then Keep else Drop in
-        (program : List BpfInstruction) × IsCompiled u filter.now program × (length program ≡ count.new) }
 {
-    let undecided = if keeps_undecided {
-        Undecided::Keep
-    } else {
-        Undecided::Drop
-    };
-    let mut code = Assembler::new();
-    compile_filter(filter, undecided, &mut code);
-    let program = code.instructions();
-    *count = program.len();
-    if instructions.len() < program.len() {
-        return false;
-    }
-    instructions[..program.len()].copy_from_slice(program);
-    true
+    *count = write_program(filter, undecided(keeps_undecided), instructions);
+    *count <= instructions.len()
 }

@@ -2,6 +2,7 @@
 use Rattle.std.proofs.Common.{◌≡◌, ◌≢◌, ◌⊎◌, ℕ, ◌+◌, ◌-◌, ◌*◌, ◌/◌, ◌%◌, ◌^◌, ◌<◌, ◌≤◌, Bool, true, false, cond, ◌&&◌, not, nat_lt, nat_le, bit_and, List, length, take, inl, inr, refl, sym, ap, subst, ◌∙◌, arith, ne_eqb}
 use Rattle.std.specs.Prelude.{Option, Some, None, ◌==◌, slice_index}
 use Rattle.std.specs.Option.{option_map_or}
+use Rattle.std.proofs.Math.Nat.{div-le_self}
 use Rattle.std.proofs.lemmas.Nat.{and_mask}
 use Rattle.std.proofs.lemmas.Grind.{common_steps}
 use Rattle.std.proofs.lemmas.Bool.{cases_lt, lt-ltb, le-ltb, le-leb, lt-leb}
@@ -38,6 +39,9 @@ number_small packet k width.HalfWord bytes =
     omega (arith, a, b)
 number_small packet k width.Byte bytes = let a = bytes k in omega (arith, a)
 
+pub shifted_small : (n k : ℕ) → n < 2 ^ 32 → n / 2 ^ k < 2 ^ 32
+shifted_small n k small = let less = div-le_self n (2 ^ k) in omega (arith, small, less)
+
 byte_as_it_is : (n : ℕ) → n < 256 → bit_and (n / 2 ^ 0) 0xffff_ffff ≡ n
 byte_as_it_is n small = and_mask (n / 2 ^ 0) 32 ∙ omega arith
 
@@ -60,7 +64,7 @@ label_low a b c d small_a small_b small_c small_d = and_mask ((0x100_0000 * a + 
 -- ---- the fields of a packet
 
 -- the packet has the quantity in the field
-record pub HasField (q : Quantity) (f : Field) (s : List ℕ) : Type 0 where
+pub record HasField (q : Quantity) (f : Field) (s : List ℕ) : Type 0 where
   pub value : quantity_of q (dissected s) ≡ Some (field_value f s)
   pub small : field_value f s < 2 ^ 32 - 1
   pub there : f.offset + width_len f.width ≤ length s
@@ -181,7 +185,7 @@ module _ (s : List ℕ) (bytes : HasBytes s) (six : (dissected s).version ≡ 6)
 -- ---- tests
 
 -- the test compares the field
-record pub Compares (x : Test) (f : Field) (s : List ℕ) : Type 0 where
+pub record Compares (x : Test) (f : Field) (s : List ℕ) : Type 0 where
   pub met : meets x (dissected s) ≡ option_map_or (λ c. compares c (field_value f s) x.number) (comparison_in x.comparison) false
   pub small : field_value f s < 2 ^ 32 - 1
   pub there : f.offset + width_len f.width ≤ length s
@@ -258,7 +262,7 @@ module _ (x : Test) (s : List ℕ) (bytes : HasBytes s) where
 
 -- ---- the field that a test compares
 
-record pub Fits (v : Version) (f : Field) : Type 0 where
+pub record Fits (v : Version) (f : Field) : Type 0 where
   pub room : 6 ≤ 2 * room_of v
   pub near : f.offset < 64
   pub few : f.shift < 32
@@ -284,7 +288,7 @@ fits kind version.Ipv6 f e = fits6 (kind == 12) (kind == 13) (kind == 14) (kind 
 -- ---- comparisons
 
 -- k is the number n, or the greatest of 32 bits if n is greater
-record pub Lowered (n k : ℕ) : Type 0 where
+pub record Lowered (n k : ℕ) : Type 0 where
   pub same : n < 2 ^ 32 → k ≡ n
   pub more : 2 ^ 32 ≤ n → k ≡ 2 ^ 32 - 1
 

@@ -19,8 +19,8 @@
 mod blocks;
 mod compared;
 mod compile;
+mod exactness;
 mod fields;
-mod laws;
 mod start;
 mod tests_of_base;
 mod undecided;
@@ -28,6 +28,6 @@ mod version;
 mod written;
 
 pub use compile::compile_filter;
-pub use laws::verdicts_err_on_one_side;
+pub use exactness::verdicts_err_on_one_side;
 pub use undecided::Undecided;
 pub use written::write_program;

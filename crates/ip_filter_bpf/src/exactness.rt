@@ -1,4 +1,4 @@
-//! Laws of compiled filters, each proved as the contract of a call.
+//! What a compiled filter says of packets.
 ghost use Rattle.std.specs.Prelude.{◌≡◌, ℕ, List, true};
 ghost use Rattle.std.specs.List.{list_all};
 ghost use Rattle.ip_dissect.specs.Dissection.{dissected};
@@ -19,4 +19,6 @@ pub fn verdicts_err_on_one_side(filter: &Filter)
         → passes (tests_of filter.now) (λ x. meets x (dissected s)) ≡ true }
     ensures exact { (u : Undecided) (s : List ℕ) → list_all is_decided (tests_of filter.now) ≡ true
         → verdict u filter.now s ≡ passes (tests_of filter.now) (λ x. meets x (dissected s)) }
-{}
+{
+    let _ = filter.used_tests();
+}

@@ -30,6 +30,14 @@ returns-in-12-to-15-clause-leads c = λ packet r of_version bytes h.
     c.put_quantity.ensures.leads packet r of_version bytes
     (subst (λ (l : ℕ). Returns c.args.code.now l packet r) (by_quantity c.args.test.now (dissected packet) c.args.if_met c.args.if_not c.args.if_undecided (field_kind c.args.test.now.kind low high)) h)
 
+pub returns-in_default-clause-leads : goal.returns-in_default-clause-leads
+returns-in_default-clause-leads c = λ packet r of_version bytes h.
+    let a : c.args.test.now.kind ≢ 8 = omega arith in
+    let b : c.args.test.now.kind ≢ 9 = omega arith in
+    let d : c.args.test.now.kind ≢ 10 = omega arith in
+    let out : (c.args.test.now.kind < 12) ⊎ (15 < c.args.test.now.kind) = elim (cases_lt c.args.test.now.kind 12) [ inl less ↦ inl less | inr above ↦ inr (omega arith) ] in
+    subst (λ (l : ℕ). Returns c.args.code.now l packet r) (by_none c.args.test.now (dissected packet) c.args.if_met c.args.if_not c.args.if_undecided a b d (other_kind c.args.test.now.kind out)) h
+
 pub returns-in_default-2-clause-leads : goal.returns-in_default-2-clause-leads
 returns-in_default-2-clause-leads c = λ packet r of_version bytes h.
     let a : c.args.test.now.kind ≢ 8 = omega arith in

@@ -1512,8 +1512,9 @@ struct wolfaren_bpf_instruction {
  * unchanged.
  *
  * Linux accepts the program. Of a packet it returns 0xffffffff, which accepts all bytes, or 0, which rejects it; a packet of 4 GiB
- * or more is not considered. The program decides tests of addresses, of kinds WOLFAREN_TEST_SOURCE, WOLFAREN_TEST_DESTINATION
- * and WOLFAREN_TEST_EITHER. It accepts a packet that comes to any other test if `keeps_undecided` is true, and rejects it
+ * or more is not considered. The program decides tests of addresses and of fields of the base header: of kinds WOLFAREN_TEST_SOURCE,
+ * WOLFAREN_TEST_DESTINATION, WOLFAREN_TEST_EITHER, WOLFAREN_TEST_HOP_LIMIT, WOLFAREN_TEST_DSCP, WOLFAREN_TEST_ECN and
+ * WOLFAREN_TEST_FLOW_LABEL. It accepts a packet that comes to any other test if `keeps_undecided` is true, and rejects it
  * otherwise. So with `keeps_undecided` it accepts each packet that the filter matches, for a program in front of
  * wolfaren_filter_matches; without, it accepts no packet that the filter doesn't match. If both programs of a filter are equal,
  * they accept exactly the packets that it matches.

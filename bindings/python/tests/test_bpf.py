@@ -12,7 +12,7 @@ from wolfaren import BpfProgram, Filter
 # Packets whose addresses are 192.0.2.1 and 192.0.2.2, or 2001:db8::1 and 2001:db8::2.
 ALL = {"ipv4": ipv4(6, TCP), "udp": ipv6(17, UDP), "chain": ipv6_chain([0, 60, 43, 44, 51]), "truncated": ipv6(17, UDP)[:39], "empty": b"\0"}
 EXACT = {"src 192.0.2.1": "ipv4", "dst 192.0.2.1": "", "net 2001:db8::/32": "udp chain", "host 2001:db8::2 or host 192.0.2.2": "ipv4 udp chain",
-         "not src 2001:db8::1": "ipv4 truncated empty"}
+         "not src 2001:db8::1": "ipv4 truncated empty", "ttl = 64 and ecn = 0": "ipv4 udp chain", "flow >= 0": "udp chain"}
 # Of these the program doesn't decide all terms: at least and at most which packets it accepts.
 UNDECIDED = {"header 44": ("chain", "chain"), "src 192.0.2.1 and not fault": ("ipv4", "ipv4"), "dst 192.0.2.1 and tcp": ("", "")}
 

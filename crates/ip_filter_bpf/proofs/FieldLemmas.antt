@@ -140,9 +140,9 @@ module _ (s : List ℕ) (bytes : HasBytes s) (six : (dissected s).version ≡ 6)
       let e : field_value (field_at width.HalfWord 0 6 63) s ≡ (16 * (slice_index s 0 % 16) + slice_index s 1 / 16) / 4 = class_high (slice_index s 0) (slice_index s 1) a b in
       record {
         value = ap (quantity_of quantity.Dscp) (at6 s is.none is.other)
-          ∙ ap (λ (n : ℕ). Some ((16 * (n % 16) + slice_index (take 40 s) 1 / 16) / 4)) (in_base6 0 (omega arith))
-          ∙ ap (λ (n : ℕ). Some ((16 * (slice_index s 0 % 16) + n / 16) / 4)) (in_base6 1 (omega arith))
-          ∙ ap Some (sym e);
+            ∙ ap (λ (n : ℕ). Some ((16 * (n % 16) + slice_index (take 40 s) 1 / 16) / 4)) (in_base6 0 (omega arith))
+            ∙ ap (λ (n : ℕ). Some ((16 * (slice_index s 0 % 16) + n / 16) / 4)) (in_base6 1 (omega arith))
+            ∙ ap Some (sym e);
         small = subst (λ (n : ℕ). n < 2 ^ 32 - 1) (sym e) (omega (arith, a, b));
         there = omega (arith, long);
       }
@@ -156,9 +156,9 @@ module _ (s : List ℕ) (bytes : HasBytes s) (six : (dissected s).version ≡ 6)
       let e : field_value (field_at width.HalfWord 0 4 3) s ≡ (16 * (slice_index s 0 % 16) + slice_index s 1 / 16) % 4 = class_low (slice_index s 0) (slice_index s 1) a b in
       record {
         value = ap (quantity_of quantity.Ecn) (at6 s is.none is.other)
-          ∙ ap (λ (n : ℕ). Some ((16 * (n % 16) + slice_index (take 40 s) 1 / 16) % 4)) (in_base6 0 (omega arith))
-          ∙ ap (λ (n : ℕ). Some ((16 * (slice_index s 0 % 16) + n / 16) % 4)) (in_base6 1 (omega arith))
-          ∙ ap Some (sym e);
+            ∙ ap (λ (n : ℕ). Some ((16 * (n % 16) + slice_index (take 40 s) 1 / 16) % 4)) (in_base6 0 (omega arith))
+            ∙ ap (λ (n : ℕ). Some ((16 * (slice_index s 0 % 16) + n / 16) % 4)) (in_base6 1 (omega arith))
+            ∙ ap Some (sym e);
         small = subst (λ (n : ℕ). n < 2 ^ 32 - 1) (sym e) (omega (arith, a, b));
         there = omega (arith, long);
       }
@@ -174,10 +174,10 @@ module _ (s : List ℕ) (bytes : HasBytes s) (six : (dissected s).version ≡ 6)
       let e : field_value (field_at width.Word 0 0 0xf_ffff) s ≡ 65536 * (slice_index s 1 % 16) + 256 * slice_index s 2 + slice_index s 3 = label_low (slice_index s 0) (slice_index s 1) (slice_index s 2) (slice_index s 3) a b c d in
       record {
         value = ap (quantity_of quantity.FlowLabel) (at6 s is.none is.other)
-          ∙ ap (λ (n : ℕ). Some (65536 * (n % 16) + 256 * slice_index (take 40 s) 2 + slice_index (take 40 s) 3)) (in_base6 1 (omega arith))
-          ∙ ap (λ (n : ℕ). Some (65536 * (slice_index s 1 % 16) + 256 * n + slice_index (take 40 s) 3)) (in_base6 2 (omega arith))
-          ∙ ap (λ (n : ℕ). Some (65536 * (slice_index s 1 % 16) + 256 * slice_index s 2 + n)) (in_base6 3 (omega arith))
-          ∙ ap Some (sym e);
+            ∙ ap (λ (n : ℕ). Some (65536 * (n % 16) + 256 * slice_index (take 40 s) 2 + slice_index (take 40 s) 3)) (in_base6 1 (omega arith))
+            ∙ ap (λ (n : ℕ). Some (65536 * (slice_index s 1 % 16) + 256 * n + slice_index (take 40 s) 3)) (in_base6 2 (omega arith))
+            ∙ ap (λ (n : ℕ). Some (65536 * (slice_index s 1 % 16) + 256 * slice_index s 2 + n)) (in_base6 3 (omega arith))
+            ∙ ap Some (sym e);
         small = subst (λ (n : ℕ). n < 2 ^ 32 - 1) (sym e) (omega (arith, a, b, c, d));
         there = omega (arith, long);
       }

@@ -31,6 +31,17 @@ fn check_both(rt: &impl Abort, text: &str, packet: &[u8], wanted: bool) {
 }
 
 #[test]
+fn fields_of_base_headers(rt: HostRuntime) {
+    check_both(&rt, "ttl = 64", IPV4, true);
+    check_both(&rt, "hop-limit < 64", IPV4, false);
+    check_both(&rt, "dscp = 0 and ecn = 0", IPV4, true);
+    check_both(&rt, "flow >= 0", IPV4, false);
+    check_both(&rt, "ttl <= 64", IPV6, true);
+    check_both(&rt, "ttl > 64", IPV6, false);
+    check_both(&rt, "flow = 0 and dscp != 1", IPV6, true);
+}
+
+#[test]
 fn ipv4_addresses(rt: HostRuntime) {
     check_both(&rt, "src net 10.0.0.0/8", IPV4, true);
     check_both(&rt, "src net 11.0.0.0/8", IPV4, false);

@@ -146,8 +146,8 @@ class Filter:
     def to_bpf(self, undecided: Literal["keep", "drop"] | None = None) -> BpfProgram:
         """Compiles the condition to a program of classic BPF, for packets that begin with an IP header.
 
-        The program decides the terms `src`, `dst`, `net` and `host`. If there are other terms, `undecided` has to be given: with
-        `"keep"` the program accepts the packets that it can't decide, and so each packet that meets the condition; with
+        The program decides `src`, `dst`, `net`, `host`, `hop-limit`, `ttl`, `dscp`, `ecn` and `flow`. If there are other terms,
+        `undecided` has to be given: with `"keep"` the program accepts the packets that it can't decide, and so each packet that meets the condition; with
         `"drop"` it refuses them, and accepts no packet that doesn't meet it. Otherwise raises `ValueError`.
         """
         return compile_filter(self._filter, undecided)

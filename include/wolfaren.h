@@ -9,7 +9,8 @@
  *  - For the frames of a capture file: wolfaren_begin_capture once, and then wolfaren_next_record.
  *  - For the IP packet in a frame of a link layer: wolfaren_find_ip.
  *  - For packets as they were captured, which may be truncated or fragments: wolfaren_dissect.
- *  - For a condition on such packets: wolfaren_parse_filter once, and then wolfaren_filter_matches.
+ *  - For a condition on such packets: wolfaren_parse_filter once, and then wolfaren_filter_matches, or wolfaren_compile_filter
+ *    for the kernel.
  *  - For statistics of such packets: wolfaren_count_packet, or wolfaren_count_dissection to dissect them too, and
  *    wolfaren_merge_statistics.
  *  - For counts of their chains: wolfaren_chains_init, wolfaren_chains_add, or wolfaren_count_packet_and_chain for statistics
@@ -44,9 +45,10 @@
  *
  * The library needs memcpy, memmove and memset, and nothing else. It is compiled for x86-64-v2 (SSE4.2) and the System V calling
  * convention; wolfaren_cpu_is_supported returns whether a processor has these instructions. It uses SSE registers, the red
- * zone below the stack pointer, and less than 2 KB of stack, except for wolfaren_parse_filter, which uses less than 8 KB. A
- * kernel must therefore save the SSE registers around calls, and must not take an interrupt on the same stack. For ARM64 it
- * is compiled for ARMv8-A, the AAPCS64 calling convention and little-endian data, and may use vector registers.
+ * zone below the stack pointer, and less than 2 KB of stack, except for wolfaren_parse_filter, which uses less than 8 KB, and
+ * wolfaren_compile_filter, which uses less than 40 KB. A kernel must therefore save the SSE registers around calls, and must not
+ * take an interrupt on the same stack. For ARM64 it is compiled for ARMv8-A, the AAPCS64 calling convention and little-endian
+ * data, and may use vector registers.
  *
  * For other machines, `make rust-c` builds a library of the same source with Rust's compiler. It also needs the C library.
  * Nothing is proved of it, but it is tested on x86-64, ARMv7 and i686, and on s390x, which is big-endian.
@@ -66,10 +68,10 @@
 #define WOLFAREN_VERSION (10000 * WOLFAREN_VERSION_MAJOR + 100 * WOLFAREN_VERSION_MINOR + WOLFAREN_VERSION_PATCH)
 
 /* A checksum of the structs, numbers and calls in this header, made by scripts/abi of the repository. */
-#define WOLFAREN_ABI 0x17bd8692u
+#define WOLFAREN_ABI 0x83977771u
 
 /* The symbol that is named after the checksum. */
-#define WOLFAREN_ABI_SYMBOL wolfaren_abi_17bd8692
+#define WOLFAREN_ABI_SYMBOL wolfaren_abi_83977771
 
 /* The machines for which the library is built. That of `make rust-c` is for any machine, and its users define WOLFAREN_PLAIN. */
 #ifdef WOLFAREN_PLAIN
@@ -1572,6 +1574,36 @@ bool wolfaren_filter_matches_frame(const struct wolfaren_filter *filter, const s
 WOLFAREN_USE_RESULT
 bool wolfaren_filter_matches_other(const struct wolfaren_filter *filter) WOLFAREN_NONNULL(1);
 
+/* The greatest number of instructions of a program that the kernel accepts. */
+#define WOLFAREN_BPF_INSTRUCTIONS 4096
+
+/* An instruction of classic BPF, laid out as Linux's struct sock_filter and libpcap's struct bpf_insn. */
+struct wolfaren_bpf_instruction {
+    uint16_t code; /* the operation */
+    uint8_t jt;    /* how many instructions a jump skips if its condition holds */
+    uint8_t jf;    /* how many it skips if not */
+    uint32_t k;    /* a constant, or an offset in the packet */
+};
+
+/*
+ * Compiles a filter to a program of classic BPF for packets that begin with an IP header, such as those of raw sockets, of tun
+ * devices and of `iptables -m bpf`. Stores the number of instructions in `count`, which is at most WOLFAREN_BPF_INSTRUCTIONS.
+ * If that is at most `room`, stores them in `instructions` and returns true; otherwise returns false, and `instructions` is left
+ * unchanged.
+ *
+ * Linux accepts the program. Of a packet it returns 0xffffffff, which accepts all bytes, or 0, which rejects it; a packet of 4 GiB
+ * or more is not considered. The program decides tests of addresses and of fields of the base header: of kinds WOLFAREN_TEST_SOURCE,
+ * WOLFAREN_TEST_DESTINATION, WOLFAREN_TEST_EITHER, WOLFAREN_TEST_HOP_LIMIT, WOLFAREN_TEST_DSCP, WOLFAREN_TEST_ECN and
+ * WOLFAREN_TEST_FLOW_LABEL. It accepts a packet that comes to any other test if `keeps_undecided` is true, and rejects it
+ * otherwise. So with `keeps_undecided` it accepts each packet that the filter matches, for a program in front of
+ * wolfaren_filter_matches; without, it accepts no packet that the filter doesn't match. If both programs of a filter are equal,
+ * they accept exactly the packets that it matches.
+ */
+WOLFAREN_USE_RESULT
+bool wolfaren_compile_filter(const struct wolfaren_filter *filter, bool keeps_undecided,
+                             struct wolfaren_bpf_instruction *instructions, size_t room, size_t *count)
+    WOLFAREN_NONNULL(1, 5);
+
 /* A name of a code: ASCII with a terminating null byte, in the library's constant data. */
 struct wolfaren_name {
     const char *text; /* valid as long as the library is loaded; never null */
@@ -1759,6 +1791,7 @@ WOLFAREN_LAYOUT(wolfaren_request, 8, may_be_invalid, 7);
 WOLFAREN_LAYOUT(wolfaren_filter_test, 32, if_not, 29);
 WOLFAREN_LAYOUT(wolfaren_filter, 2056, tests, 8);
 WOLFAREN_LAYOUT(wolfaren_filter_error, 16, expected, 8);
+WOLFAREN_LAYOUT(wolfaren_bpf_instruction, 8, k, 4);
 WOLFAREN_LAYOUT(wolfaren_name, 16, size, 8);
 #undef WOLFAREN_LAYOUT
 #endif

@@ -44,6 +44,7 @@ mod ip_ext_chains;
 mod ip_ext_headers;
 mod ip_ext_slices;
 mod ip_filter;
+mod ip_filter_bpf;
 #[cfg(feature = "c")]
 mod ip_filter_terms;
 mod ip_frames;
@@ -66,9 +67,10 @@ pub mod frames {
     pub use crate::ip_frames::*;
 }
 
-/// Programs of classic BPF, checked as the kernel does and run.
+/// Programs of classic BPF, checked as the kernel does and run, and filters compiled to them.
 pub mod bpf {
     pub use crate::ip_bpf::*;
+    pub use crate::ip_filter_bpf::*;
 }
 
 /// Packets dissected: any bytes, also truncated packets and fragments, with the reason why their headers end.

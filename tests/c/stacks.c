@@ -20,7 +20,7 @@
 #include <string.h>
 #include <ucontext.h>
 
-enum { STACK = 32768, ROOM = 2048, HEADERS = 16, MOST_PACKET = 1024, PACKETS = 8, SLOTS = 3, TEXT = 8192, ROUNDS = 1000, UDP = 17 };
+enum { STACK = 131072, ROOM = 2048, HEADERS = 16, MOST_PACKET = 1024, PACKETS = 8, SLOTS = 3, TEXT = 8192, ROUNDS = 1000, UDP = 17 };
 enum { WORDS = STACK / sizeof(uint64_t), PATTERN_BYTE = 0xa5 };
 
 /* A call, the most bytes of stack that it used, and whether it has returned a value other than 0, or returns nothing. */
@@ -72,6 +72,7 @@ static struct wolfaren_fault fault;
 static struct wolfaren_statistics statistics, others;
 static struct wolfaren_filter filter;
 static struct wolfaren_filter_error filter_error;
+static struct wolfaren_bpf_instruction instructions[WOLFAREN_BPF_INSTRUCTIONS];
 static struct wolfaren_defragmenter *defragmenter;
 static struct wolfaren_added what_became;
 static struct wolfaren_rewritten rewritten;
@@ -126,12 +127,12 @@ RESULT(defragmenter_clear, (defragmenter))
 CALL(defragmenter_add, (defragmenter, context, packet, len, now, &what_became))
 RESULT(defragmenter_packet, (defragmenter, what_became.slot, out, room, &written))
 RESULT(defragmenter_give_up, (defragmenter, what_became.slot, now))
-RESULT(without_number, (packet, len, number, may_be_invalid, out, room, &rewritten))
-RESULT(without_index, (packet, len, index_of_header, may_be_invalid, out, room, &rewritten))
+RESULT(remove_headers, (packet, len, number, may_be_invalid, out, room, &rewritten))
+RESULT(remove_header, (packet, len, index_of_header, may_be_invalid, out, room, &rewritten))
 RESULT(with_header, (packet, len, added_number, added, added_len, index_of_header, may_be_invalid, out, room, &rewritten))
 RESULT(recommended_index, (packet, len, number))
 RESULT(with_payload, (packet, len, payload_number, added, added_len, may_be_invalid, out, room, &rewritten))
-RESULT(cleared, (packet, len, may_be_invalid, out, room, &rewritten))
+RESULT(clear_reserved_bits, (packet, len, may_be_invalid, out, room, &rewritten))
 RESULT(has_reserved_bits, (packet, len))
 RESULT(in_order, (packet, len, may_be_invalid, out, room, &rewritten))
 RESULT(is_in_order, (packet, len))
@@ -154,6 +155,7 @@ RESULT(filter_matches, (&filter, packet, len))
 RESULT(filter_packets, (&filter, batch, sizeof batch, spans, count, matches, room, &outside))
 RESULT(filter_matches_other, (&filter))
 RESULT(filter_matches_frame, (&filter, &frame_found, len, packet, len))
+RESULT(compile_filter, (&filter, may_be_invalid, instructions, room, &count))
 CALL(find_kind_name, (number, &name))
 CALL(find_layer_name, (number, &name))
 CALL(find_len_source_name, (number, &name))
@@ -415,8 +417,8 @@ static void measure_statistics_calls(void)
 
 static void measure_rewrites(void)
 {
-    static struct call *const calls[] = {&without_number, &without_index, &with_header, &recommended_index, &with_payload, &cleared,
-                                         &has_reserved_bits, &in_order, &is_in_order, &rewrite};
+    static struct call *const calls[] = {&remove_headers, &remove_header, &with_header, &recommended_index, &with_payload,
+                                         &clear_reserved_bits, &has_reserved_bits, &in_order, &is_in_order, &rewrite};
     if (draw(2))
         make_whole_packet();
     else
@@ -575,9 +577,12 @@ static void append_times(const char *more, size_t times)
     for (size_t i = 0; i < times; i++) append(more);
 }
 
-/* Tests packets with the filter, one by one and as a batch. */
+/* Tests packets with the filter, one by one and as a batch, and compiles it. */
 static void measure_matches(void)
 {
+    may_be_invalid = draw(2);
+    room = draw(4) ? WOLFAREN_BPF_INSTRUCTIONS : draw(32);
+    measure(&compile_filter);
     measure(&filter_matches_other);
     for (size_t i = 0; i < 4; i++) {
         make_packet();

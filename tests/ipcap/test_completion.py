@@ -44,6 +44,7 @@ def test_completions(harness):
                           (["show", "--color", "=", "a"], ["always", "auto"]),
                           (["show", "--color", "="], ["always", "never", "auto"]),
                           (["show", "--c"], ["--color=", "--csv"]), (["rewrite", "--without", "h"], ["hop-by-hop"]), (["filter", "-w", "a"], []), (["filter", "--since", "1"], []),
+                          (["filter", "--undecided", "k"], ["keep"]), (["filter", "--b"], ["--bytecode"]),
                           (["filter", "fragment", "an"], ["and"]), (["filter", "trunc"], ["truncated"]),
                           (["show", "fragment", "an"], ["and"]), (["show", "/dev/nul"], ["/dev/null"]), (["show", "fault", "/dev/nul"], ["/dev/null"]),
                           (["defrag", "--report", "a"], []), (["stat", "frag"], []),

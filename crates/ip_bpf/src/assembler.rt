@@ -52,6 +52,13 @@ impl Assembler {
         }
     }
 
+    /// Removes all instructions.
+    pub fn clear(&mut self)
+        ensures { self.new ≡ [] }
+    {
+        self.start = MAX_INSTRUCTIONS;
+    }
+
     /// Returns the label of the first instruction: how many there are.
     pub fn label(&self) -> usize
         ensures value { result ≡ length self.now }

@@ -1,5 +1,6 @@
 mod BlockLemmas
 mod PacketLemmas
+mod FieldLemmas
 mod TestLemmas
 mod StartLemmas
 mod LeadLemmas

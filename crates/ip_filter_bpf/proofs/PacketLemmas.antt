@@ -18,11 +18,11 @@ use Rattle.ip_filter.specs.Truth.{has_source, has_destination}
 use Rattle.ip_filter.specs.declared.network.Network.{Network}
 use Rattle.ip_filter_bpf.specs.Blocks.{word_at, address_at}
 
-at4 : (s : List ℕ) → base_end s ≡ None → version s ≡ 4 → dissected s ≡ ipv4_dissected (take (ipv4_header_len s) s) s
+pub at4 : (s : List ℕ) → base_end s ≡ None → version s ≡ 4 → dissected s ≡ ipv4_dissected (take (ipv4_header_len s) s) s
 unfolding dissected
 at4 s none four = rw (none, eq-eqb (version s) 4 four) refl
 
-at6 : (s : List ℕ) → base_end s ≡ None → (version s ≡ 4 → ⊥) → dissected s ≡ ipv6_dissected (take 40 s) s
+pub at6 : (s : List ℕ) → base_end s ≡ None → (version s ≡ 4 → ⊥) → dissected s ≡ ipv6_dissected (take 40 s) s
 unfolding dissected
 at6 s none six = rw (none, ne_eqb (version s) 4 six) refl
 
@@ -65,7 +65,7 @@ starts6_by s None is six = record {
 pub starts6 : (s : List ℕ) → (dissected s).version ≡ 6 → Starts6 s
 starts6 s six = starts6_by s (base_end s) refl six
 
-least4 : (s : List ℕ) → base_end s ≡ None → version s ≡ 4 → (20 ≤ ipv4_header_len s) × (ipv4_header_len s ≤ length s)
+pub least4 : (s : List ℕ) → base_end s ≡ None → version s ≡ 4 → (20 ≤ ipv4_header_len s) × (ipv4_header_len s ≤ length s)
 least4 s none four =
     let least : 5 ≤ ihl s = grind (arith, common_steps, none-some) in
     let fits : ipv4_header_len s ≤ length s = grind (arith, common_steps, none-some) in
@@ -142,7 +142,7 @@ by_tests s b4 b6 false false small cut true true e1 e2 e3 e4 e5 = refl
 by_tests s b4 b6 false false small cut true false e1 e2 e3 e4 e5 = refl
 by_tests s b4 b6 false false small cut false cut6 e1 e2 e3 e4 e5 = refl
 
-below_or_not : (a b : ℕ) → nat_lt a b ≡ not (nat_le b a)
+pub below_or_not : (a b : ℕ) → nat_lt a b ≡ not (nat_le b a)
 below_or_not a b = elim (cases_lt a b) [
   | inl less ↦ lt-ltb a b less ∙ sym (ap not (lt-leb b a less))
   | inr above ↦ le-ltb a b above ∙ sym (ap not (le-leb b a above))

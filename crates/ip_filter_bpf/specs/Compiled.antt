@@ -1,10 +1,15 @@
 -- How tests are compiled.
-use Rattle.std.specs.Prelude.{ℕ, ◌==◌, ◌^◌, ◌-◌, nat_lt, Bool, List, map, drop, slice_index, if◌then◌else◌}
+use Rattle.std.specs.Prelude.{◌≡◌, ℕ, ◌==◌, ◌^◌, ◌-◌, ◌<◌, nat_lt, Bool, List, length, map, drop, slice_index, Some, if◌then◌else◌}
+use Rattle.ip_bpf.specs.Machine.{result_of}
+use Rattle.ip_bpf.specs.Programs.{IsProgram}
+use Rattle.ip_bpf.specs.declared.instruction.Instruction.{Instruction}
 use Rattle.ip_dissect.specs.Dissection.{dissected}
 use Rattle.ip_filter.specs.Program.{led_to}
 use Rattle.ip_filter.specs.Tests.{meets}
+use Rattle.ip_filter.specs.declared.filter.Filter.{Filter}
 use Rattle.ip_filter.specs.declared.filter.Test.{Test}
-use Rattle.ip_filter_bpf.specs.Verdict.{settled, end_of}
+use Rattle.ip_filter_bpf.specs.Blocks.{HasBytes}
+use Rattle.ip_filter_bpf.specs.Verdict.{settled, end_of, verdict}
 use Rattle.ip_filter_bpf.specs.declared.undecided.Undecided.{Undecided}
 use Rattle.ip_filter_bpf.specs.declared.undecided.Undecided.TheVariants.{Keep, Drop}
 use Rattle.ip_filter_bpf.specs.declared.version.Version.{Version}
@@ -25,6 +30,12 @@ room_of version.Ipv6 = 20
 -- what a program returns: all bytes of the packet, or none
 abbrev pub returned : Bool → ℕ
 returned passes = if passes then 2 ^ 32 - 1 else 0
+
+-- The kernel accepts the program, and of each packet of less than 4 GiB it returns all bytes if the packet passes, otherwise none.
+abbrev pub IsCompiled : Undecided → Filter → List Instruction → Type 0
+IsCompiled u f program =
+    IsProgram program × ((packet : List ℕ) → HasBytes packet → length packet < 2 ^ 32
+    → result_of program packet ≡ Some (returned (verdict u f packet)))
 
 -- The label of the test with an index, in a program of which the last instructions are the two returns. Tests lead on to later ones.
 abbrev pub exit_label : List ℕ → ℕ → ℕ → ℕ

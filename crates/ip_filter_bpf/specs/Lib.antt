@@ -1,3 +1,4 @@
 pub mod Blocks
+pub mod Fields
 pub mod Verdict
 pub mod Compiled

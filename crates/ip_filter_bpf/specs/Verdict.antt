@@ -5,12 +5,13 @@ use Rattle.ip_filter.specs.Program.{passes, tests_of}
 use Rattle.ip_filter.specs.Tests.{meets}
 use Rattle.ip_filter.specs.declared.filter.Filter.{Filter}
 use Rattle.ip_filter.specs.declared.filter.Test.{Test}
+use Rattle.ip_filter_bpf.specs.Fields.{compares_field}
 use Rattle.ip_filter_bpf.specs.declared.undecided.Undecided.{Undecided}
 use Rattle.ip_filter_bpf.specs.declared.undecided.Undecided.TheVariants.{Keep, Drop}
 
--- The program decides the test: it is one of the source, the destination or either address.
+-- The program decides the test: it is one of the source, the destination, either address, or a field of the base header.
 abbrev pub is_decided : Test → Bool
-is_decided x = (x.kind == 8) || (x.kind == 9) || (x.kind == 10)
+is_decided x = (x.kind == 8) || (x.kind == 9) || (x.kind == 10) || compares_field x.kind
 
 -- The test, or one that leads each packet to this index, if the program doesn't decide it.
 abbrev pub settled : ℕ → Test → Test

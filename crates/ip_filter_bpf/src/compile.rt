@@ -20,27 +20,26 @@ const REJECT: usize = 1;
 
 const ACCEPT: usize = 2;
 
-/// Compiles a filter to a program that the kernel accepts, for packets that begin with an IP header.
+/// Compiles a filter to a program that the kernel accepts, for packets that begin with an IP header. Replaces what is in `code`.
 ///
-/// Returns the program: for each packet of less than 4 GiB it returns 2^32 - 1 where the tests that it decides let the packet
-/// pass (`verdict`), and otherwise 0. It decides tests of addresses. It leads a packet that comes to another test to the end that
+/// For each packet of less than 4 GiB the program returns 2^32 - 1 where the tests that it decides let the packet pass
+/// (`verdict`), and otherwise 0. It decides tests of addresses and of fields of the base header. It leads a packet that comes to another test to the end that
 /// `undecided` names.
-pub fn compile_filter(filter: &Filter, undecided: Undecided) -> Assembler
-    ensures accepted { IsProgram result }
+pub fn compile_filter(filter: &Filter, undecided: Undecided, code: &mut Assembler)
+    ensures accepted { IsProgram code.new }
     ensures returns { (packet : List ℕ) → HasBytes packet → length packet < 2 ^ 32
-        → result_of result packet ≡ Some (returned (verdict undecided filter.now packet)) }
+        → result_of code.new packet ≡ Some (returned (verdict undecided filter.now packet)) }
 {
-    let mut code = Assembler::new();
+    code.clear();
     code.put(Operation::ReturnConstant(0));
     code.put(Operation::ReturnConstant(u32::MAX));
     let tests = filter.used_tests();
-    let none = put_tests(&mut code, tests, Version::None, undecided);
-    let ipv4 = put_tests(&mut code, tests, Version::Ipv4, undecided);
-    let ipv6 = put_tests(&mut code, tests, Version::Ipv6, undecided);
-    put_start(&mut code, none, ipv4, ipv6);
+    let none = put_tests(code, tests, Version::None, undecided);
+    let ipv4 = put_tests(code, tests, Version::Ipv4, undecided);
+    let ipv6 = put_tests(code, tests, Version::Ipv6, undecided);
+    put_start(code, none, ipv4, ipv6);
     // each of them is right
     let _ = code.instructions();
-    code
 }
 
 /// Puts the tests of a filter, for packets of this version. Returns their label.

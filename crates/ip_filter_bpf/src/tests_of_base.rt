@@ -11,6 +11,7 @@ ghost use Rattle.ip_filter_bpf.specs.Compiled.{number_of, room_of};
 ghost use Rattle.ip_filter_bpf.specs.Verdict.{is_decided};
 
 use crate::blocks::{put_address, put_word};
+use crate::compared::put_quantity;
 use crate::version::Version;
 use ip_bpf::Assembler;
 use ip_filter::Test;
@@ -22,6 +23,10 @@ mod kind {
     pub(crate) const DESTINATION: u8 = 9;
 
     pub(crate) const EITHER: u8 = 10;
+
+    pub(crate) const HOP_LIMIT: u8 = 12;
+
+    pub(crate) const FLOW_LABEL: u8 = 15;
 }
 
 /// Puts a test of packets of this version, with the labels of what follows if it is met, if it isn't, and if the program doesn't
@@ -55,6 +60,7 @@ pub(crate) fn put_test(
         kind::SOURCE => put_source(code, test, version, if_met, if_not),
         kind::DESTINATION => put_destination(code, test, version, if_met, if_not),
         kind::EITHER => put_either(code, test, version, if_met, if_not),
+        kind::HOP_LIMIT..=kind::FLOW_LABEL => put_quantity(code, test, version, if_met, if_not),
         _ => if_undecided,
     }
 }

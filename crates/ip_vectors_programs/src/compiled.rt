@@ -1,4 +1,5 @@
 //! Tests: filters that are compiled, on packets whose addresses are in the networks or not.
+use ip_bpf::Assembler;
 use ip_filter::Filter;
 use ip_filter_bpf::{Undecided, compile_filter};
 use std::process::Abort;
@@ -13,7 +14,8 @@ const IPV6: &[u8; 40] =
 /// Checks whether the program of a filter accepts a packet.
 fn check(rt: &impl Abort, text: &str, undecided: Undecided, packet: &[u8], wanted: bool) {
     let filter = Filter::parse(text.as_bytes()).expect(rt, "the text is a filter");
-    let code = compile_filter(&filter, undecided);
+    let mut code = Assembler::new();
+    compile_filter(&filter, undecided, &mut code);
     let program = code.program().expect(rt, "the program is accepted");
     let result = program.run(packet);
     assert!(rt;
@@ -26,6 +28,17 @@ fn check(rt: &impl Abort, text: &str, undecided: Undecided, packet: &[u8], wante
 fn check_both(rt: &impl Abort, text: &str, packet: &[u8], wanted: bool) {
     check(rt, text, Undecided::Keep, packet, wanted);
     check(rt, text, Undecided::Drop, packet, wanted);
+}
+
+#[test]
+fn fields_of_base_headers(rt: HostRuntime) {
+    check_both(&rt, "ttl = 64", IPV4, true);
+    check_both(&rt, "hop-limit < 64", IPV4, false);
+    check_both(&rt, "dscp = 0 and ecn = 0", IPV4, true);
+    check_both(&rt, "flow >= 0", IPV4, false);
+    check_both(&rt, "ttl <= 64", IPV6, true);
+    check_both(&rt, "ttl > 64", IPV6, false);
+    check_both(&rt, "flow = 0 and dscp != 1", IPV6, true);
 }
 
 #[test]

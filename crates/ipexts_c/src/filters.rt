@@ -1,11 +1,14 @@
 //! Filters.
-ghost use Rattle.std.specs.Prelude.{◌≡◌, ◌≤◌, ◌<◌, ◌+◌, drop, length, slice_index, false, IsTrue, Some, None};
+ghost use Rattle.std.specs.Prelude.{◌≡◌, ◌≤◌, ◌<◌, ◌+◌, ◌↔◌, List, drop, take, length, slice_index, false, IsTrue, Some, None, if◌then◌else◌};
 ghost use Rattle.ip_dissect.specs.Dissection.{dissected};
 ghost use Rattle.ip_filter.specs.Tests.{meets};
 ghost use Rattle.ip_filter.specs.Frames.{meets_in};
 ghost use Rattle.ip_filter.specs.Program.{tests_of, passes};
 ghost use Rattle.ip_filter.specs.Parsed.{IsParsedFilter, IsFirstError};
 ghost use Rattle.ip_filter.specs.declared.parse_error.Expected.{Expected as WasExpected};
+ghost use Rattle.ip_bpf.specs.declared.instruction.Instruction.{Instruction as BpfInstruction};
+ghost use Rattle.ip_filter_bpf.specs.Compiled.{IsCompiled};
+ghost use Rattle.ip_filter_bpf.specs.declared.undecided.Undecided.TheVariants.{Keep, Drop};
 ghost use Rattle.ip_spans.specs.FilterError.{expected_code};
 ghost use Rattle.ip_spans.specs.HeaderSpan.{filled};
 ghost use Rattle.ipexts_c.specs.Frames.{frame_of, packet_in};
@@ -13,7 +16,9 @@ ghost use Rattle.ip_batches.specs.Batch.{packets_at, first_outside, matches_of};
 
 use crate::bytes::Bytes;
 use ip_batches::{Batch, PacketSpan};
+use ip_bpf::Instruction;
 use ip_filter::{Filter, Frame};
+use ip_filter_bpf::{Undecided, write_program};
 use ip_frames::FrameFields;
 use ip_spans::{FilterError, expected_text, parse_filter};
 
@@ -145,4 +150,36 @@ pub extern "C" fn wolfaren_filter_matches_other(filter: &Filter) -> bool
     ensures { result ≡ passes (tests_of filter.now) (λ x. false) }
 {
     filter.matches_other()
+}
+
+/// Returns what a program does with packets that it can't decide.
+fn undecided(keeps: bool) -> Undecided
+    ensures { result ≡ (if keeps then Keep else Drop) }
+{
+    if keeps {
+        Undecided::Keep
+    } else {
+        Undecided::Drop
+    }
+}
+
+/// Calls `write_program`, with `Keep` if `keeps_undecided` is true, otherwise with `Drop`. Stores the number of instructions in
+/// `count`, and returns whether they fit.
+#[unsafe(no_mangle)]
+pub extern "C" fn wolfaren_compile_filter(
+    filter: &Filter,
+    keeps_undecided: bool,
+    instructions: &mut [Instruction],
+    count: &mut usize,
+) -> bool
+    ensures fits { IsTrue result ↔ (count.new ≤ length instructions.old) }
+    ensures count { let u = if keeps_undecided then Keep else Drop in
+        (program : List BpfInstruction) × IsCompiled u filter.now program × (length program ≡ count.new) }
+    ensures compiled { let u = if keeps_undecided then Keep else Drop in
+        IsTrue result → IsCompiled u filter.now (take count.new instructions.new) }
+    ensures after { IsTrue result → drop count.new instructions.new ≡ drop count.new instructions.old }
+    ensures same { result ≡ false → instructions.new ≡ instructions.old }
+{
+    *count = write_program(filter, undecided(keeps_undecided), instructions);
+    *count <= instructions.len()
 }

@@ -14,6 +14,7 @@
 #include "commands/options.h"
 #include "commands/report.h"
 #include "commands/stop.h"
+#include "conditions/bytecode.h"
 #include "conditions/condition.h"
 #include "conditions/condition_text.h"
 #include "conditions/matching.h"
@@ -29,6 +30,7 @@ static const char usage[] =
     "usage: ipcap filter [OPTION..] COND [FILE..]\n"
     "       ipcap filter [OPTION..] -r FILE COND\n"
     "       ipcap filter --show COND\n"
+    "       ipcap filter --bytecode[=text] [--undecided keep|drop] COND\n"
     "       ipcap filter --help-terms\n"
     "Writes the packets of each FILE, or standard input, that meet a condition.\n"
     "  COND          `any`, or terms such as `fragment`, `header 44` or `payload > 1000`, combined with `not`, `and`, `or`\n"
@@ -45,6 +47,10 @@ static const char usage[] =
     "  --memory SIZE use at most so much memory, such as 2G (default: 512M)\n"
     "  --number      write a pcapng file, with each packet's number in its capture as a comment\n"
     "  --show        print the tests that the condition is compiled to, and read no packets\n"
+    "  --bytecode    print a program of BPF for packets that begin with an IP header, as `tcpdump -ddd` does, or with\n"
+    "                `=text` as `tcpdump -d`\n"
+    "  --undecided keep|drop\n"
+    "                the program accepts or refuses packets that it can't decide (default: there may be none)\n"
     "  --help-terms  print all terms, each with an example\n"
     "  --help        print this help\n"
     "  --version     print the version\n";
@@ -65,6 +71,8 @@ struct request {
     bool has_numbers; /* packets have their numbers in comments */
     bool is_numeric; /* ignored */
     bool is_shown;   /* whether the condition is printed, and no capture is read */
+    enum bytecode bytecode; /* how its program of BPF is, instead */
+    enum undecided undecided;
     bool has_help;   /* whether the terms are printed, and nothing else is done */
 };
 
@@ -83,6 +91,8 @@ static const struct option_row options[] = {
     {"memory", read_memory_argument, offsetof(struct request, memory), MEMORY_WORDS},
     {"number", set_flag, offsetof(struct request, has_numbers), NULL},
     {"show", set_flag, offsetof(struct request, is_shown), NULL},
+    {"bytecode", read_bytecode_argument, offsetof(struct request, bytecode), NOTHING_OR "text"},
+    {"undecided", read_undecided_argument, offsetof(struct request, undecided), "keep or drop"},
     {"help-terms", set_flag, offsetof(struct request, has_help), NULL},
 };
 
@@ -350,6 +360,15 @@ static bool show_condition(const struct request *request)
     return finish_output();
 }
 
+/* Prints the condition's program of BPF. Returns the exit status. */
+static int show_bytecode(const struct request *request)
+{
+    errno = 0;
+    int status = print_bytecode(request->condition, request->bytecode, request->undecided);
+    if (status >= 0) return status;
+    return finish_output() ? STATUS_DONE : STATUS_FAILED;
+}
+
 static bool list_terms(void)
 {
     errno = 0;
@@ -379,9 +398,10 @@ static int read_operands(struct request *request, int count, char *const *operan
     if (count == 0) return refuse_usage("ipcap filter", "filter needs a condition");
     int status = read_condition(request->condition, count, operands, request->input != NULL, &taken);
     if (status >= 0) return status;
-    if (request->is_shown)
+    if (request->undecided && !request->bytecode) return refuse_usage("ipcap filter", "--undecided needs --bytecode");
+    if (request->is_shown || request->bytecode)
         return request->input || request->output || taken < count
-            ? refuse_usage("ipcap filter", "--show takes only a condition") : -1;
+            ? refuse_usage("ipcap filter", "%s takes only a condition", request->is_shown ? "--show" : "--bytecode") : -1;
     if (taken < count && !is_file(operands[taken])) return STATUS_FAILED;
     if (is_standard_stream(request->output) && isatty(STDOUT_FILENO))
         return refuse_usage("ipcap filter", "refusing to write a capture to a terminal: use -w or a pipe");
@@ -398,6 +418,7 @@ int run_filter(int count, char **arguments)
     if (status < 0 && request.has_help) return list_terms() ? STATUS_DONE : STATUS_FAILED;
     if (status < 0) status = read_operands(&request, count - optind, arguments + optind);
     if (status >= 0) return status;
+    if (request.bytecode) return show_bytecode(&request);
     bool is_done = request.is_shown ? show_condition(&request) : filter_files(&request);
     return is_done ? STATUS_DONE : STATUS_FAILED;
 }

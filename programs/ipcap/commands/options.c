@@ -57,6 +57,13 @@ static bool is_letter(const struct option_row *row)
     return row->name[1] == '\0';
 }
 
+/* Returns whether a long option has an argument, as getopt_long wants it. */
+static int argument_of(const struct option_row *row)
+{
+    if (!row->wanted) return no_argument;
+    return strncmp(row->wanted, NOTHING_OR, sizeof NOTHING_OR - 1) == 0 ? optional_argument : required_argument;
+}
+
 /* Makes the two lists of options that getopt_long needs. The colon makes it return one if an argument is missing. */
 static void list_options(const struct option_row *rows, size_t count, char *letters, struct option *options)
 {
@@ -64,8 +71,7 @@ static void list_options(const struct option_row *rows, size_t count, char *lett
     *letters++ = 'h';
     for (size_t i = 0; i < count; i++) {
         if (!is_letter(&rows[i])) {
-            int has_argument = rows[i].wanted ? required_argument : no_argument;
-            *options++ = (struct option){rows[i].name, has_argument, NULL, OPTION_ROW + (int)i};
+            *options++ = (struct option){rows[i].name, argument_of(&rows[i]), NULL, OPTION_ROW + (int)i};
             continue;
         }
         *letters++ = rows[i].name[0];

@@ -5,6 +5,9 @@
 #include <stdbool.h>
 #include <stddef.h>
 
+/* Begins what an argument must be that may be left out. It is then read as a null pointer. */
+#define NOTHING_OR "nothing or "
+
 /* An option of a subcommand. */
 struct option_row {
     const char *name;                                /* a long name, or a single letter */

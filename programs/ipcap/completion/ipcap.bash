@@ -27,6 +27,7 @@ _ipcap_argument() {
         -r | -w | --report) ;;
         -c | -j | --chains | --memory | --packets | --since | --slots | --top | --until) compopt +o default 2>/dev/null ;;
         --without) _ipcap_words 'hop-by-hop routing fragment authentication destination-options' "$2" ;;
+        --undecided) _ipcap_words 'keep drop' "$2" ;;
         --color | =) _ipcap_words 'always never auto' "${2#=}" ;;
         *) return 1 ;;
     esac
@@ -42,7 +43,7 @@ _ipcap() {
     case ${COMP_WORDS[1]} in
         stat) options='-j --chains --defrag --json --memory --per-file --top --tunnels' ;;
         sum) options='--chains --json --top' ;;
-        filter) options='-c -n -r -w --since --until --packets --defrag --tunnels --memory --number --show --help-terms' ;;
+        filter) options='-c -n -r -w --since --until --packets --defrag --tunnels --memory --number --show --bytecode --undecided --help-terms' ;;
         show) options='-c --defrag --tunnels --memory --color= --one-line --json --csv' ;;
         defrag) options='-w --keep --tunnels --memory --report --slots' ;;
         rewrite) options='-w --without --clear --in-order --break-authentication --tunnels --memory' ;;

@@ -3,6 +3,7 @@
 The work is done by `libwolfaren`, whose calls are formally verified. This package calls it through cffi.
 """
 
+from ._bpf import BpfProgram
 from ._captures import Packet, Written, packets
 from ._defragmenter import Defragmenter
 from ._dissection import (Dissection, End, ExtensionHeader, Fault, FaultKind, Fragment, FragmentKind, HeaderOption, Layer,
@@ -16,7 +17,7 @@ from ._table import table
 
 __version__ = "0.1.0"
 
-__all__ = ["MOST", "CaptureError", "CaptureOSError", "CaptureWarning", "Defragmenter", "Dissection", "End",
+__all__ = ["MOST", "BpfProgram", "CaptureError", "CaptureOSError", "CaptureWarning", "Defragmenter", "Dissection", "End",
            "ExtensionHeader", "Fault", "FaultKind", "Filter", "FilterError", "FilterTerm", "Fragment", "FragmentKind",
            "HeaderOption", "Layer", "LenSource", "Packet", "Refusal", "RewriteError", "Rewritten", "SpanError",
            "Statistics", "UnknownOption", "Written", "clear_reserved_bits", "dissect", "dissect_many", "filter_terms",

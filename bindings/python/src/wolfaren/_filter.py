@@ -4,8 +4,9 @@ from __future__ import annotations
 
 import itertools
 from collections.abc import Callable, Sequence
-from typing import Any, NamedTuple
+from typing import Any, Literal, NamedTuple
 
+from ._bpf import BpfProgram, compile_filter
 from ._captures import Path, Written, write_matching
 from ._library import Buffer, ffi, lib, name_of, text_of
 from ._many import Packets
@@ -256,6 +257,15 @@ class Filter:
         frame = _frame(ether_type, None, vlans)
         frame.end = lib.WOLFAREN_FRAME_OTHER
         return bool(lib.wolfaren_filter_matches_frame(self._filter, frame, wire_length, ffi.NULL, 0))
+
+    def to_bpf(self, undecided: Literal["keep", "drop"] | None = None) -> BpfProgram:
+        """Compiles the condition to a program of classic BPF, for packets that begin with an IP header.
+
+        The program decides `src`, `dst`, `net`, `host`, `hop-limit`, `ttl`, `dscp`, `ecn` and `flow`. If there are other terms,
+        `undecided` has to be given: with `"keep"` the program accepts the packets that it can't decide, and so each packet that meets the condition; with
+        `"drop"` it refuses them, and accepts no packet that doesn't meet it. Otherwise raises `ValueError`.
+        """
+        return compile_filter(self._filter, undecided)
 
     def write(self, path_in: Path, path_out: Path) -> Written:
         """Writes the frames of a capture that meet the condition to another file, and returns how many were read and written.

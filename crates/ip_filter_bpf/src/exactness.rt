@@ -1,4 +1,4 @@
-//! Laws of compiled filters, each proved as the contract of a call.
+//! What a compiled filter says of packets.
 ghost use Rattle.std.specs.Prelude.{◌≡◌, ℕ, List, true};
 ghost use Rattle.std.specs.List.{list_all};
 ghost use Rattle.ip_dissect.specs.Dissection.{dissected};

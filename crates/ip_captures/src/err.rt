@@ -106,3 +106,26 @@ pub enum BlockError {
         left: usize,
     },
 }
+
+/// Why a block of pcapng isn't written.
+#[derive(Clone, Copy, Debug, PartialEq, Eq, Hash, Error)]
+pub enum WriteError {
+    /// The buffer is too short for the block.
+    #[error("the buffer has fewer than {needed} bytes")]
+    NoRoom {
+        /// The length of the block, in bytes.
+        needed: usize,
+    },
+    /// The length doesn't fit its field: 32 bits in a block (section 3.1), 16 in an option (section 3.5).
+    #[error("its length field can't hold the length")]
+    TooLong,
+    /// An option has fewer bytes than it states, or the options aren't padded (section 3.5).
+    #[error("an option is truncated or isn't padded")]
+    Options,
+    /// The ticks of a second are neither a power of 10 nor one of 2 (section 4.2).
+    #[error("{ticks_per_second} ticks of a second are no power of 10 or 2")]
+    Resolution {
+        /// The ticks of a second.
+        ticks_per_second: u64,
+    },
+}

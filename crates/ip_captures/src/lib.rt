@@ -29,6 +29,7 @@
 mod block;
 mod block_laws;
 mod block_reader;
+mod block_writer;
 mod byte_order;
 mod capture;
 mod capture_fields;
@@ -51,13 +52,14 @@ pub use block::BlockKind;
 pub use block_laws::{
     more_bytes_change_no_block, next_returns_the_first_block, one_longest_list_of_blocks,
 };
+pub use block_writer::EnhancedPacket;
 pub use byte_order::ByteOrder;
 pub use capture::Capture;
 pub use capture_fields::CaptureFields;
 pub use classic_capture::ClassicCapture;
 pub use classic_frames::ClassicFrames;
 pub use classic_header::{ClassicHeader, Variant};
-pub use err::{BlockError, CaptureError};
+pub use err::{BlockError, CaptureError, WriteError};
 pub use error_fields::CaptureErrorFields;
 pub use frame::{Block, Frame};
 pub use interface::Interface;

@@ -1,0 +1,58 @@
+-- What is read again of the blocks that are written (draft-ietf-opsawg-pcapng, sections 3.5 and 4.1 to 4.3).
+use Rattle.std.specs.Prelude.{◌≡◌, ◌<◌, ◌≤◌, ℕ, ◌+◌, ◌-◌, ◌%◌, ◌^◌, List, [], ◌∷◌, ◌++◌, length, slice_get, slice_range, Some, None}
+use Rattle.std.specs.Option.{option_map_or}
+use Rattle.ip_captures.specs.Frame.{FrameContents}
+use Rattle.ip_captures.specs.Interface.{time_of}
+use Rattle.ip_captures.specs.Options.{padded, options_error}
+use Rattle.ip_captures.specs.Block.{Section, IsBlock, section_after, frame_of_block}
+use Rattle.ip_captures.specs.declared.byte_order.ByteOrder.{ByteOrder}
+use Rattle.ip_captures.specs.declared.interface.Interface.{Interface}
+use Rattle.ip_captures.specs.declared.block_writer.EnhancedPacket.{EnhancedPacket}
+use Rattle.ip_captures.specs.declared.err.WriteError.{WriteError}
+use Rattle.ip_captures.specs.declared.err.WriteError.TheVariants as write
+
+-- The bytes b are a section header, which begins a section of this order anywhere.
+pub record IsSectionHeader (o : ByteOrder) (b : List ℕ) : Type 0 where
+  pub block : (limit room : ℕ) (c : Section) → length b ≤ limit → IsBlock limit room c b
+  pub begins : (c : Section) → section_after c b ≡ record { order = o; interfaces = [] }
+  pub frame : (c : Section) → frame_of_block c b ≡ None
+
+-- The bytes b describe one more interface in each section of this order.
+pub record IsDescription (o : ByteOrder) (i : Interface) (b : List ℕ) : Type 0 where
+  pub block : (limit room : ℕ) (c : Section) → c.order ≡ o → length c.interfaces < room → length b ≤ limit → IsBlock limit room c b
+  pub described : (c : Section) → c.order ≡ o → section_after c b ≡ record c { interfaces = c.interfaces ++ i ∷ [] }
+  pub frame : (c : Section) → c.order ≡ o → frame_of_block c b ≡ None
+
+-- what is read again of a packet with a block of n bytes, in a section with these interfaces
+abbrev pub packet_kept : List Interface → EnhancedPacket → ℕ → FrameContents
+packet_kept interfaces p n = record {
+  captured = p.captured.now;
+  original_len = p.original_len;
+  time = option_map_or (λ i. time_of i p.ticks) (slice_get interfaces p.interface) None;
+  interface = p.interface;
+  link_type = option_map_or (λ i. i.link_type) (slice_get interfaces p.interface) 0;
+  record_len = n;
+}
+
+-- The bytes b are the block of a packet in each section of this order that describes the packet's interface.
+pub record IsPacketBlock (o : ByteOrder) (p : EnhancedPacket) (b : List ℕ) : Type 0 where
+  pub block : (limit room : ℕ) (c : Section) → c.order ≡ o → p.interface < length c.interfaces → length b ≤ limit → IsBlock limit room c b
+  pub frame : (c : Section) → c.order ≡ o → frame_of_block c b ≡ Some (packet_kept c.interfaces p (length b))
+  pub section : (c : Section) → c.order ≡ o → section_after c b ≡ c
+  pub options : slice_range b (28 + padded (length p.captured.now)) (length b - 4) ≡ p.options.now
+
+-- the length of a packet's block
+abbrev pub packet_block_len : EnhancedPacket → ℕ
+packet_block_len p = 32 + padded (length p.captured.now) + length p.options.now
+
+-- The bytes are whole options, up to their end or up to the last byte (section 3.5).
+pub record AreOptions (o : ByteOrder) (s : List ℕ) : Type 0 where
+  pub padded : length s % 4 ≡ 0
+  pub right : options_error o s ≡ None
+
+-- Why a block of n bytes isn't written to a buffer of so many bytes, with these options.
+abbrev pub IsWriteError : ByteOrder → ℕ → List ℕ → ℕ → WriteError → Type 0
+IsWriteError o n options room write.Options = ¬ AreOptions o options
+IsWriteError o n options room write.TooLong = 2 ^ 32 ≤ n
+IsWriteError o n options room (write.NoRoom needed) = (needed ≡ n) × (room < n)
+IsWriteError o n options room (write.Resolution ticks) = ⊥

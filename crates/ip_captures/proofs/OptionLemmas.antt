@@ -21,7 +21,7 @@ begins o s k e = grind (arith, nat_tests, e)
 option_len-is : (o : ByteOrder) (s : List ℕ) → 4 ≤ length s → 4 + padded (value_len o s) ≤ length s → option_len o s ≡ Some (4 + padded (value_len o s))
 option_len-is o s a b = grind (arith, nat_tests)
 
-finds_options : Finds IsOption option_len
+pub finds_options : Finds IsOption option_len
 finds_options = record {
   found = λ o s k e.
       let b = begins o s k e in

@@ -1,7 +1,7 @@
 //! Laws of the blocks of a pcapng capture, each proved as the contract of a call.
 ghost use Rattle.std.specs.Prelude.{◌≡◌, ℕ, List, [], ◌∷◌, ◌++◌, take, drop, IsSome, Some, None};
 ghost use Rattle.std.specs.List.{concat};
-ghost use Rattle.ip_captures.specs.Pieces.{ArePieces};
+ghost use Rattle.ip_captures.specs.Pieces.{ArePieces, state_after};
 ghost use Rattle.ip_captures.specs.Block.{Section, IsBlock, AreLongestBlocks, blocks_in, rest_of_blocks, section_after};
 ghost use Rattle.ip_captures.specs.PcapngNext.{IsNextBlock, section_next, record_len_of};
 ghost use Rattle.ip_captures.specs.Next.{contents_of, error_of};
@@ -41,4 +41,12 @@ pub fn more_bytes_change_no_block()
         → IsNextBlock limit room c offset (s ++ t) y → IsSome (contents_of x) → contents_of y ≡ contents_of x }
     ensures error { (limit room offset : ℕ) (c : Section) (s t : List ℕ) (x y : Next) → IsNextBlock limit room c offset s x
         → IsNextBlock limit room c offset (s ++ t) y → IsSome (error_of x) → error_of y ≡ error_of x }
+{}
+
+/// Proves that written blocks are read again: of blocks that are joined, with any bytes after them, these blocks come first, and
+/// then those of the section to which they lead.
+pub fn joined_blocks_are_read_again()
+    ensures { (limit room : ℕ) (c : Section) (blocks : List (List ℕ)) (t : List ℕ)
+        → ArePieces (IsBlock limit room) section_after c blocks
+        → blocks_in limit room c (concat blocks ++ t) ≡ blocks ++ blocks_in limit room (state_after section_after c blocks) t }
 {}

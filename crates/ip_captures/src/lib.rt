@@ -50,9 +50,10 @@ mod record_laws;
 
 pub use block::BlockKind;
 pub use block_laws::{
-    more_bytes_change_no_block, next_returns_the_first_block, one_longest_list_of_blocks,
+    joined_blocks_are_read_again, more_bytes_change_no_block, next_returns_the_first_block,
+    one_longest_list_of_blocks,
 };
-pub use block_writer::EnhancedPacket;
+pub use block_writer::{EnhancedPacket, write_option};
 pub use byte_order::ByteOrder;
 pub use capture::Capture;
 pub use capture_fields::CaptureFields;

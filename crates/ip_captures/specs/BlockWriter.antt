@@ -83,3 +83,17 @@ IsWriteError o n options room write.Options = ¬ AreOptions o options
 IsWriteError o n options room write.TooLong = 2 ^ 32 ≤ n
 IsWriteError o n options room (write.NoRoom needed) = (needed ≡ n) × (room < n)
 IsWriteError o n options room (write.Resolution ticks) = ⊥
+
+-- the number that stands for an error in C; 0 stands for none
+abbrev pub write_code : WriteError → ℕ
+write_code (write.NoRoom needed) = 1
+write_code write.TooLong = 2
+write_code write.Options = 3
+write_code (write.Resolution ticks) = 4
+
+-- the number of bytes that a buffer has to have, if a longer one helps
+abbrev pub len_needed : WriteError → ℕ
+len_needed (write.NoRoom needed) = needed
+len_needed write.TooLong = 0
+len_needed write.Options = 0
+len_needed (write.Resolution ticks) = 0

@@ -275,6 +275,7 @@ fn halves(number: u64) -> (u32, u32)
 }
 
 /// A packet to be written in an enhanced packet block (draft-ietf-opsawg-pcapng, section 4.3).
+#[repr(C)]
 #[derive(Clone, Copy, Debug, PartialEq, Eq)]
 pub struct EnhancedPacket<'a> {
     /// The captured bytes.

@@ -1,4 +1,7 @@
 //! What is wrong with a capture.
+ghost use Rattle.std.specs.Prelude.{◌≡◌};
+ghost use Rattle.ip_captures.specs.BlockWriter.{write_code, len_needed};
+
 use thiserror::Error;
 
 /// An error in a capture. Offsets count from the start of the capture.
@@ -128,4 +131,30 @@ pub enum WriteError {
         /// The ticks of a second.
         ticks_per_second: u64,
     },
+}
+
+impl WriteError {
+    /// Returns a number that stands for the kind of the error, for C: no room 1, a length that is too long 2, options 3, ticks 4.
+    #[inline(always)]
+    pub fn code(&self) -> u8
+        ensures { result ≡ write_code self.now }
+    {
+        match self {
+            WriteError::NoRoom { .. } => 1,
+            WriteError::TooLong => 2,
+            WriteError::Options => 3,
+            WriteError::Resolution { .. } => 4,
+        }
+    }
+
+    /// Returns the number of bytes that the buffer has to have, or 0 if a longer one doesn't help.
+    #[inline(always)]
+    pub fn needed(&self) -> usize
+        ensures { result ≡ len_needed self.now }
+    {
+        match self {
+            WriteError::NoRoom { needed } => *needed,
+            WriteError::TooLong | WriteError::Options | WriteError::Resolution { .. } => 0,
+        }
+    }
 }

@@ -5,7 +5,7 @@ use Rattle.std.proofs.lemmas.Bool.Decides.{nat_tests}
 use Rattle.std.specs.Prelude.{Some, None, slice_range}
 use Rattle.std.specs.Option.{option_map_or, option_or}
 use Rattle.ip_captures.specs.Numbers.{number_at, short_number_at}
-use Rattle.ip_captures.specs.Options.{padded, options_error, IsOption, option_code, option_len, option_value, value_len}
+use Rattle.ip_captures.specs.Options.{padded, options_error, option_code, option_len, option_value, value_len}
 use Rattle.ip_captures.specs.Interface.{interface_in, ticks_in, offset_in}
 use Rattle.ip_captures.specs.Block.{Section, kind_of, order_of, least_len, length_error, head_error, own_order, packet_error, fields_error, whole_error, IsBlock, entered, section_after, frame_of_kind, frame_of_block, packet_in, ticks_at}
 use Rattle.ip_captures.specs.BlockWriter.{IsDescription, IsOptionWith, IsSectionHeader, IsPacketBlock, packet_kept, packet_block_len, AreOptions}

@@ -1,4 +1,4 @@
-use Rattle.std.proofs.Common.{◌≡◌, ◌≢◌, ◌<◌, ℕ}
+use Rattle.std.proofs.Common.{◌≢◌, ◌<◌, ℕ}
 use Rattle.ip_captures.specs.Interface.{resolution}
 use Rattle.ip_captures.proofs.block_writer.resolution_code.Given as goal
 

@@ -1,4 +1,4 @@
-use Rattle.std.proofs.Common.{arith, length}
+use Rattle.std.proofs.Common.{arith}
 use Rattle.ip_captures.proofs.WriterLemmas.{is_option}
 use Rattle.ip_captures.proofs.block_writer.write_option.Goals as goal
 

@@ -1,10 +1,9 @@
-use Rattle.std.proofs.Common.{◌≡◌, ◌+◌, ◌++◌, ◌∙◌, [], List, ℕ, ap, arith, length, sym, refl, append-nil}
+use Rattle.std.proofs.Common.{◌≡◌, ◌++◌, ◌∙◌, [], List, ℕ, ap, arith, length, sym, append-nil}
 use Rattle.std.proofs.lemmas.List.{append_assoc, length-append}
 use Rattle.std.proofs.lemmas.Bool.Decides.{nat_tests}
 use Rattle.std.specs.Prelude.{nat_le, if◌then◌else◌}
 use Rattle.std.specs.Option.{option_map_or}
 use Rattle.ip_captures.specs.Numbers.{long_number_at}
-use Rattle.ip_captures.specs.Options.{option_value}
 use Rattle.ip_captures.specs.BlockWriter.{IsOptionWith}
 use Rattle.ip_captures.proofs.WriterLemmas.{is_option, error_skips, value_skips, value_is}
 use Rattle.ip_captures.proofs.interface.Interface.put_offset.Goals as goal

@@ -3,7 +3,7 @@ use Rattle.std.proofs.lemmas.List.{append_assoc, length-take-le}
 use Rattle.std.specs.Prelude.{Bool, true, false, ◌==◌, nat_le, if◌then◌else◌}
 use Rattle.std.specs.Option.{option_map_or}
 use Rattle.ip_captures.specs.Numbers.{long_number_at}
-use Rattle.ip_captures.specs.Options.{options_error, option_value}
+use Rattle.ip_captures.specs.Options.{options_error}
 use Rattle.ip_captures.specs.Interface.{ticks_in, offset_in}
 use Rattle.ip_captures.proofs.interface.Interface.put_options.Goals as goal
 

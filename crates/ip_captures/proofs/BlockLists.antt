@@ -25,6 +25,9 @@ module _ (limit room : ℕ) where
       → blocks_in limit room c (concat blocks ++ t) ≡ blocks ++ blocks_in limit room (state_after section_after c blocks) t
   joined_blocks c blocks t a = joined_pieces (IsBlock limit room) section_after (first_block_len limit room) finds c blocks t a
 
+  pub first_block : (c : Section) (b t : List ℕ) → IsBlock limit room c b → blocks_in limit room c (b ++ t) ≡ b ∷ blocks_in limit room (section_after c b) t
+  first_block c b t is = first_piece (IsBlock limit room) section_after (first_block_len limit room) finds c (b ++ t) b t is refl
+
   pub blocks_longest : (c : Section) (s : List ℕ) → AreLongestBlocks limit room c s (blocks_in limit room c s) (rest_of_blocks limit room c s)
   blocks_longest c s = longest_with_rest (IsBlock limit room) section_after (first_block_len limit room) finds c s
 

@@ -7,6 +7,7 @@
  *
  * Which call to choose:
  *  - For the frames of a capture file: wolfaren_begin_capture once, and then wolfaren_next_record.
+ *  - To write a pcapng file: wolfaren_write_section, wolfaren_write_interface and wolfaren_write_enhanced_packet.
  *  - For the IP packet in a frame of a link layer: wolfaren_find_ip.
  *  - For packets as they were captured, which may be truncated or fragments: wolfaren_dissect.
  *  - For a condition on such packets: wolfaren_parse_filter once, and then wolfaren_filter_matches, or wolfaren_compile_filter
@@ -68,10 +69,10 @@
 #define WOLFAREN_VERSION (10000 * WOLFAREN_VERSION_MAJOR + 100 * WOLFAREN_VERSION_MINOR + WOLFAREN_VERSION_PATCH)
 
 /* A checksum of the structs, numbers and calls in this header, made by scripts/abi of the repository. */
-#define WOLFAREN_ABI 0x83977771u
+#define WOLFAREN_ABI 0xec1e85a0u
 
 /* The symbol that is named after the checksum. */
-#define WOLFAREN_ABI_SYMBOL wolfaren_abi_83977771
+#define WOLFAREN_ABI_SYMBOL wolfaren_abi_ec1e85a0
 
 /* The machines for which the library is built. That of `make rust-c` is for any machine, and its users define WOLFAREN_PLAIN. */
 #ifdef WOLFAREN_PLAIN
@@ -374,6 +375,56 @@ void wolfaren_next_record(struct wolfaren_capture *capture, const uint8_t *bytes
 
 /* Formats an error in a capture as text, as wolfaren_fault_text does an error in a packet. The text is empty without an error. */
 size_t wolfaren_capture_error_text(const struct wolfaren_capture_error *error, char *text, size_t room) WOLFAREN_NONNULL(1);
+
+/* Why nothing was written: results of the calls that write pcapng files, and WOLFAREN_WRITTEN if something was. */
+enum {
+    WOLFAREN_WRITTEN = 0,
+    WOLFAREN_WRITE_NO_ROOM = 1,     /* it takes more bytes than there is room for */
+    WOLFAREN_WRITE_TOO_LONG = 2,    /* its length field can't hold the length: 32 bits in a block, 16 in an option */
+    WOLFAREN_WRITE_OPTIONS = 3,     /* an option has fewer bytes than it states, or the options aren't padded */
+    WOLFAREN_WRITE_RESOLUTION = 4   /* the ticks of a second are no power of 10 or 2 */
+};
+
+/*
+ * These four calls write a pcapng file in parts, each of them to `out`: a section header, the descriptions of interfaces, and
+ * packets, which wolfaren_next_record then returns with the same bytes, lengths, times and interfaces
+ * (draft-ietf-opsawg-pcapng, sections 3.5 and 4.1 to 4.3). `byte_order` is that of the section: 0 if numbers have their least
+ * significant byte first, otherwise 1. Each call returns WOLFAREN_WRITTEN, and stores the length in `len`, or one of the codes above;
+ * then `out` is unchanged, and `len` is the room that is needed, or 0 if more room doesn't help.
+ */
+
+/* Writes the 28 bytes of a section header without options. */
+WOLFAREN_USE_RESULT
+uint8_t wolfaren_write_section(uint8_t byte_order, uint8_t *out, size_t room, size_t *len) WOLFAREN_NONNULL(4);
+
+/*
+ * Writes the description of an interface, whose packets have its number: the first one in a section is 0. It takes 20 to 44 bytes.
+ * The only options are the resolution, unless there are 1,000,000 ticks a second, and the offset, unless it is 0.
+ */
+WOLFAREN_USE_RESULT
+uint8_t wolfaren_write_interface(uint8_t byte_order, const struct wolfaren_interface *interface, uint8_t *out, size_t room,
+                                 size_t *len) WOLFAREN_NONNULL(2, 5);
+
+/* Writes an option with this code and the `value_len` bytes of its value, padded, such as a comment (1). 4 bytes of 0 end options. */
+WOLFAREN_USE_RESULT
+uint8_t wolfaren_write_option(uint8_t byte_order, uint16_t code, const uint8_t *value, size_t value_len, uint8_t *out, size_t room,
+                              size_t *len) WOLFAREN_NONNULL(7);
+
+/* A packet to be written. */
+struct wolfaren_enhanced_packet {
+    const uint8_t *captured; /* the captured bytes; null if there are none */
+    size_t captured_len;     /* number of captured bytes */
+    const uint8_t *options;  /* options, with their end if they have one; null if there are none */
+    size_t options_len;      /* length of the options in bytes */
+    uint64_t ticks;          /* the time of capture in ticks of the interface's clock */
+    uint32_t original_len;   /* length of the packet in bytes when it was captured */
+    uint32_t interface;      /* the number of the interface in the section, which describes it before the packet */
+};
+
+/* Writes an enhanced packet block: 32 bytes, the captured bytes, padded to a multiple of 4, and the options. */
+WOLFAREN_USE_RESULT
+uint8_t wolfaren_write_enhanced_packet(uint8_t byte_order, const struct wolfaren_enhanced_packet *packet, uint8_t *out, size_t room,
+                                       size_t *len) WOLFAREN_NONNULL(2, 5);
 
 /* What is after the headers of a frame: values of `end` in struct wolfaren_frame. */
 enum {
@@ -1765,6 +1816,7 @@ WOLFAREN_LAYOUT(wolfaren_interface, 24, offset, 16);
 WOLFAREN_LAYOUT(wolfaren_capture, 48, byte_order, 43);
 WOLFAREN_LAYOUT(wolfaren_capture_error, 32, kind, 24);
 WOLFAREN_LAYOUT(wolfaren_record, 88, kind, 87);
+WOLFAREN_LAYOUT(wolfaren_enhanced_packet, 48, interface, 44);
 WOLFAREN_LAYOUT(wolfaren_frame, 40, end, 34);
 WOLFAREN_LAYOUT(wolfaren_dissection, 104, end, 102);
 WOLFAREN_LAYOUT(wolfaren_statistics, 8152, faults, 7128);

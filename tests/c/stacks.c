@@ -41,9 +41,9 @@ static uint64_t state = 1;
 
 /* The arguments of calls, and their results. The extension headers of the packet begin at `offset` with `number`. */
 static uint8_t packet[MOST_PACKET], added[256], out[WOLFAREN_WHOLE_PACKET_ROOM], batch[PACKETS * MOST_PACKET];
-static uint8_t number, added_number, payload_number, matches[PACKETS], address[16];
+static uint8_t number, byte_order, added_number, payload_number, matches[PACKETS], address[16];
 static uint32_t link_type;
-static uint16_t ethertype;
+static uint16_t ethertype, option_code;
 static size_t len, added_len, offset, index_of_header, room, headers_room, count, text_len, written, outside, wanted_slots, memory_size;
 static bool may_be_invalid;
 static char text[TEXT], words[WOLFAREN_TEXT_ROOM];
@@ -64,6 +64,7 @@ static struct wolfaren_interface interfaces[2];
 static struct wolfaren_capture capture;
 static struct wolfaren_capture_error capture_error;
 static struct wolfaren_record record;
+static struct wolfaren_enhanced_packet to_write;
 static struct wolfaren_frame frame_found;
 static struct wolfaren_packet parsed;
 static struct wolfaren_payload payload;
@@ -98,6 +99,10 @@ CALL(fault_at, (&cursor, packet + offset, len - offset, &fault))
 RESULT(begin_capture, (&capture, packet, len, &capture_error))
 CALL(next_record, (&capture, packet, len, &record))
 RESULT(capture_error_text, (&capture_error, words, sizeof words))
+RESULT(write_section, (byte_order, out, room, &written))
+RESULT(write_interface, (byte_order, interfaces, out, room, &written))
+RESULT(write_option, (byte_order, option_code, packet, len, out, room, &written))
+RESULT(write_enhanced_packet, (byte_order, &to_write, out, room, &written))
 RESULT(find_ip, (link_type, packet, len, &frame_found))
 CALL(find_ip_after, (ethertype, packet, len, &frame_found))
 CALL(dissect, (packet, len, headers, headers_room, &dissection))
@@ -359,6 +364,23 @@ static void measure_capture_calls(void)
     measure(&next_record);
     capture_error = record.error;
     measure(&capture_error_text);
+}
+
+/* Writes blocks and options of any values. */
+static void measure_capture_writers(void)
+{
+    static const uint64_t clocks[] = {0, 1, 1000000, 1000000000, 3};
+    byte_order = (uint8_t)draw(2);
+    room = draw(MOST_PACKET);
+    len = draw(MOST_PACKET / 2);
+    option_code = (uint16_t)draw(4);
+    draw_bytes(packet, len, 256);
+    measure(&write_section);
+    interfaces[0] = (struct wolfaren_interface){1, (uint32_t)draw(65536), clocks[draw(5)], draw(2)};
+    measure(&write_interface);
+    measure(&write_option);
+    to_write = (struct wolfaren_enhanced_packet){packet, draw(len + 1), packet, draw(2) ? 0 : draw(len + 1), draw(1000), 0, 0};
+    measure(&write_enhanced_packet);
 }
 
 /* Finds IP after headers that lead on: labels of MPLS without the last one, and any bytes. */
@@ -658,6 +680,7 @@ static void measure_all(void)
     for (int i = 0; i < ROUNDS; i++) {
         measure_packet_calls();
         measure_capture_calls();
+        measure_capture_writers();
         measure_frame_calls();
         measure_chain_calls();
         measure_header_calls();

@@ -6,7 +6,7 @@ use Rattle.std.proofs.lemmas.Bool.Decides.{nat_tests}
 use Rattle.std.proofs.lemmas.Option.{same_Some}
 use Rattle.std.specs.List.{concat}
 use Rattle.std.specs.Prelude.{Some, None, IsSome}
-use Rattle.ip_captures.specs.Pieces.{ArePieces}
+use Rattle.ip_captures.specs.Pieces.{ArePieces, state_after}
 use Rattle.ip_captures.specs.Next.{contents_of, error_of}
 use Rattle.ip_captures.specs.Block.{Section, IsBlock, AreLongestBlocks, blocks_in, rest_of_blocks, section_after, first_block_len, own_order, total_len, block_error, frame_of_block}
 use Rattle.ip_captures.specs.PcapngNext.{IsNextBlock, IsWrong, section_next, record_len_of, block_needed}
@@ -15,11 +15,18 @@ use Rattle.ip_captures.specs.declared.err.CaptureError.TheVariants as capture
 use Rattle.ip_captures.specs.declared.next.Next.{Next}
 use Rattle.ip_captures.specs.declared.next.Next.TheVariants as next
 use Rattle.ip_captures.proofs.BlockLemmas.{finds_blocks, same_total, same_head_error}
-use Rattle.ip_captures.proofs.PieceLemmas.{Finds, first_piece, no_piece, longest_with_rest, one_longest, first_of_longest, same_first}
+use Rattle.ip_captures.proofs.PieceLemmas.{Finds, first_piece, joined_pieces, no_piece, longest_with_rest, one_longest, first_of_longest, same_first}
 
 module _ (limit room : ℕ) where
   finds : Finds (IsBlock limit room) (first_block_len limit room)
   finds = finds_blocks limit room
+
+  pub joined_blocks : (c : Section) (blocks : List (List ℕ)) (t : List ℕ) → ArePieces (IsBlock limit room) section_after c blocks
+      → blocks_in limit room c (concat blocks ++ t) ≡ blocks ++ blocks_in limit room (state_after section_after c blocks) t
+  joined_blocks c blocks t a = joined_pieces (IsBlock limit room) section_after (first_block_len limit room) finds c blocks t a
+
+  pub first_block : (c : Section) (b t : List ℕ) → IsBlock limit room c b → blocks_in limit room c (b ++ t) ≡ b ∷ blocks_in limit room (section_after c b) t
+  first_block c b t is = first_piece (IsBlock limit room) section_after (first_block_len limit room) finds c (b ++ t) b t is refl
 
   pub blocks_longest : (c : Section) (s : List ℕ) → AreLongestBlocks limit room c s (blocks_in limit room c s) (rest_of_blocks limit room c s)
   blocks_longest c s = longest_with_rest (IsBlock limit room) section_after (first_block_len limit room) finds c s

@@ -5,3 +5,4 @@ mod OptionLemmas
 mod BlockLemmas
 mod BlockLists
 mod CaptureLemmas
+mod WriterLemmas

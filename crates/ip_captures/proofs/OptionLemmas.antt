@@ -2,11 +2,10 @@
 use Rattle.std.proofs.Common.{◌≡◌, ◌≢◌, ℕ, ◌+◌, ◌≤◌, List, ◌∷◌, ◌++◌, length, take, drop, ap, arith, ◌∙◌, sym}
 use Rattle.std.proofs.lemmas.List.{length-append, length-take-le, take-append-drop}
 use Rattle.std.proofs.lemmas.Bool.Decides.{nat_tests}
-use Rattle.std.specs.Prelude.{Option, Some, None, slice_range, true, false, if◌then◌else◌}
+use Rattle.std.specs.Prelude.{Some, None, slice_range, if◌then◌else◌}
 use Rattle.std.specs.List.{concat}
 use Rattle.ip_captures.specs.Pieces.{pieces_in}
 use Rattle.ip_captures.specs.Options.{padded, option_code, value_len, IsOption, option_len, same_order, value_among, option_value, has_end, truncated_option, options_error}
-use Rattle.ip_captures.specs.declared.err.BlockError.{BlockError}
 use Rattle.ip_captures.specs.declared.byte_order.ByteOrder.{ByteOrder}
 use Rattle.ip_captures.proofs.NumberLemmas.{short_number_at-append, short_number_at-take, range-take}
 use Rattle.ip_captures.proofs.PieceLemmas.{Finds, first_piece, no_piece, none_begins, rest_after_first}
@@ -22,7 +21,7 @@ begins o s k e = grind (arith, nat_tests, e)
 option_len-is : (o : ByteOrder) (s : List ℕ) → 4 ≤ length s → 4 + padded (value_len o s) ≤ length s → option_len o s ≡ Some (4 + padded (value_len o s))
 option_len-is o s a b = grind (arith, nat_tests)
 
-finds_options : Finds IsOption option_len
+pub finds_options : Finds IsOption option_len
 finds_options = record {
   found = λ o s k e.
       let b = begins o s k e in

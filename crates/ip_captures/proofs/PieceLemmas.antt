@@ -4,7 +4,7 @@ use Rattle.std.proofs.lemmas.List.{append_assoc, take-append-drop, length-drop, 
 use Rattle.std.specs.Prelude.{Option, Some, None}
 use Rattle.std.specs.Option.{option_map_or}
 use Rattle.std.specs.List.{concat}
-use Rattle.ip_captures.specs.Pieces.{ArePieces, BeginsWithPiece, AreLongest, pieces_within, pieces_in}
+use Rattle.ip_captures.specs.Pieces.{ArePieces, BeginsWithPiece, AreLongest, state_after, pieces_within, pieces_in}
 
 -- `len` is the length of the piece that begins some bytes, if one does.
 pub record Finds {C : Type 0} (IsPiece : C → List ℕ → Type 0) (len : C → List ℕ → Option ℕ) : Type 0 where
@@ -106,6 +106,12 @@ module _ {C : Type 0} (IsPiece : C → List ℕ → Type 0) (after : C → List 
   first_piece c s p t i e =
       let x = pieces_longest (after c p) t in
       pieces_are c s x.0 (p ∷ pieces_in len after (after c p) t) (one_more c s p t x.0 _ i e x.1)
+
+  -- Pieces, joined, with more bytes after them.
+  pub joined_pieces : (c : C) (ps : List (List ℕ)) (t : List ℕ) → ArePieces IsPiece after c ps → pieces_in len after c (concat ps ++ t) ≡ ps ++ pieces_in len after (state_after after c ps) t
+  joined_pieces c [] t a = refl
+  joined_pieces c (p ∷ ps) t a =
+      first_piece c (concat (p ∷ ps) ++ t) p (concat ps ++ t) a.0 (append_assoc p (concat ps) t) ∙ ap (λ qs. p ∷ qs) (joined_pieces (after c p) ps t a.1)
 
   pub no_piece : (c : C) (s : List ℕ) → ¬ BeginsWithPiece IsPiece c s → pieces_in len after c s ≡ []
   no_piece c s n = pieces_are c s s [] (record { pieces = tt; joined = refl; longest = n })

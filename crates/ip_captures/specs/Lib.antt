@@ -17,3 +17,4 @@ pub mod PcapngCapture
 pub mod CaptureFields
 pub mod Capture
 pub mod ClassicWriter
+pub mod BlockWriter

@@ -56,9 +56,9 @@ fn captured_at(order: ByteOrder, bytes: &[u8]) -> usize
 }
 
 impl ByteOrder {
-    /// Returns the byte order with a code.
+    /// Returns the byte order with a code, for C: the least significant byte first 0, last any other.
     #[inline(always)]
-    fn with_code(code: u8) -> ByteOrder
+    pub fn with_code(code: u8) -> ByteOrder
         ensures { result ≡ order_in code }
     {
         if code == 0 {

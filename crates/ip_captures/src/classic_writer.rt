@@ -10,7 +10,7 @@ use crate::{ByteOrder, ClassicHeader, Frame, Variant};
 impl ByteOrder {
     /// Returns the 2 bytes of a number.
     #[inline]
-    fn short_bytes_of(self, number: u16) -> [u8; 2]
+    pub(crate) fn short_bytes_of(self, number: u16) -> [u8; 2]
         ensures { short_number_at self result 0 ≡ number }
     {
         match self {
@@ -21,7 +21,7 @@ impl ByteOrder {
 
     /// Returns the 4 bytes of a number.
     #[inline]
-    fn bytes_of(self, number: u32) -> [u8; 4]
+    pub(crate) fn bytes_of(self, number: u32) -> [u8; 4]
         ensures { number_at self result 0 ≡ number }
     {
         match self {

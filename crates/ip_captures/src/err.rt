@@ -1,4 +1,7 @@
 //! What is wrong with a capture.
+ghost use Rattle.std.specs.Prelude.{◌≡◌};
+ghost use Rattle.ip_captures.specs.BlockWriter.{write_code, len_needed};
+
 use thiserror::Error;
 
 /// An error in a capture. Offsets count from the start of the capture.
@@ -105,4 +108,53 @@ pub enum BlockError {
         /// The number of bytes after its fields.
         left: usize,
     },
+}
+
+/// Why a block of pcapng isn't written.
+#[derive(Clone, Copy, Debug, PartialEq, Eq, Hash, Error)]
+pub enum WriteError {
+    /// The buffer is too short for the block.
+    #[error("the buffer has fewer than {needed} bytes")]
+    NoRoom {
+        /// The length of the block, in bytes.
+        needed: usize,
+    },
+    /// The length doesn't fit its field: 32 bits in a block (section 3.1), 16 in an option (section 3.5).
+    #[error("its length field can't hold the length")]
+    TooLong,
+    /// An option has fewer bytes than it states, or the options aren't padded (section 3.5).
+    #[error("an option is truncated or isn't padded")]
+    Options,
+    /// The ticks of a second are neither a power of 10 nor one of 2 (section 4.2).
+    #[error("{ticks_per_second} ticks of a second are no power of 10 or 2")]
+    Resolution {
+        /// The ticks of a second.
+        ticks_per_second: u64,
+    },
+}
+
+impl WriteError {
+    /// Returns a number that stands for the kind of the error, for C: no room 1, a length that is too long 2, options 3, ticks 4.
+    #[inline(always)]
+    pub fn code(&self) -> u8
+        ensures { result ≡ write_code self.now }
+    {
+        match self {
+            WriteError::NoRoom { .. } => 1,
+            WriteError::TooLong => 2,
+            WriteError::Options => 3,
+            WriteError::Resolution { .. } => 4,
+        }
+    }
+
+    /// Returns the number of bytes that the buffer has to have, or 0 if a longer one doesn't help.
+    #[inline(always)]
+    pub fn needed(&self) -> usize
+        ensures { result ≡ len_needed self.now }
+    {
+        match self {
+            WriteError::NoRoom { needed } => *needed,
+            WriteError::TooLong | WriteError::Options | WriteError::Resolution { .. } => 0,
+        }
+    }
 }

@@ -20,7 +20,7 @@ pub struct Interface {
 }
 
 /// Returns the ticks of a second by the value of if_tsresol, or 0 if 64 bits don't hold them.
-fn ticks_per_second(tsresol: u8) -> u64
+pub(crate) fn ticks_per_second(tsresol: u8) -> u64
     ensures { result ≡ resolution tsresol }
 {
     let power = if tsresol < 128 {

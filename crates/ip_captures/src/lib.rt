@@ -1,4 +1,4 @@
-//! Reads capture files: classic captures (draft-ietf-opsawg-pcap, and the modified format) and pcapng
+//! Reads and writes capture files: classic captures (draft-ietf-opsawg-pcap, and the modified format) and pcapng
 //! (draft-ietf-opsawg-pcapng). The caller holds the bytes, and gives the reader as many as it has: of a file, a pipe or
 //! a decompressed stream. Nothing is copied or allocated.
 //!
@@ -7,6 +7,7 @@
 //! | read either form, as bytes arrive | `Capture::begin` with the first 24 bytes or more and memory for interfaces, then `next` with the bytes from `offset` on |
 //! | parse the file header of a classic file | `ClassicHeader::parse` |
 //! | write a classic file | `ClassicHeader::to_bytes` once, then `record_header` before each frame's bytes |
+//! | write a pcapng file | `ByteOrder::section_header` once, then `Interface::write` for each interface and `EnhancedPacket::write` for each packet; `write_option` for a comment or another option |
 //! | read a classic file frame by frame | `ClassicCapture::begin`, then `next`, which moves past a frame |
 //! | get all frames of the bytes that are there | `ClassicCapture::frames`, an iterator; after the last frame `end` returns the bytes that are left, and why no record begins them |
 //!
@@ -20,7 +21,7 @@
 //! | `Error` | stop |
 //!
 //! The laws say that more bytes change no frame, block or error, and that calls return the longest list of blocks one by
-//! one; `ClassicCapture::frames` does so for records. `next_captured` and `next_captured_in_numbers` in
+//! one; `ClassicCapture::frames` does so for records. What is written is read again (`written_blocks_are_read_again`). `next_captured` and `next_captured_in_numbers` in
 //! `check_uses/src/captures.rt` are callers.
 //!
 //! Blocks that the reader knows are checked with the lengths of their options; of other blocks only the two total lengths are.
@@ -29,6 +30,7 @@
 mod block;
 mod block_laws;
 mod block_reader;
+mod block_writer;
 mod byte_order;
 mod capture;
 mod capture_fields;
@@ -49,15 +51,17 @@ mod record_laws;
 
 pub use block::BlockKind;
 pub use block_laws::{
-    more_bytes_change_no_block, next_returns_the_first_block, one_longest_list_of_blocks,
+    joined_blocks_are_read_again, more_bytes_change_no_block, next_returns_the_first_block,
+    one_longest_list_of_blocks, written_blocks_are_read_again,
 };
+pub use block_writer::{EnhancedPacket, write_option};
 pub use byte_order::ByteOrder;
 pub use capture::Capture;
 pub use capture_fields::CaptureFields;
 pub use classic_capture::ClassicCapture;
 pub use classic_frames::ClassicFrames;
 pub use classic_header::{ClassicHeader, Variant};
-pub use err::{BlockError, CaptureError};
+pub use err::{BlockError, CaptureError, WriteError};
 pub use error_fields::CaptureErrorFields;
 pub use frame::{Block, Frame};
 pub use interface::Interface;

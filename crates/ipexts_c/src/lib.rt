@@ -4,6 +4,7 @@
 #![tactic(auto)]
 
 mod bytes;
+mod capture_writers;
 mod captures;
 mod chain_counts;
 mod chains;

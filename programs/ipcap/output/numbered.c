@@ -7,41 +7,25 @@
 #include "capture/blocks.h"
 
 /* The types of blocks. */
-enum { SIMPLE_PACKET = 3, ENHANCED_PACKET = 6 };
+enum { OBSOLETE_PACKET = 2, SIMPLE_PACKET = 3 };
 
-/* How many bytes of an enhanced packet block come before the packet, and how many end each block. */
-enum { BLOCK_HEAD = 28, TRAILER_LEN = 4 };
+/* Where a block has its interface and its time, and its length without a packet and options. */
+enum { INTERFACE_AT = 8, TIME_AT = 12, LEAST_LEN = 32 };
 
-/* The option of a comment, the length of each option's head, and that of the end of the options. */
-enum { COMMENT = 1, OPTION_HEAD = 4, OPTIONS_END = 4 };
+/* The option of a comment, the length of each option's head, and that of the end of the options and of the end of a block. */
+enum { COMMENT = 1, OPTION_HEAD = 4, OPTIONS_END = 4, TRAILER_LEN = 4 };
 
-/* How long a comment is at most: the escaped name of a file, and what comes before it. */
+/* How long a comment is at most, a multiple of 4: the escaped name of a file, and what comes before it. */
 enum { MOST_COMMENT = 32768 };
-
-/* Stores a number in 2 bytes. */
-static void put_half_word(uint8_t *place, unsigned number, bool is_little)
-{
-    place[is_little ? 0 : 1] = (uint8_t)(number & 0xff);
-    place[is_little ? 1 : 0] = (uint8_t)(number >> 8);
-}
 
 size_t write_numbered_head(uint8_t head[NUMBERED_HEAD], int link_type, uint32_t snap_len, bool is_fine)
 {
-    static const uint8_t section[] = {0x0a, 0x0d, 0x0d, 0x0a, 28,   0,    0,    0,    0x4d, 0x3c, 0x2b, 0x1a, 1,  0, 0, 0,
-                                      0xff, 0xff, 0xff, 0xff, 0xff, 0xff, 0xff, 0xff, 28,   0,    0,    0};
-    static const uint8_t nanoseconds[] = {9, 0, 1, 0, 9, 0, 0, 0, 0, 0, 0, 0};
-    enum { LEN = 20, LINK_TYPE_AT = 8, SNAP_LEN_AT = 12, OPTIONS_AT = 16 };
-    uint8_t *interface = head + sizeof section;
-    uint32_t len = LEN + (is_fine ? (uint32_t)sizeof nanoseconds : 0);
-    memcpy(head, section, sizeof section);
-    memset(interface, 0, len);
-    put_block_number(interface, 1, true);
-    put_block_number(interface + 4, len, true);
-    put_half_word(interface + LINK_TYPE_AT, file_link_type(link_type), true);
-    put_block_number(interface + SNAP_LEN_AT, snap_len, true);
-    if (is_fine) memcpy(interface + OPTIONS_AT, nanoseconds, sizeof nanoseconds);
-    put_block_number(interface + len - TRAILER_LEN, len, true);
-    return sizeof section + len;
+    const struct wolfaren_interface interface = {.link_type = (uint16_t)file_link_type(link_type), .snap_len = snap_len,
+                                                 .ticks_per_second = is_fine ? 1000000000 : 1000000};
+    size_t section_len, len;
+    bool is_written = wolfaren_write_section(0, head, NUMBERED_HEAD, &section_len) == WOLFAREN_WRITTEN
+        && wolfaren_write_interface(0, &interface, head + section_len, NUMBERED_HEAD - section_len, &len) == WOLFAREN_WRITTEN;
+    return is_written ? section_len + len : 0; /* there is room */
 }
 
 /* Makes room for a block. Returns false if memory runs out. */
@@ -55,48 +39,48 @@ static bool make_room(struct numbered *numbered, size_t len)
     return numbered->block;
 }
 
-/* Writes the comment, and returns its length. */
-static uint32_t write_comment(char text[MOST_COMMENT], const struct numbered *numbered, const struct capture *capture)
+/* Writes the comment as an option, and returns its length. */
+static size_t write_comment(uint8_t option[OPTION_HEAD + MOST_COMMENT], const struct numbered *numbered,
+                            const struct capture *capture, bool is_little)
 {
+    char text[MOST_COMMENT];
     unsigned long long number = capture->number;
-    int len = numbered->origin ? snprintf(text, MOST_COMMENT, "packet %llu of %s", number, numbered->origin)
-                               : snprintf(text, MOST_COMMENT, "packet %llu", number);
-    return len < MOST_COMMENT ? (uint32_t)len : MOST_COMMENT - 1;
+    int text_len = numbered->origin ? snprintf(text, sizeof text, "packet %llu of %s", number, numbered->origin)
+                                    : snprintf(text, sizeof text, "packet %llu", number);
+    const size_t shown = text_len < MOST_COMMENT ? (size_t)text_len : MOST_COMMENT - 1;
+    size_t len;
+    const uint8_t code =
+        wolfaren_write_option(!is_little, COMMENT, (const uint8_t *)text, shown, option, OPTION_HEAD + MOST_COMMENT, &len);
+    return code == WOLFAREN_WRITTEN ? len : 0; /* there is room */
 }
 
-/* Appends the comment to the block, and `options` after it, or the end of the options if there are none. */
-static void put_options(struct numbered *numbered, const char *text, uint32_t text_len, const uint8_t *options, size_t options_len,
-                        bool is_little)
+/*
+ * Makes the block of a packet, with the comment before its options, or before their end if it has none. Returns the comment's
+ * length as an option, or 0 if memory runs out.
+ */
+static size_t make_block(struct numbered *numbered, const struct capture *capture, struct wolfaren_enhanced_packet packet,
+                         bool is_little)
 {
-    uint8_t *place = numbered->block + numbered->len;
-    uint32_t padded = padded_len(text_len);
-    put_half_word(place, COMMENT, is_little);
-    put_half_word(place + 2, text_len, is_little);
-    memset(place + OPTION_HEAD, 0, padded);
-    memcpy(place + OPTION_HEAD, text, text_len);
-    place += OPTION_HEAD + padded;
-    if (options_len > 0) memcpy(place, options, options_len);
-    else memset(place, 0, OPTIONS_END);
-    numbered->len += OPTION_HEAD + padded + (options_len > 0 ? options_len : OPTIONS_END);
+    static const uint8_t end[OPTIONS_END];
+    if (packet.options_len == 0) packet.options = end;
+    if (packet.options_len == 0) packet.options_len = sizeof end;
+    const size_t options_room = OPTION_HEAD + MOST_COMMENT + packet.options_len;
+    const size_t room = LEAST_LEN + (size_t)padded_len((uint32_t)packet.captured_len) + options_room;
+    if (!make_room(numbered, room + options_room)) return 0;
+    uint8_t *options = numbered->block + room;
+    const size_t comment_len = write_comment(options, numbered, capture, is_little);
+    memcpy(options + comment_len, packet.options, packet.options_len);
+    packet.options = options;
+    packet.options_len += comment_len;
+    const uint8_t code = wolfaren_write_enhanced_packet(!is_little, &packet, numbered->block, room, &numbered->len);
+    return code == WOLFAREN_WRITTEN ? comment_len : 0; /* the options were read as right ones */
 }
 
-/* Ends the block with its length, which is also stored in its head. */
-static void end_block(struct numbered *numbered, bool is_little)
+/* Returns a packet of the first interface, with a time in its ticks and without options. */
+static struct wolfaren_enhanced_packet packet_of(const struct packet *packet, uint64_t ticks)
 {
-    numbered->len += TRAILER_LEN;
-    put_block_number(numbered->block + 4, (uint32_t)numbered->len, is_little);
-    put_block_number(numbered->block + numbered->len - TRAILER_LEN, (uint32_t)numbered->len, is_little);
-}
-
-/* Begins an enhanced packet block, with the packet, of the first interface. There must be room. */
-static void begin_block(struct numbered *numbered, const struct packet *packet, uint64_t units, bool is_little)
-{
-    uint32_t len = packet->header.caplen, padded = padded_len(len);
-    uint32_t fields[] = {ENHANCED_PACKET, 0, 0, (uint32_t)(units >> 32), (uint32_t)(units & UINT32_MAX), len, packet->header.len};
-    for (size_t i = 0; i < sizeof fields / sizeof *fields; i++) put_block_number(numbered->block + 4 * i, fields[i], is_little);
-    memcpy(numbered->block + BLOCK_HEAD, packet->frame, len);
-    memset(numbered->block + BLOCK_HEAD + len, 0, padded - len);
-    numbered->len = BLOCK_HEAD + (size_t)padded;
+    return (struct wolfaren_enhanced_packet){.captured = packet->frame, .captured_len = packet->header.caplen,
+                                             .ticks = ticks, .original_len = packet->header.len};
 }
 
 /* Returns a time as a number of nanoseconds or microseconds. */
@@ -105,47 +89,37 @@ static uint64_t units_of(struct timespec time, bool is_fine)
     return (uint64_t)time.tv_sec * (is_fine ? 1000000000 : 1000000) + (uint64_t)(is_fine ? time.tv_nsec : time.tv_nsec / 1000);
 }
 
-/* Returns how much room the block of a packet needs besides its options. */
-static size_t room_for(const struct packet *packet)
-{
-    return BLOCK_HEAD + (size_t)padded_len(packet->header.caplen) + OPTION_HEAD + MOST_COMMENT + OPTIONS_END + TRAILER_LEN;
-}
-
-/* Makes a block as `make_numbered` does, in a byte order. */
-static bool make_block(struct numbered *numbered, const struct capture *capture, const struct packet *packet, uint64_t units,
-                       bool is_little)
-{
-    char text[MOST_COMMENT];
-    if (!make_room(numbered, room_for(packet))) return false;
-    begin_block(numbered, packet, units, is_little);
-    uint32_t text_len = write_comment(text, numbered, capture);
-    put_options(numbered, text, text_len, NULL, 0, is_little);
-    end_block(numbered, is_little);
-    return true;
-}
-
 bool make_numbered(struct numbered *numbered, const struct capture *capture, const struct packet *packet, bool is_fine)
 {
-    return make_block(numbered, capture, packet, units_of(packet->time, is_fine), true);
+    return make_block(numbered, capture, packet_of(packet, units_of(packet->time, is_fine)), true) > 0;
+}
+
+/* Returns the packet of an enhanced or obsolete packet block, with its options. */
+static struct wolfaren_enhanced_packet packet_in(const struct packet *packet, bool is_little)
+{
+    const uint8_t *place = packet->block + TIME_AT;
+    const uint64_t ticks = (uint64_t)block_number(place, is_little) << 32 | block_number(place + 4, is_little);
+    struct wolfaren_enhanced_packet it = packet_of(packet, ticks);
+    it.interface = packet->interface;
+    it.options = packet->frame + padded_len(packet->header.caplen);
+    it.options_len = (size_t)(packet->block + packet->block_len - TRAILER_LEN - it.options);
+    return it;
 }
 
 bool copy_numbered(struct numbered *numbered, const struct capture *capture, const struct packet *packet, bool *is_numbered)
 {
-    char text[MOST_COMMENT];
-    bool is_little = !packet->is_big_endian;
+    const bool is_little = !packet->is_big_endian;
+    const uint32_t type = block_number(packet->block, is_little);
     *is_numbered = true;
-    if (block_number(packet->block, is_little) == SIMPLE_PACKET) return make_block(numbered, capture, packet, 0, is_little);
-    size_t head = (size_t)(packet->frame - packet->block) + padded_len(packet->header.caplen);
-    size_t options_len = packet->block_len - TRAILER_LEN - head;
-    if (!make_room(numbered, room_for(packet) + options_len)) return false;
-    memcpy(numbered->block, packet->block, packet->block_len);
-    numbered->len = packet->block_len;
-    uint32_t text_len = write_comment(text, numbered, capture);
-    *is_numbered = packet->block_len + OPTION_HEAD + padded_len(text_len) + OPTIONS_END <= MOST_BLOCK;
-    if (!*is_numbered) return true;
-    numbered->len = head;
-    put_options(numbered, text, text_len, packet->block + head, options_len, is_little);
-    end_block(numbered, is_little);
+    if (type == SIMPLE_PACKET) return make_block(numbered, capture, packet_of(packet, 0), is_little) > 0;
+    const size_t comment_len = make_block(numbered, capture, packet_in(packet, is_little), is_little);
+    *is_numbered = packet->block_len + comment_len + OPTIONS_END <= MOST_BLOCK;
+    if (!*is_numbered) numbered->len = packet->block_len;
+    if (!*is_numbered) memcpy(numbered->block, packet->block, packet->block_len);
+    if (comment_len == 0 || type != OBSOLETE_PACKET) return comment_len > 0;
+    /* an obsolete packet block has the same fields, but for its type and its interface */
+    memcpy(numbered->block, packet->block, sizeof type);
+    memcpy(numbered->block + INTERFACE_AT, packet->block + INTERFACE_AT, sizeof packet->interface);
     return true;
 }
 

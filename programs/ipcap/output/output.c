@@ -84,10 +84,11 @@ static bool begin_blocks(struct output *output, struct capture *capture, FILE *f
 
 bool begin_empty_output(struct output *output, FILE *file)
 {
-    static const uint8_t section[] = {0x0a, 0x0d, 0x0d, 0x0a, 28,   0,    0,    0,    0x4d, 0x3c, 0x2b, 0x1a, 1,  0, 0, 0,
-                                      0xff, 0xff, 0xff, 0xff, 0xff, 0xff, 0xff, 0xff, 28,   0,    0,    0};
+    uint8_t section[NUMBERED_HEAD];
+    size_t len;
     output->file = file;
-    return fwrite(section, 1, sizeof section, file) == sizeof section || flush_output(output);
+    if (wolfaren_write_section(0, section, sizeof section, &len) != WOLFAREN_WRITTEN) return fail(output, "no room");
+    return fwrite(section, 1, len, file) == len || flush_output(output);
 }
 
 bool begin_output(struct output *output, struct capture *capture, FILE *file)

@@ -1,7 +1,7 @@
 //! What C passes, as Rust has it.
 
 use core::slice::{from_raw_parts, from_raw_parts_mut};
-use wolfaren::captures::{CaptureFields, Interface};
+use wolfaren::captures::{CaptureFields, EnhancedPacket, Interface};
 use wolfaren::chains::{CountedKey, KeyCounts};
 use wolfaren::defragment::{
     Defragmenter, DefragmenterCounts, Links, PacketMemory, Settings, Slot, SlotTable, Table,
@@ -65,6 +65,42 @@ pub struct CCapture {
     link_type: u16,
     form: u8,
     byte_order: u8,
+}
+
+/// `struct wolfaren_enhanced_packet`.
+#[repr(C)]
+pub struct CEnhancedPacket {
+    captured: *const u8,
+    captured_len: usize,
+    options: *const u8,
+    options_len: usize,
+    ticks: u64,
+    original_len: u32,
+    interface: u32,
+}
+
+impl CEnhancedPacket {
+    /// Returns the packet.
+    ///
+    /// # Safety
+    ///
+    /// The bytes are there, and nothing writes them.
+    pub(crate) unsafe fn packet(&self) -> EnhancedPacket<'_> {
+        // SAFETY: the caller says so.
+        let (captured, options) = unsafe {
+            (
+                slice(self.captured, self.captured_len),
+                slice(self.options, self.options_len),
+            )
+        };
+        EnhancedPacket {
+            captured,
+            options,
+            ticks: self.ticks,
+            original_len: self.original_len,
+            interface: self.interface,
+        }
+    }
 }
 
 /// Makes a call with a reader of a capture, and stores the reader as the call leaves it.

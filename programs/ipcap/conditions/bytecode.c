@@ -26,14 +26,6 @@ bool read_undecided_argument(const char *argument, void *place)
     return keeps || strcmp(argument, "drop") == 0;
 }
 
-/* Returns the filter of a condition, in which the tests for terms of this program are of a kind that no program decides. */
-static struct wolfaren_filter without_own_tests(const struct condition *condition)
-{
-    struct wolfaren_filter filter = condition->filter;
-    for (size_t i = 0; i < condition->own_count; i++) filter.tests[condition->own[i].test].kind = 0;
-    return filter;
-}
-
 static bool compile(const struct wolfaren_filter *filter, bool keeps, struct bytecode_program *program)
 {
     return wolfaren_compile_filter(filter, keeps, program->instructions, WOLFAREN_BPF_INSTRUCTIONS, &program->count);
@@ -65,11 +57,10 @@ static void print_text(const struct bytecode_program *program)
     }
 }
 
-int print_bytecode(const struct condition *condition, enum bytecode form, enum undecided undecided)
+int print_bytecode(const struct wolfaren_filter *condition, enum bytecode form, enum undecided undecided)
 {
     static struct bytecode_program kept, dropped;
-    const struct wolfaren_filter filter = without_own_tests(condition);
-    if (!compile(&filter, true, &kept) || !compile(&filter, false, &dropped)) {
+    if (!compile(condition, true, &kept) || !compile(condition, false, &dropped)) {
         complain("the program has %zu instructions, and the kernel accepts %d", kept.count, WOLFAREN_BPF_INSTRUCTIONS);
         return STATUS_FAILED;
     }

@@ -4,7 +4,7 @@
 
 #include <stdbool.h>
 
-#include "conditions/condition.h"
+#include "wolfaren.h"
 
 /* How a program is printed: not at all, in numbers as by `tcpdump -ddd`, or in words as by `tcpdump -d`. */
 enum bytecode { BYTECODE_NONE, BYTECODE_NUMBERS, BYTECODE_TEXT };
@@ -20,6 +20,6 @@ bool read_undecided_argument(const char *argument, void *place);
  * Prints the program of a condition, for packets that begin with an IP header. Returns -1, or reports an error and returns the
  * exit status: if the program can't decide each packet, although it has to, or if it is too long.
  */
-int print_bytecode(const struct condition *condition, enum bytecode form, enum undecided undecided);
+int print_bytecode(const struct wolfaren_filter *condition, enum bytecode form, enum undecided undecided);
 
 #endif

@@ -1,17 +1,16 @@
 //! Packets whose reserved bits are cleared.
-ghost use Rattle.std.specs.Prelude.{◌≡◌, ◌≤◌, ◌<◌, ◌+◌, ◌^◌, ◌++◌, ◌==◌, ◌||◌, ◌↔◌, ℕ, List, length, drop, take, true, false, None, if◌then◌else◌, IfOk, OnOk, OnErr};
+ghost use Rattle.std.specs.Prelude.{◌≡◌, ◌≤◌, ◌<◌, ◌+◌, ◌++◌, ◌==◌, ◌||◌, ◌↔◌, ℕ, List, length, drop, take, true, false, IfOk, OnErr};
 ghost use Rattle.std.specs.List.{list_any};
 ghost use Rattle.std.specs.Result.{result_err};
 ghost use Rattle.std.proofs.Common.{rules};
 ghost use Rattle.ip_spec.specs.Header.{IsHeader};
-ghost use Rattle.ip_spec.specs.Chain.{ExtHeader, bytes_of};
+ghost use Rattle.ip_spec.specs.Chain.{ExtHeader};
 ghost use Rattle.ip_spec.specs.Encoding.{cleared_header, cleared_chain};
 ghost use Rattle.ip_dissect.specs.Dissection.{DissectedParts, dissected};
 ghost use Rattle.ip_dissect.specs.Fragment.{fragments};
-ghost use Rattle.ip_rewrite.specs.Rewritten.{rewritten, rewritten_len, rewritten_field, rewritten_parts};
-ghost use Rattle.ip_rewrite.specs.Without.{is_authentication, packet_fault, is_ipv4_fragment};
+ghost use Rattle.ip_rewrite.specs.Rewritten.{rewritten, rewritten_len, rewritten_parts};
+ghost use Rattle.ip_rewrite.specs.Without.{is_authentication, is_ipv4_fragment};
 ghost use Rattle.ip_rewrite.specs.Clearing.{has_reserved, reserved_fragmented, reserved_covered, reserved_fault, clearing_fault};
-ghost use Rattle.ip_rewrite.specs.Writing.{link_of};
 
 use crate::header::fragments;
 use crate::rewriting::write_requested;

@@ -1,16 +1,15 @@
 //! Packets whose extension headers are in the recommended order.
-ghost use Rattle.std.specs.Prelude.{◌≡◌, ◌≤◌, ◌<◌, ◌+◌, ◌^◌, ◌++◌, ◌==◌, ◌||◌, ◌&&◌, ◌↔◌, ℕ, List, length, drop, take, true, if◌then◌else◌, IfOk, OnOk, OnErr, IsTrue};
+ghost use Rattle.std.specs.Prelude.{◌≡◌, ◌<◌, ◌+◌, ◌++◌, ◌==◌, ◌||◌, ◌&&◌, ◌↔◌, length, drop, take, true, IfOk, OnErr, IsTrue};
 ghost use Rattle.std.specs.List.{list_any};
 ghost use Rattle.std.specs.Result.{result_err};
-ghost use Rattle.std.proofs.Common.{rules, refl, subst, sym, append-nil};
-ghost use Rattle.ip_spec.specs.Chain.{ExtHeader, bytes_of};
+ghost use Rattle.std.proofs.Common.{rules};
+ghost use Rattle.ip_spec.specs.Chain.{ExtHeader};
 ghost use Rattle.ip_dissect.specs.Dissection.{DissectedParts, dissected};
 ghost use Rattle.ip_dissect.specs.Fragment.{fragments};
-ghost use Rattle.ip_dissect.specs.Summary.{summary_of};
-ghost use Rattle.ip_rewrite.specs.Rewritten.{rewritten, rewritten_len, rewritten_field, rewritten_parts};
+ghost use Rattle.ip_rewrite.specs.Rewritten.{rewritten, rewritten_len, rewritten_parts};
 ghost use Rattle.ip_rewrite.specs.Without.{is_authentication};
 ghost use Rattle.ip_rewrite.specs.Order.{in_order, is_in_order, order_fault, ordering_fault};
-ghost use Rattle.ip_rewrite.specs.Writing.{AreWritten, routing_index, rank_at, of_rank_from, last_rank, rises_at};
+ghost use Rattle.ip_rewrite.specs.Writing.{routing_index, rank_at, last_rank, rises_at};
 
 use crate::header::fragments;
 use crate::rewriting::write_requested;

@@ -1,11 +1,10 @@
 //! What is seen of a packet before several changes are made at once, and whether they can be made.
-ghost use Rattle.std.specs.Prelude.{◌≡◌, ◌≤◌, ◌<◌, ◌+◌, ◌^◌, ◌==◌, length, false, if◌then◌else◌, IfOk, OnOk};
+ghost use Rattle.std.specs.Prelude.{◌≡◌, ◌≤◌, ◌<◌, ◌^◌, ◌==◌, length, if◌then◌else◌, IfOk, OnOk};
 ghost use Rattle.std.specs.Result.{result_err};
 ghost use Rattle.ip_dissect.specs.Dissection.{dissected};
 ghost use Rattle.ip_rewrite.specs.Order.{is_in_order};
 ghost use Rattle.ip_rewrite.specs.Rewritten.{rewritten_field};
 ghost use Rattle.ip_rewrite.specs.Selection.{kept};
-ghost use Rattle.ip_rewrite.specs.Without.{packet_fault};
 ghost use Rattle.ip_rewrite.specs.Writing.{routing_index};
 ghost use Rattle.ip_rewrite.specs.Request.{changed_headers, concerns, leaving_fault, clearing_step_fault, ordering_step_fault, change_fault, requested_len};
 ghost use Rattle.ip_rewrite.specs.Planning.{IsPlan};

@@ -1,14 +1,11 @@
 //! Packets without some of their extension headers.
-ghost use Rattle.std.specs.Prelude.{◌≡◌, ◌≤◌, ◌<◌, ◌+◌, ◌^◌, ◌++◌, ◌==◌, ◌&&◌, ℕ, List, length, drop, take, false, if◌then◌else◌, IfOk, IfSome, OnOk, OnErr};
+ghost use Rattle.std.specs.Prelude.{◌≡◌, ◌<◌, ◌+◌, ◌++◌, ◌==◌, ◌&&◌, length, drop, take, false, IfOk, OnOk, OnErr};
 ghost use Rattle.std.specs.Result.{result_err};
 ghost use Rattle.ip_dissect.specs.Dissection.{DissectedParts, dissected};
 ghost use Rattle.ip_spec.specs.Numbers.{AUTHENTICATION};
 ghost use Rattle.ip_dissect.specs.Summary.{is_later_end, summary_of};
-ghost use Rattle.ip_rewrite.specs.Rewritten.{rewritten_field};
-ghost use Rattle.ip_rewrite.specs.Selection.{kept};
 ghost use Rattle.ip_rewrite.specs.Without.{packet_fault, is_ipv4_fragment, selection_fault, without, len_without, parts_without, without_fault, keeps_checksums};
-ghost use Rattle.ip_rewrite.specs.Writing.{SelectsFirst, empty_selection, selection_after};
-ghost use Rattle.ip_rewrite.specs.declared.which.Which.TheVariants.{Index};
+ghost use Rattle.ip_rewrite.specs.Writing.{empty_selection, selection_after};
 
 use crate::first_header::write_without_first;
 use crate::plan::seen;

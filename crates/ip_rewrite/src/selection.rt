@@ -1,10 +1,10 @@
 //! What is known of the headers that are left out.
-ghost use Rattle.std.specs.Prelude.{◌≡◌, ◌≤◌, ◌<◌, ◌+◌, ◌^◌, ℕ, List, [], length};
+ghost use Rattle.std.specs.Prelude.{◌≡◌, ◌<◌, ◌+◌, ◌^◌, length};
 ghost use Rattle.std.proofs.Common.{rules};
 ghost use Rattle.ip_spec.specs.Header.{IsHeader};
 ghost use Rattle.ip_spec.specs.Chain.{ExtHeader, bytes_of};
 ghost use Rattle.ip_dissect.specs.Fragment.{fragments};
-ghost use Rattle.ip_rewrite.specs.Without.{is_authentication, has_segments};
+ghost use Rattle.ip_rewrite.specs.Without.{has_segments};
 ghost use Rattle.ip_rewrite.specs.Writing.{empty_selection, selection_after, selection_with, facts_of};
 
 use crate::Which;

@@ -7,8 +7,6 @@ ghost use Rattle.ip_dissect.specs.Dissection.{DissectedParts, dissected};
 ghost use Rattle.ip_rewrite.specs.Base.{number_offset};
 ghost use Rattle.ip_rewrite.specs.Jumbogram.{is_unstated, jumbo_offset};
 ghost use Rattle.ip_rewrite.specs.Rewritten.{joined, rewritten, rewritten_len, rewritten_field, room_fault};
-ghost use Rattle.ip_rewrite.specs.Selection.{kept};
-ghost use Rattle.ip_rewrite.specs.Without.{without, len_without};
 ghost use Rattle.ip_rewrite.specs.Writing.{AreWritten, HasOption, front_with, link_of};
 
 use crate::RewriteError;

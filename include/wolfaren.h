@@ -12,7 +12,8 @@
  *  - For a condition on such packets: wolfaren_parse_filter once, and then wolfaren_filter_matches.
  *  - For statistics of such packets: wolfaren_count_packet, or wolfaren_count_dissection to dissect them too, and
  *    wolfaren_merge_statistics.
- *  - For counts of their chains: wolfaren_chains_init, wolfaren_chains_add and wolfaren_chains_merge.
+ *  - For counts of their chains: wolfaren_chains_init, wolfaren_chains_add, or wolfaren_count_packet_and_chain for statistics
+ *    too, and wolfaren_chains_merge.
  *  - For many packets in one buffer: wolfaren_count_packets, wolfaren_filter_packets, wolfaren_dissect_packets.
  *  - For packets that must be whole, where an error is a reason to drop them: wolfaren_find_payload, or
  *    wolfaren_parse_packet for the extension headers too. Neither stops at a later fragment, as wolfaren_dissect does.
@@ -65,10 +66,10 @@
 #define WOLFAREN_VERSION (10000 * WOLFAREN_VERSION_MAJOR + 100 * WOLFAREN_VERSION_MINOR + WOLFAREN_VERSION_PATCH)
 
 /* A checksum of the structs, numbers and calls in this header, made by scripts/abi of the repository. */
-#define WOLFAREN_ABI 0xe4fa1722u
+#define WOLFAREN_ABI 0xbecd607eu
 
 /* The symbol that is named after the checksum. */
-#define WOLFAREN_ABI_SYMBOL wolfaren_abi_e4fa1722
+#define WOLFAREN_ABI_SYMBOL wolfaren_abi_becd607e
 
 /* The machines for which the library is built. That of `make rust-c` is for any machine, and its users define WOLFAREN_PLAIN. */
 #ifdef WOLFAREN_PLAIN
@@ -515,9 +516,9 @@ bool wolfaren_dissect_packets(const uint8_t *bytes, size_t len, const struct wol
  * order: wolfaren_merge_statistics then returns the statistics of all of them. Any contents are valid input.
  *
  * These calls write statistics, so threads that share them need a lock: wolfaren_init_statistics, wolfaren_count_packet,
- * wolfaren_count_packets, wolfaren_count_dissection, wolfaren_count_other_frame, wolfaren_count_truncated_frame, and
- * wolfaren_merge_statistics for `into`. The last only reads `from`. Threads that count in statistics of their own, merged
- * at the end, need no lock.
+ * wolfaren_count_packets, wolfaren_count_dissection, wolfaren_count_packet_and_chain, wolfaren_count_packets_and_chains,
+ * wolfaren_count_other_frame, wolfaren_count_truncated_frame, and wolfaren_merge_statistics for `into`. The last only reads
+ * `from`. Threads that count in statistics of their own, merged at the end, need no lock.
  *
  * Each packet is counted once in `packets`, once in the three counts by version, and once in the four counts by why its
  * headers end. A packet that starts with an IP header has a chain, possibly of no headers, and is counted once in
@@ -874,6 +875,22 @@ bool wolfaren_chains_clear(struct wolfaren_chains *chains) WOLFAREN_NONNULL(1);
  */
 void wolfaren_chains_add(struct wolfaren_chains *chains, const uint8_t *path, size_t path_len, const uint8_t *bytes, size_t len)
     WOLFAREN_NONNULL(1);
+
+/*
+ * Counts the packet at the start of the `len` bytes as wolfaren_count_packet does, and its chain as wolfaren_chains_add does, in one
+ * walk over its extension headers.
+ */
+void wolfaren_count_packet_and_chain(struct wolfaren_statistics *statistics, struct wolfaren_chains *chains, const uint8_t *path,
+                                     size_t path_len, const uint8_t *bytes, size_t len) WOLFAREN_NONNULL(1, 2);
+
+/*
+ * Counts each of the packets at the spans as wolfaren_count_packet_and_chain does without a path. The result and `outside` are those
+ * of wolfaren_count_packets. If a span doesn't lie within the bytes, nothing is counted.
+ */
+WOLFAREN_USE_RESULT
+bool wolfaren_count_packets_and_chains(struct wolfaren_statistics *statistics, struct wolfaren_chains *chains,
+                                       const uint8_t *bytes, size_t len, const struct wolfaren_packet_span *spans,
+                                       size_t count, size_t *outside) WOLFAREN_NONNULL(1, 2, 7);
 
 /* Counts the chain with this key `count` times, as wolfaren_chains_add would. */
 void wolfaren_chains_add_key(struct wolfaren_chains *chains, const uint8_t *key, size_t len, uint64_t count) WOLFAREN_NONNULL(1);

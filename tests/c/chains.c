@@ -1,5 +1,6 @@
 /*
- * Tests wolfaren_chains_init, _add, _add_key, _merge and _clear: keys of packets worked out by hand from RFC 791 and RFC 8200, order,
+ * Tests wolfaren_chains_init, _add, _add_key, _merge and _clear, wolfaren_count_packet_and_chain and
+ * wolfaren_count_packets_and_chains: keys of packets worked out by hand from RFC 791 and RFC 8200, order,
  * full tables, paths, and random keys compared with a plain list.
  */
 #include "wolfaren.h"
@@ -91,6 +92,73 @@ static void test_limits(void)
     expect(!wolfaren_chains_clear((struct wolfaren_chains *)words), "counts without a bucket");
 }
 
+static void expect_same(const struct wolfaren_chains *one, const struct wolfaren_chains *other)
+{
+    expect(one->count == other->count && one->other == other->other, "as many chains");
+    for (size_t i = 0; i < one->count; i++) {
+        const struct wolfaren_chain_count *entry = &other->entries[i];
+        expect_entry(one, i, entry->key, entry->len, entry->count);
+    }
+}
+
+/* Counts packets and their chains together, one by one and as a batch, and compares with counts of each apart. */
+static void test_together(void)
+{
+    static const struct wolfaren_packet_span spans[] = {{28, 64}, {0, 28}, {28, 50}, {0, 19}, {92, 0}, {28, 64}, {0, 92}};
+    enum { SPANS = sizeof spans / sizeof *spans, ROOM = 2 };
+    struct wolfaren_chains *apart = make(ROOM), *together = make(ROOM), *batch = make(ROOM);
+    struct wolfaren_statistics counts[3];
+    struct wolfaren_packet_span outside_spans[] = {spans[0], {28, 65}};
+    uint8_t bytes[sizeof udp + sizeof options];
+    size_t outside = 99;
+    memcpy(bytes, udp, sizeof udp);
+    memcpy(bytes + sizeof udp, options, sizeof options);
+    for (size_t i = 0; i < 3; i++) wolfaren_init_statistics(&counts[i]);
+    for (size_t i = 0; i < SPANS; i++) {
+        wolfaren_count_packet(&counts[0], bytes + spans[i].offset, spans[i].len);
+        wolfaren_chains_add(apart, NULL, 0, bytes + spans[i].offset, spans[i].len);
+        wolfaren_count_packet_and_chain(&counts[1], together, NULL, 0, bytes + spans[i].offset, spans[i].len);
+    }
+    expect(wolfaren_count_packets_and_chains(&counts[2], batch, bytes, sizeof bytes, spans, SPANS, &outside), "a batch");
+    expect(counts[1].packets == 7 && counts[1].without_header == 2 && counts[1].ipv4 == 2 && counts[1].ipv6 == 3, "the packets");
+    expect(together->count == ROOM && together->entries[0].count == 2 && together->entries[1].count == 2 && together->other == 1,
+           "the chains");
+    expect(memcmp(&counts[0], &counts[1], sizeof *counts) == 0 && memcmp(&counts[0], &counts[2], sizeof *counts) == 0, "the counts");
+    expect_same(apart, together);
+    expect_same(apart, batch);
+    expect(!wolfaren_count_packets_and_chains(&counts[2], batch, bytes, sizeof bytes, outside_spans, 2, &outside) && outside == 1,
+           "a packet outside the bytes");
+    expect(memcmp(&counts[0], &counts[2], sizeof *counts) == 0, "nothing is counted");
+    expect_same(apart, batch);
+    expect(wolfaren_count_packets_and_chains(&counts[2], batch, NULL, 0, NULL, 0, &outside), "no packets");
+    wolfaren_count_packet_and_chain(&counts[0], apart, (const uint8_t[]){0x41, 0}, 2, NULL, 0);
+    expect(counts[0].packets == 8 && apart->other == 1, "no bytes have no chain");
+    free(apart);
+    free(together);
+    free(batch);
+}
+
+/* Counts a packet after paths up to the longest one with which its key has room. */
+static void test_paths(void)
+{
+    uint8_t key[WOLFAREN_CHAIN_KEY_LEN] = {0}, path[WOLFAREN_CHAIN_KEY_LEN + 1];
+    struct wolfaren_chains *chains = make(1);
+    struct wolfaren_statistics statistics;
+    wolfaren_init_statistics(&statistics);
+    for (size_t len = 0; len < sizeof path; len++) {
+        memset(path, 0x41, sizeof path);
+        memset(key, 0x41, sizeof key);
+        wolfaren_chains_clear(chains);
+        wolfaren_count_packet_and_chain(&statistics, chains, path, len, options, sizeof options);
+        expect(chains->count == (len <= WOLFAREN_CHAIN_KEY_LEN - 5) && chains->other == !chains->count, "keys that have room");
+        if (chains->count == 0) continue;
+        memcpy(key + len, (const uint8_t[]){6, 17, WOLFAREN_CHAIN_WHOLE, 0, 44}, 5);
+        expect_entry(chains, 0, key, len + 5, 1);
+    }
+    expect(statistics.packets == sizeof path, "each packet is counted");
+    free(chains);
+}
+
 static uint32_t state = 90211;
 
 static uint32_t random_below(uint32_t limit)
@@ -136,6 +204,8 @@ int main(void)
 {
     test_packets();
     test_limits();
+    test_together();
+    test_paths();
     test_merge(KEYS);
     test_merge(KEYS / 3);
     puts("chains: ok");

@@ -140,6 +140,8 @@ RESULT(chains_size, (wanted_slots))
 RESULT(chains_init, (memory, memory_size, seed))
 RESULT(chains_clear, (chains))
 CALL(chains_add, (chains, added, added_len, packet, len))
+CALL(count_packet_and_chain, (&statistics, chains, added, added_len, packet, len))
+RESULT(count_packets_and_chains, (&statistics, chains, batch, sizeof batch, spans, count, &outside))
 CALL(chains_add_key, (chains, packet, len, 1))
 CALL(chains_merge, (chains, part))
 RESULT(fault_text, (&fault, words, sizeof words))
@@ -447,9 +449,12 @@ static void measure_counts_of_chains(void)
         added_len = draw(2) ? draw(70) : 0;
         draw_bytes(added, added_len, 256);
         measure(&chains_add);
+        measure(&count_packet_and_chain);
         measure(&chains_add_key);
         if (draw(8) == 0) measure(&chains_merge);
         if (draw(4) == 0) wolfaren_chains_add(part, NULL, 0, packet, len);
+        if (draw(8) == 0) make_batch();
+        measure(&count_packets_and_chains);
         if (draw(32) == 0) measure(&chains_clear);
     }
     expect(part->count == SLOTS && part->other > 0, "counts without an entry left");

@@ -1,4 +1,5 @@
 pub mod BatchLemmas
 pub mod BlockLemmas
+pub mod ChainLemmas
 pub mod PlainLemmas
 pub mod SumLemmas

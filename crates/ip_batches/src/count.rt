@@ -150,7 +150,7 @@ fn add_no_headers(counts: &[u64])
 
 /// Adds no packets: the statistics are their sums with nothing.
 #[inline(always)]
-fn add_nothing(statistics: &Statistics)
+pub(crate) fn add_nothing(statistics: &Statistics)
     ensures { merged statistics.now nothing ≡ statistics.now }
 {
     add_no_packets(statistics);

@@ -5,6 +5,7 @@
 //! |---|---|
 //! | check that all spans lie within the buffer, before anything is counted or stored | `Batch::try_new` |
 //! | count all packets, as `Statistics::count_packet` of `ip_statistics` | `Batch::count` |
+//! | count all packets and their chains, as `count_packet_and_chain` of `ip_chain_counts` | `Batch::count_with_chains` |
 //! | know which match, as `Filter::matches` of `ip_filter` | `Batch::filter` |
 //! | dissect all, as `dissect_packet` of `ip_spans` does, without the positions of extension headers | `Batch::dissect` |
 //!
@@ -18,6 +19,7 @@
 
 mod batch;
 mod blocks;
+mod chains;
 mod count;
 mod dissect;
 mod matches;

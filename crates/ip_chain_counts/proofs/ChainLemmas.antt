@@ -1,5 +1,5 @@
 -- Chains as keys.
-use Rattle.std.proofs.Common.{◌≡◌, ◌≢◌, ℕ, List, [], ◌∷◌, ◌++◌, refl, sym, ap, ◌∙◌, subst, append_assoc, Bool, true, false}
+use Rattle.std.proofs.Common.{◌≡◌, ◌≢◌, ℕ, List, [], ◌∷◌, ◌++◌, refl, sym, ap, ◌∙◌, append_assoc, Bool, true, false}
 use Rattle.std.specs.Prelude.{◌==◌}
 use Rattle.std.proofs.lemmas.List.{append-nil}
 use Rattle.std.proofs.lemmas.Bool.{eqb-true, eq-eqb}
@@ -7,15 +7,6 @@ use Rattle.ip_dissect.specs.Dissection.{DissectedParts, dissected}
 use Rattle.ip_key_counts.specs.Counts.{Counts, counted, keys_counted}
 use Rattle.ip_key_counts.proofs.MergeLemmas.{keys_append}
 use Rattle.ip_chain_counts.specs.Chain.{chain_of, keys_of, keys_of_all}
-use Rattle.ip_chain_counts.specs.KeyBytes.{HasBytes}
-use Rattle.ip_chain_counts.specs.declared.key_bytes.KeyBytes.{KeyBytes}
-
-pub has_as : (b : KeyBytes) (xs ys : List ℕ) → xs ≡ ys → HasBytes b xs → HasBytes b ys
-has_as b xs ys same has = let P : List ℕ → Type 0 = λ zs. HasBytes b zs in subst P same has
-
--- the key by its parts
-pub joined : (path numbers : List ℕ) (v n e : ℕ) → (((path ++ v ∷ []) ++ n ∷ []) ++ e ∷ []) ++ numbers ≡ path ++ v ∷ n ∷ e ∷ numbers
-joined path numbers v n e = simp append_assoc
 
 -- A packet without a base header counts nothing, and any other one its key.
 pub none_counted : (room : ℕ) (c : Counts) (path : List ℕ) (p : DissectedParts) → p.version ≡ 0 → c ≡ keys_counted room c (keys_of path p)

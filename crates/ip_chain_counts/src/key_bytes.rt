@@ -25,6 +25,19 @@ impl KeyBytes {
         }
     }
 
+    /// Returns the path with room for three bytes after it.
+    #[inline(always)]
+    pub(crate) fn after(path: &[u8]) -> KeyBytes
+        ensures { HasBytes result (path.now ++ 0 ∷ 0 ∷ 0 ∷ []) }
+    {
+        let mut key = KeyBytes::new();
+        key.extend(path);
+        key.push(0);
+        key.push(0);
+        key.push(0);
+        key
+    }
+
     /// Appends a byte.
     #[inline(always)]
     pub(crate) fn push(&mut self, byte: u8)
@@ -48,14 +61,16 @@ impl KeyBytes {
         }
     }
 
-    /// Appends other bytes.
+    /// Replaces the three bytes at an index, unless the bytes are too many.
     #[inline(always)]
-    pub(crate) fn append(&mut self, other: &KeyBytes)
-        ensures { (xs ys : List ℕ) → HasBytes self.old xs → HasBytes other.now ys → HasBytes self.new (xs ++ ys) }
+    pub(crate) fn put(&mut self, index: usize, first: u8, second: u8, third: u8)
+        ensures { (xs ys : List ℕ) → index ≡ length xs → HasBytes self.old (xs ++ 0 ∷ 0 ∷ 0 ∷ ys)
+            → HasBytes self.new (xs ++ first ∷ second ∷ third ∷ ys) }
     {
-        match other.get() {
-            Some(bytes) => self.extend(bytes),
-            None => self.len = MAX_KEY_LEN + 1,
+        if index <= MAX_KEY_LEN - 3 {
+            self.bytes[index] = first;
+            self.bytes[index + 1] = second;
+            self.bytes[index + 2] = third;
         }
     }
 

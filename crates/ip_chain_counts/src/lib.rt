@@ -6,6 +6,7 @@
 //! |---|---|
 //! | begin, and read the counts | `KeyCounts::clear`; `KeyCounts::listed`, and the field `other` |
 //! | count the chain of a packet | `count_chain` |
+//! | count it and the packet (`ip_statistics`) in one walk | `count_packet_and_chain`; many packets: `Batch::count_with_chains` of `ip_batches` |
 //! | add what was counted apart | `KeyCounts::merge` |
 //!
 //! - The key of a chain is a list of bytes (`chain_of`): IP version, number after the headers, 0, 1 for a fault or 2 for
@@ -21,4 +22,4 @@
 mod count;
 mod key_bytes;
 
-pub use count::count_chain;
+pub use count::{count_chain, count_packet_and_chain};

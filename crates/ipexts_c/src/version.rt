@@ -5,7 +5,7 @@ ghost use Rattle.std.specs.Prelude.{◌≡◌};
 const VERSION: u32 = 100;
 
 /// The checksum of the header's structs, codes and calls.
-const ABI: u32 = 3841595170;
+const ABI: u32 = 3201130622;
 
 /// Returns the library's version.
 #[unsafe(no_mangle)]
@@ -18,7 +18,7 @@ pub extern "C" fn wolfaren_version() -> u32
 /// Returns the checksum of the structs, codes and calls.
 #[unsafe(no_mangle)]
 pub extern "C" fn wolfaren_abi() -> u32
-    ensures { result ≡ 3841595170 }
+    ensures { result ≡ 3201130622 }
 {
     ABI
 }

@@ -1,6 +1,6 @@
 use Rattle.std.proofs.Common.{◌++◌, ◌∷◌, [], ℕ, List, sym, ap, ◌∙◌, take, append_assoc}
 use Rattle.std.proofs.lemmas.List.{take_more, take_all}
-use Rattle.ip_chain_counts.proofs.ChainLemmas.{has_as}
+use Rattle.ip_chain_counts.proofs.KeyLemmas.{has_as}
 use Rattle.ip_chain_counts.proofs.key_bytes.KeyBytes.extend.Goals as goal
 
 pub bytes-preserved : goal.bytes-preserved

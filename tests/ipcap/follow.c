@@ -7,7 +7,7 @@
 #include <string.h>
 
 #include "capture/tunnel.h"
-#include "counts/chain_key.h"
+#include "counts/chain_text.h"
 #include "counts/protocol_key.h"
 #include "packets/parts.h"
 
@@ -18,9 +18,9 @@ static void print_inner(const struct path *path, const struct parts *parts, cons
 {
     struct key key;
     char text[CHAIN_TEXT_ROOM] = "other";
-    if (!inner->is_ip && protocol_key(&inner->protocol, &key)) write_protocol(&key, text);
+    if (!inner->is_ip && protocol_key(&inner->protocol, &key)) write_protocol(key.bytes, key.len, text);
     if (inner->is_ip && parts->packet.version == 0) strcpy(text, "no header");
-    if (inner->is_ip && parts->packet.version != 0 && chain_key(path, parts, &key)) write_chain(&key, text);
+    if (inner->is_ip && parts->packet.version != 0) write_chain(path, parts, text);
     printf(";%s", text);
 }
 
@@ -33,10 +33,10 @@ static unsigned follow(const uint8_t *bytes, size_t len, bool is_printed)
     uint8_t *packet = malloc(len);
     if (!packet && len > 0) abort();
     if (len > 0) memcpy(packet, bytes, len);
-    parse_packet(&parts, packet, len, NULL);
+    parse_packet(&parts, packet, len);
     while (path.tunnels < PATH_TUNNELS && inner.is_ip && find_inner(&parts, &inner)) {
         extend_path(&path, &parts, inner.tunnel);
-        if (inner.is_ip) parse_packet(&parts, inner.bytes, inner.len, NULL);
+        if (inner.is_ip) parse_packet(&parts, inner.bytes, inner.len);
         if (is_printed) print_inner(&path, &parts, &inner);
     }
     free(packet);

@@ -34,8 +34,8 @@ def test_sums(harness):
     harness.equal(total, {"version": "1.4", **wanted}, "three times the whole")
 
 
-def refuse(harness, content, words, name):
-    status, found, errors, _ = harness.run("sum", "--json", content=content)
+def refuse(harness, content, words, name, *options):
+    status, found, errors, _ = harness.run("sum", "--json", *options, content=content)
     harness.equal((status, found), (1, b""), name)
     harness.check(errors.startswith("ipcap: standard input: ") and errors.count("\n") == 1 and words in errors, name, errors)
 
@@ -101,8 +101,9 @@ def test_malformed(harness):
               (text.replace(b"{\"17\":1}", b"{\"17\":1,\"17\":1}"), "duplicate name in a table")]
     for content, words in cases:
         refuse(harness, content, words, repr(content[:80]))
-    many = {"IPv6 %d,%d -> 17" % (n // 256, n % 256): 1 for n in range(4097)}
-    refuse(harness, good(chains=many), "too many names", "4097 chains")
+    many = {"IPv6 %d,%d -> 17" % (n // 256, n % 256): 1 for n in range(65536)}
+    refuse(harness, good(chains=many | {"IPv6 -> 17": 1}), "too many names", "65537 chains")
+    refuse(harness, good(chains=many), "don't add up", "65536 chains")
     harness.check("line 3, column 2: " in harness.run("sum", content=text + b"\n\n{x")[2], "position of an error")
 
 
@@ -171,17 +172,43 @@ def test_damaged(harness):
 
 
 def test_bounds(harness):
-    """Chains after the first 4096, and chains of more than 64 headers, are counted as `other`."""
-    frames = []
-    for number in range(5000):
-        numbers = [43 if number >> bit & 1 else 60 for bit in range(13)]
-        frames.append(ethernet(ipv6_chain(numbers)))
-    found, errors = harness.stat(harness.file(capture(frames)))
-    harness.equal((len(found["chains"]), found["chains"]["other"], errors), (4097, 904, ""), "5000 chains")
+    """Chains after the first N of `--chains`, and chains of more than 64 headers, are counted as `other`."""
+    chains = [[43 if number >> bit & 1 else 60 for bit in range(13)] for number in range(5000)]
+    frames = [ethernet(ipv6_chain(numbers)) for numbers in chains]
+    path = harness.file(capture(frames))
+    found, errors = harness.stat(path)
+    harness.equal((set(found["chains"].values()), len(found["chains"]), errors), ({1}, 5000, ""), "5000 chains")
     harness.equal(found["chain_bytes"], {"104": 5000}, "5000 chains")
     again = harness.run("sum", "--json", content=json.dumps(found).encode() * 2)
-    harness.equal(json.loads(again[1])["chains"]["other"], 1808, "5000 chains, twice")
+    harness.equal((set(json.loads(again[1])["chains"].values()), again[2]), ({2}, ""), "5000 chains, twice")
+    words = "ipcap: %s: more than 4096 different chains: others are counted as other, see --chains\n"
+    status, text, errors, _ = harness.run("stat", "--json", "--chains", "4096", path)
+    few = json.loads(text)["chains"]
+    harness.equal((status, len(few), few["other"], errors), (0, 4097, 904, words % path), "4096 of 5000 chains")
+    first = {"IPv6 %s -> 17" % ",".join(map(str, numbers)) for numbers in chains[:4096]}
+    harness.check(few.keys() == first | {"other"}, "the first 4096 chains")
+    refuse(harness, json.dumps(found).encode(), "too many names", "5000 chains", "--chains", "4999")
+    status, text, errors, _ = harness.run("sum", "--chains=4096", "--json", content=text * 2)
+    harness.equal((status, json.loads(text)["chains"]["other"], errors), (0, 1808, words % "standard input"), "4096 chains, twice")
     for count, wanted in [(64, {"IPv6 " + ",".join(["60"] * 64) + " -> 17": 1}), (65, {"other": 1}),
                           (8000, {"other": 1})]:
         found, _ = harness.stat(content=capture([ethernet(ipv6_chain([60] * count))], snap_len=262144))
         harness.equal(found["chains"], wanted, count, "headers")
+
+
+def test_parts_of_chains(harness):
+    """Files that are counted apart are the whole, in whatever memory, unless a table is full: then that file is named."""
+    frames = [ethernet(ipv6_chain([43 if number >> bit & 1 else 60 for bit in range(10)])) for number in range(1000)]
+    frames = [frame for number, frame in enumerate(frames) for _ in range(1 + number % 3)]
+    whole = harness.file(capture(frames))
+    parts = [harness.file(capture(frames[at:at + 500])) for at in range(0, len(frames), 500)]
+    for chains in ["1", "300", "999", "1000", "65536"]:
+        options = ["--json", "--chains", chains]
+        wanted = json.loads(harness.run("stat", *options, whole)[1])
+        for jobs in ["1", "3"]:
+            status, text, errors, _ = harness.run("stat", *options, "-j", jobs, *parts)
+            name = {"1": parts[0], "300": "all files", "999": "all files"}.get(chains)
+            harness.equal((status, json.loads(text)), (0, wanted), chains, "chains")
+            harness.check(errors.startswith("ipcap: %s: more than %s different chains" % (name, chains)) if name else not errors,
+                          chains, errors)
+    harness.equal(harness.run("stat", "--chains", "0", whole)[0], 2, "no chains")

@@ -40,7 +40,7 @@ struct counting {
 /* Counts a capture that was opened, and closes it. Returns the statistics as JSON, or null if memory runs out. */
 static char *count_opened(struct counting *counting)
 {
-    init_counts(&counting->counts, false);
+    init_counts(&counting->counts, false, DEFAULT_CHAINS);
     char *json = count_capture(&counting->counts, &counting->capture) ? json_of(&counting->counts) : NULL;
     close_capture(&counting->capture);
     free_counts(&counting->counts);

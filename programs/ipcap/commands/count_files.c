@@ -61,7 +61,7 @@ static void count_file(struct counted_file *file, const struct files *files, siz
 {
     memset(file, 0, sizeof *file);
     file->name = file->path = files->paths[number];
-    init_counts(&file->counts, files->has_tunnels);
+    init_counts(&file->counts, files->has_tunnels, files->chains);
     if (stop_signal) return;
     struct account account = {0};
     struct input *input = calloc(1, sizeof *input);

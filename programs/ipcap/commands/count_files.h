@@ -30,6 +30,7 @@ struct files {
     bool has_tunnels; /* tunnels are followed */
     bool has_whole;   /* whole packets are counted in place of their fragments */
     uint64_t slots;   /* how many packets of a file can be incomplete at once */
+    uint64_t chains;  /* how many chains are counted apart */
 };
 
 /*

@@ -76,7 +76,7 @@ void add_to_loss(struct loss_report *report, struct loss *loss, const struct cap
     if (!report->file) return;
     size_t len = packet->header.caplen - packet->ip_offset;
     if (loss->count == 0) {
-        parse_packet(&report->parts, packet->frame + packet->ip_offset, len, NULL);
+        parse_packet(&report->parts, packet->frame + packet->ip_offset, len);
         store_key(loss, &report->parts);
     }
     loss->count++;

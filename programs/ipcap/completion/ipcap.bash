@@ -25,7 +25,7 @@ _ipcap_files() {
 _ipcap_argument() {
     case $1 in
         -r | -w | --report) ;;
-        -c | -j | --memory | --packets | --since | --slots | --top | --until) compopt +o default 2>/dev/null ;;
+        -c | -j | --chains | --memory | --packets | --since | --slots | --top | --until) compopt +o default 2>/dev/null ;;
         --without) _ipcap_words 'hop-by-hop routing fragment authentication destination-options' "$2" ;;
         --color | =) _ipcap_words 'always never auto' "${2#=}" ;;
         *) return 1 ;;
@@ -40,8 +40,8 @@ _ipcap() {
         return
     fi
     case ${COMP_WORDS[1]} in
-        stat) options='-j --defrag --json --memory --per-file --top --tunnels' ;;
-        sum) options='--json --top' ;;
+        stat) options='-j --chains --defrag --json --memory --per-file --top --tunnels' ;;
+        sum) options='--chains --json --top' ;;
         filter) options='-c -n -r -w --since --until --packets --defrag --tunnels --memory --number --show --help-terms' ;;
         show) options='-c --defrag --tunnels --memory --color= --one-line --json --csv' ;;
         defrag) options='-w --keep --tunnels --memory --report --slots' ;;

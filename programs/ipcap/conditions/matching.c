@@ -1,11 +1,11 @@
 #include "conditions/matching.h"
 
-#include "counts/chain_key.h"
+#include "counts/chain_text.h"
 #include "output/output.h"
 
 void parse_captured(struct parts *parts, const struct packet *packet)
 {
-    parse_packet(parts, packet->frame + packet->ip_offset, packet->header.caplen - packet->ip_offset, NULL);
+    parse_packet(parts, packet->frame + packet->ip_offset, packet->header.caplen - packet->ip_offset);
 }
 
 void enter_tunnel(struct packet *packet, const struct inner *inner)

@@ -1,85 +1,39 @@
 #include "counts/counts.h"
 
-#include <string.h>
-
-#include "counts/chain_key.h"
-#include "counts/fields.h"
+#include "counts/chain_text.h"
 #include "counts/protocol_key.h"
 #include "packets/parts.h"
 
-void init_counts(struct counts *counts, bool has_inner)
+static void init_packet_counts(struct packet_counts *counts, uint64_t chains)
+{
+    wolfaren_init_statistics(&counts->statistics);
+    counts->chains.limit = chains < UINT32_MAX ? (size_t)chains : UINT32_MAX;
+    counts->protocols.limit = MOST_PROTOCOL_NAMES;
+}
+
+void init_counts(struct counts *counts, bool has_inner, uint64_t chains)
 {
     *counts = (struct counts){.has_inner = has_inner};
-    wolfaren_init_statistics(&counts->outer.statistics);
-    wolfaren_init_statistics(&counts->inner.statistics);
+    init_packet_counts(&counts->outer, chains);
+    init_packet_counts(&counts->inner, chains);
 }
 
-/* A signature has, from the high bits to the low ones, the codes of the headers, the number after them, end and version. */
-enum { HEADER_BITS = 3, NUMBER_BITS = 8, END_BITS = 2, VERSION_BITS = 3, SIGNED_HEADERS = 16, FEW_HEADERS = 4 };
-
-_Static_assert(SIGNED_HEADERS * HEADER_BITS + NUMBER_BITS + END_BITS + VERSION_BITS <= 64, "a signature must fit");
-
-/* Returns the code of a header, in its place in a signature. None is 0, so that the codes also say how many headers there are. */
-static uint64_t header_code(const struct wolfaren_header *headers, size_t index)
+/* Counts a packet after a path, and its chain. Returns false if memory runs out. */
+static bool count_ip(struct packet_counts *counts, const struct path *path, const struct inner *packet)
 {
-    static const uint8_t codes[64] = {[WOLFAREN_HOP_BY_HOP] = 1,
-                                      [WOLFAREN_ROUTING] = 2,
-                                      [WOLFAREN_FRAGMENT] = 3,
-                                      [WOLFAREN_AUTHENTICATION] = 4,
-                                      [WOLFAREN_DESTINATION_OPTIONS] = 5};
-    return (uint64_t)codes[headers[index].number % sizeof codes] << HEADER_BITS * index;
-}
-
-/*
- * Returns the codes of the headers. Those of up to four are made without a branch for each, whose number is hard to predict,
- * from elements that may be left from an earlier packet.
- */
-static uint64_t header_codes(const struct wolfaren_header *headers, size_t count)
-{
-    uint64_t few = header_code(headers, 0) | header_code(headers, 1) | header_code(headers, 2) | header_code(headers, 3);
-    if (count <= FEW_HEADERS) return few & (((uint64_t)1 << HEADER_BITS * count) - 1);
-    for (size_t i = FEW_HEADERS; i < count; i++) few |= header_code(headers, i);
-    return few;
-}
-
-/*
- * Returns a number that determines the key of a packet's chain without a path, or 0 if the chain has too many headers for
- * one. Making the key takes more time.
- */
-static uint64_t chain_signature(const struct parts *parts)
-{
-    const struct wolfaren_dissection *packet = &parts->packet;
-    if (packet->headers > SIGNED_HEADERS) return 0;
-    uint64_t signature = header_codes(parts->headers, packet->headers);
-    signature = signature << NUMBER_BITS | packet->payload_number;
-    signature = signature << END_BITS | packet->end;
-    return signature << VERSION_BITS | packet->version;
-}
-
-/* Adds the chain of a dissected packet to the table of chains. Returns false if memory runs out. */
-static bool count_chain(struct table *chains, const struct path *path, const struct parts *parts)
-{
-    struct key key;
-    uint64_t signature = path->tunnels == 0 ? chain_signature(parts) : 0;
-    if (parts->packet.version == 0 || (signature != 0 && add_again(chains, signature))) return true;
-    if (chain_key(path, parts, &key)) return add_to_table(chains, &key, signature, 1);
-    chains->other = add_counts(chains->other, 1);
+    if (is_mismatched(&packet->protocol, packet->bytes, packet->len)) counts->mismatched = add_counts(counts->mismatched, 1);
+    if (!make_room(&counts->chains, 1)) return false;
+    wolfaren_count_packet_and_chain(&counts->statistics, counts->chains.table, path->bytes, path->len, packet->bytes, packet->len);
     return true;
 }
 
-/* Counts a frame without an IP packet, also in the table of protocols. Returns false if memory runs out. */
+/* Counts a frame without an IP packet, also by its protocol. Returns false if memory runs out. */
 static bool count_other(struct packet_counts *counts, const struct protocol *protocol)
 {
     struct key key;
     wolfaren_count_other_frame(&counts->statistics);
-    if (protocol_key(protocol, &key)) return add_to_table(&counts->protocols, &key, 0, 1);
-    counts->protocols.other = add_counts(counts->protocols.other, 1);
-    return true;
-}
-
-static void count_mismatched(struct packet_counts *counts)
-{
-    counts->mismatched = add_counts(counts->mismatched, 1);
+    if (protocol_key(protocol, &key)) return count_key(&counts->protocols, key.bytes, key.len, 1);
+    return count_as_other(&counts->protocols, 1);
 }
 
 /*
@@ -97,10 +51,10 @@ static bool count_packet(struct counts *counts, struct parts *parts, const struc
     for (;;) {
         if (packet->is_short) wolfaren_count_truncated_frame(&current->statistics);
         if (!inner.is_ip) return count_other(current, &inner.protocol);
-        if (is_mismatched(&inner.protocol, inner.bytes, inner.len)) count_mismatched(current);
-        parse_packet(parts, inner.bytes, inner.len, &current->statistics);
-        if (!count_chain(&current->chains, &path, parts)) return false;
-        if (!counts->has_inner || path.tunnels == PATH_TUNNELS || !find_inner(parts, &inner)) return true;
+        if (!count_ip(current, &path, &inner)) return false;
+        if (!counts->has_inner || path.tunnels == PATH_TUNNELS) return true;
+        parse_packet(parts, inner.bytes, inner.len);
+        if (!find_inner(parts, &inner)) return true;
         extend_path(&path, parts, inner.tunnel);
         current = &counts->inner;
     }
@@ -115,20 +69,12 @@ bool count_capture(struct counts *counts, struct capture *capture)
     return is_counted;
 }
 
-static bool merge_tables(struct table *total, const struct table *more)
-{
-    total->other = add_counts(total->other, more->other);
-    for (size_t i = 0; i < more->count; i++)
-        if (!add_to_table(total, &more->entries[i].key, 0, more->entries[i].count)) return false;
-    return true;
-}
-
 static bool merge_packet_counts(struct packet_counts *total, const struct packet_counts *more)
 {
     /* false only if one of them isn't from init_counts */
     if (!wolfaren_merge_statistics(&total->statistics, &more->statistics)) return false;
     total->mismatched = add_counts(total->mismatched, more->mismatched);
-    return merge_tables(&total->chains, &more->chains) && merge_tables(&total->protocols, &more->protocols);
+    return merge_key_counts(&total->chains, &more->chains) && merge_key_counts(&total->protocols, &more->protocols);
 }
 
 bool merge_counts(struct counts *total, const struct counts *more)
@@ -150,12 +96,12 @@ static uint64_t sum(const uint64_t *counts, size_t len)
  * Whether the table has no more chains of an IP version than there are packets of that version, and as many if none is
  * counted as `other`.
  */
-static bool has_chains(const struct table *chains, uint8_t version, uint64_t packets)
+static bool has_chains(const struct key_counts *chains, uint8_t version, uint64_t packets)
 {
     uint64_t total = 0;
-    for (size_t i = 0; i < chains->count; i++)
-        if (key_version(&chains->entries[i].key) == version) total = add_counts(total, chains->entries[i].count);
-    return total <= packets && (chains->other > 0 || total == packets);
+    for (size_t i = 0; i < number_of_keys(chains); i++)
+        if (version_of(key_at(chains, i)) == version) total = add_counts(total, key_at(chains, i)->count);
+    return total <= packets && (count_of_others(chains) > 0 || total == packets);
 }
 
 static bool are_consistent(const struct packet_counts *counts)
@@ -170,8 +116,8 @@ static bool are_consistent(const struct packet_counts *counts)
         && of->incomplete <= ip && SUM(of->chain_headers) == ip && SUM(of->chain_bytes) == ip
         && SUM(of->payload_numbers) == of->at_payload && SUM(of->later_fragment_numbers) == of->at_later_fragment
         && SUM(of->truncated_headers) == of->at_truncated_header && SUM(of->faults) == of->at_fault
-        && sum_table(&counts->chains) == ip && has_chains(&counts->chains, 4, of->ipv4)
-        && has_chains(&counts->chains, 6, of->ipv6) && sum_table(&counts->protocols) == of->other_frames;
+        && sum_counts(&counts->chains) == ip && has_chains(&counts->chains, 4, of->ipv4)
+        && has_chains(&counts->chains, 6, of->ipv6) && sum_counts(&counts->protocols) == of->other_frames;
 }
 
 bool do_add_up(const struct counts *counts)
@@ -179,14 +125,19 @@ bool do_add_up(const struct counts *counts)
     return are_consistent(&counts->outer) && are_consistent(&counts->inner);
 }
 
-static void free_tables(struct packet_counts *counts)
+bool has_other_chains(const struct counts *counts)
 {
-    free_table(&counts->chains);
-    free_table(&counts->protocols);
+    return has_run_out(&counts->outer.chains) || has_run_out(&counts->inner.chains);
+}
+
+static void free_packet_counts(struct packet_counts *counts)
+{
+    free_key_counts(&counts->chains);
+    free_key_counts(&counts->protocols);
 }
 
 void free_counts(struct counts *counts)
 {
-    free_tables(&counts->outer);
-    free_tables(&counts->inner);
+    free_packet_counts(&counts->outer);
+    free_packet_counts(&counts->inner);
 }

@@ -19,17 +19,17 @@ static const struct {
 bool protocol_key(const struct protocol *protocol, struct key *key)
 {
     uint32_t number = protocol->number;
-    memset(key, 0, sizeof *key);
+    key->len = KEY_USED;
     key->bytes[KIND_AT] = (uint8_t)protocol->kind;
     for (size_t at = KEY_USED; at > NUMBER_AT; number >>= 8) key->bytes[--at] = (uint8_t)(number & 0xff);
     return protocol->kind != WOLFAREN_NO_NUMBER;
 }
 
-void write_protocol(const struct key *key, char text[CHAIN_TEXT_ROOM])
+void write_protocol(const uint8_t *key, size_t len, char text[CHAIN_TEXT_ROOM])
 {
     uint32_t number = 0;
-    for (size_t at = NUMBER_AT; at < KEY_USED; at++) number = number << 8 | key->bytes[at];
-    snprintf(text, CHAIN_TEXT_ROOM, kinds[key->bytes[KIND_AT]].format, number);
+    for (size_t at = NUMBER_AT; at < len; at++) number = number << 8 | key[at];
+    snprintf(text, CHAIN_TEXT_ROOM, kinds[key[KIND_AT]].format, number);
 }
 
 bool read_protocol(const char *text, struct key *key)
@@ -41,8 +41,15 @@ bool read_protocol(const char *text, struct key *key)
     for (unsigned kind = WOLFAREN_ETHERTYPE; kind <= WOLFAREN_IEEE80211; kind++) {
         if (number > kinds[kind].most) continue;
         protocol_key(&(struct protocol){kind, (uint32_t)number, 0}, key);
-        write_protocol(key, written);
+        write_protocol(key->bytes, key->len, written);
         if (strcmp(text, written) == 0) return true;
     }
     return false;
+}
+
+int compare_protocols(const void *left, const void *right)
+{
+    const struct wolfaren_chain_count *one = left, *other = right;
+    if (one->count != other->count) return compare_counts(one->count, other->count);
+    return memcmp(one->key, other->key, KEY_USED);
 }

@@ -4,7 +4,7 @@
 #include <string.h>
 
 #include "commands/report.h"
-#include "counts/chain_key.h"
+#include "counts/chain_text.h"
 #include "counts/fields.h"
 #include "counts/protocol_key.h"
 #include "packets/names.h"
@@ -151,32 +151,54 @@ static bool read_table_count(struct reading *reading, uint64_t *count)
         && (*count > 0 || refuse(reading->input, "a count in a table is 0"));
 }
 
-/* Reads a count in a table into its place, which is 0 unless the name is a duplicate. */
+static bool refuse_for_memory(void)
+{
+    complain_of_memory();
+    return false;
+}
+
+/* Reads a count in an array into its place, which is 0 unless the name is a duplicate. */
 static bool read_into(struct reading *reading, uint64_t *place)
 {
     if (*place > 0) return refuse(reading->input, "duplicate name in a table");
     return read_table_count(reading, place);
 }
 
-static bool read_entry(struct reading *reading, struct table *table, const struct key *key)
+/* Reads the count of all keys that have none of their own, unless there was one before. */
+static bool read_other(struct reading *reading, struct key_counts *counts)
 {
-    uint64_t count;
-    if (has_key(table, key)) return refuse(reading->input, "duplicate name in a table");
-    if (table->count == TABLE_KEYS) return refuse(reading->input, "the table has too many names");
-    if (!read_table_count(reading, &count)) return false;
-    if (add_to_table(table, key, 0, count)) return true;
-    complain_of_memory();
+    uint64_t count = count_of_others(counts);
+    if (!read_into(reading, &count)) return false;
+    return count_as_other(counts, count) || refuse_for_memory();
+}
+
+static bool has_key(const struct key_counts *counts, const struct key *key)
+{
+    for (size_t i = 0; i < number_of_keys(counts); i++)
+        if (key_at(counts, i)->len == key->len && memcmp(key_at(counts, i)->key, key->bytes, key->len) == 0) return true;
     return false;
 }
 
+/* Reads the count of a key, which must be a new one. */
+static bool read_entry(struct reading *reading, struct key_counts *counts, const struct key *key)
+{
+    uint64_t count;
+    size_t before = number_of_keys(counts);
+    if (!count_key(counts, key->bytes, key->len, 0)) return refuse_for_memory();
+    if (number_of_keys(counts) == before)
+        return refuse(reading->input, has_key(counts, key) ? "duplicate name in a table" : "the table has too many names");
+    if (!read_table_count(reading, &count)) return false;
+    return count_key(counts, key->bytes, key->len, count) || refuse_for_memory();
+}
+
 /* Reads a member of a table, whose names `read_key` parses. `refusal` is the error for any other name. */
-static bool read_table_member(struct reading *reading, const char *name, struct table *table,
+static bool read_table_member(struct reading *reading, const char *name, struct key_counts *counts,
                               bool (*read_key)(const char *text, struct key *key), const char *refusal)
 {
     struct key key;
-    if (strcmp(name, "other") == 0) return read_into(reading, &table->other);
+    if (strcmp(name, "other") == 0) return read_other(reading, counts);
     if (!read_key(name, &key)) return refuse(reading->input, refusal);
-    return read_entry(reading, table, &key);
+    return read_entry(reading, counts, &key);
 }
 
 static bool read_chain_member(struct reading *reading, const char *name)
@@ -328,24 +350,23 @@ static bool read_outer_member(struct reading *reading, const char *name)
 /*
  * Adds members that may be left out. Version 1.0 has no table of protocols: all frames without an IP packet are then of
  * other protocols. Up to version 1.3, mismatched packets aren't counted. Only statistics of a single file have its name,
- * and those of packets in tunnels have all members or none.
+ * and those of packets in tunnels have all members or none. Returns false if memory runs out.
  */
-static void add_members(struct reading *reading)
+static bool add_members(struct reading *reading)
 {
     struct counts *all = reading->all;
     all->has_inner = reading->done & inner_members;
     reading->done |= bit(FILE_AT) | (all->has_inner ? 0 : inner_members);
     if (reading->minor <= LAST_WITHOUT_MISMATCHED) reading->done |= mismatched_members;
-    if (reading->minor > 0 || reading->done & bit(PROTOCOLS_AT)) return;
-    all->outer.protocols.other = all->outer.statistics.other_frames;
+    if (reading->minor > 0 || reading->done & bit(PROTOCOLS_AT)) return true;
     reading->done |= bit(PROTOCOLS_AT);
+    return count_as_other(&all->outer.protocols, all->outer.statistics.other_frames) || refuse_for_memory();
 }
 
 bool read_json(struct json_input *input, struct counts *counts)
 {
     struct reading reading = {.input = input, .all = counts};
-    if (!read_object(&reading, read_outer_member)) return false;
-    add_members(&reading);
+    if (!read_object(&reading, read_outer_member) || !add_members(&reading)) return false;
     for (unsigned member = 0; member < MEMBERS; member++) {
         char words[64];
         if (reading.done & bit(member)) continue;

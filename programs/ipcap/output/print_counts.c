@@ -3,7 +3,7 @@
 #include <inttypes.h>
 #include <stdlib.h>
 
-#include "counts/chain_key.h"
+#include "counts/chain_text.h"
 #include "counts/fields.h"
 #include "counts/protocol_key.h"
 #include "output/text.h"
@@ -53,17 +53,16 @@ static void end_table(struct output *output)
     output->separator = ",";
 }
 
-/* Writes the most frequent entries of a table, whose keys `write_key` formats, and then the sum of all others. */
-static void write_entries(struct output *output, struct table *table, uint64_t most,
-                          void (*write_key)(const struct key *key, char text[CHAIN_TEXT_ROOM]))
+/* Writes the most frequent keys, in order, each as `write_text` formats it, and then the sum of all others. */
+static void write_keys(struct output *output, const struct key_counts *counts, uint64_t most,
+                       void (*write_text)(const uint8_t *key, size_t len, char text[CHAIN_TEXT_ROOM]))
 {
     char text[CHAIN_TEXT_ROOM];
-    uint64_t other = table->other;
-    order_table(table);
-    for (size_t i = 0; i < table->count; i++) {
-        const struct table_entry *entry = &table->entries[i];
+    uint64_t other = count_of_others(counts);
+    for (size_t i = 0; i < number_of_keys(counts); i++) {
+        const struct wolfaren_chain_count *entry = key_at(counts, i);
         if (i < most) {
-            write_key(&entry->key, text);
+            write_text(entry->key, entry->len, text);
             write_count(output, text, entry->count);
         } else {
             other = add_counts(other, entry->count);
@@ -149,7 +148,8 @@ static void write_protocols(struct output *output, struct packet_counts *counts)
 {
     if (!output->json && counts->statistics.other_frames == 0) return;
     begin_table(output, "protocols of frames without an IP packet", "other_protocols");
-    write_entries(output, &counts->protocols, output->most_protocols, write_protocol);
+    order_keys(&counts->protocols, compare_protocols);
+    write_keys(output, &counts->protocols, output->most_protocols, write_protocol);
 }
 
 static void write_packet_counts(struct output *output, struct packet_counts *counts)
@@ -157,7 +157,8 @@ static void write_packet_counts(struct output *output, struct packet_counts *cou
     write_scalars(output, counts);
     write_protocols(output, counts);
     begin_table(output, "chains", "chains");
-    write_entries(output, &counts->chains, output->most, write_chain);
+    order_keys(&counts->chains, compare_chains);
+    write_keys(output, &counts->chains, output->most, write_key);
     for (size_t i = 0; i < ARRAYS; i++) write_array(output, &arrays[i], array_in(counts, &arrays[i]));
 }
 

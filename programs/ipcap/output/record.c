@@ -86,7 +86,7 @@ static void set_frame(struct record *record)
     set_number(record, FRAME_LEN, frame_len(packet));
     set_number(record, CAPTURED_LEN, packet->header.caplen);
     if (packet->is_ip || !protocol_key(&packet->protocol, &key)) return;
-    write_protocol(&key, record->protocol);
+    write_protocol(key.bytes, key.len, record->protocol);
     set_text(record, OTHER_PROTOCOL, record->protocol);
     const char *name = protocol_name(&packet->protocol);
     if (*name) set_text(record, OTHER_PROTOCOL_NAME, name);
@@ -119,11 +119,9 @@ static void set_base(struct record *record)
 static void set_chain(struct record *record, const struct path *path)
 {
     static const struct path none;
-    struct key key;
     record->values[HEADERS].kind = IS_HEADERS;
     record->values[HEADER_NAMES].kind = IS_HEADER_NAMES;
-    if (record->parts->packet.version == 0 || !chain_key(path ? path : &none, record->parts, &key)) return;
-    write_chain(&key, record->chain);
+    if (record->parts->packet.version == 0 || !write_chain(path ? path : &none, record->parts, record->chain)) return;
     set_text(record, CHAIN, record->chain);
 }
 

@@ -3,7 +3,7 @@
 #define IPCAP_RECORD_H
 
 #include "capture/capture.h"
-#include "counts/chain_key.h"
+#include "counts/chain_text.h"
 #include "output/writer.h"
 #include "packets/parts.h"
 

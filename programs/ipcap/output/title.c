@@ -2,7 +2,7 @@
 
 #include <time.h>
 
-#include "counts/chain_key.h"
+#include "counts/chain_text.h"
 #include "packets/address.h"
 #include "packets/details.h"
 
@@ -81,12 +81,10 @@ static void put_long_chain(struct writer *writer, const struct parts *parts)
 
 static void put_chain(struct writer *writer, const struct parts *parts, const struct path *path)
 {
-    struct key key;
     char text[CHAIN_TEXT_ROOM];
     if (parts->packet.version == 0) {
         put_text(writer, "unread base header");
-    } else if (chain_key(path, parts, &key)) {
-        write_chain(&key, text);
+    } else if (write_chain(path, parts, text)) {
         put_text(writer, text);
     } else {
         put_long_chain(writer, parts);

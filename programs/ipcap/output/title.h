@@ -5,7 +5,7 @@
 #include <stdint.h>
 
 #include "capture/capture.h"
-#include "counts/chain_key.h"
+#include "counts/chain_text.h"
 #include "output/writer.h"
 #include "packets/parts.h"
 

@@ -185,7 +185,7 @@ void put_protocol(struct writer *writer, const struct protocol *protocol)
     if (protocol->kind == WOLFAREN_ETHERTYPE) {
         put_ethertype(writer, protocol);
     } else if (protocol_key(protocol, &key)) {
-        write_protocol(&key, text);
+        write_protocol(key.bytes, key.len, text);
         put_text(writer, ", ");
         put_text(writer, text);
     }

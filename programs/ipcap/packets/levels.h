@@ -11,7 +11,7 @@
 
 #include "capture/capture.h"
 #include "capture/tunnel.h"
-#include "counts/chain_key.h"
+#include "counts/chain_text.h"
 #include "packets/parts.h"
 
 enum { LEVELS = PATH_TUNNELS + 1 };

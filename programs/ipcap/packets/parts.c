@@ -1,11 +1,10 @@
 #include "packets/parts.h"
 
-void parse_packet(struct parts *parts, const uint8_t *bytes, size_t len, struct wolfaren_statistics *statistics)
+void parse_packet(struct parts *parts, const uint8_t *bytes, size_t len)
 {
     parts->bytes = bytes;
     parts->len = len;
-    if (statistics) wolfaren_count_dissection(statistics, bytes, len, parts->headers, STORED_HEADERS, &parts->packet);
-    else wolfaren_dissect(bytes, len, parts->headers, STORED_HEADERS, &parts->packet);
+    wolfaren_dissect(bytes, len, parts->headers, STORED_HEADERS, &parts->packet);
 }
 
 bool visit_header(const struct parts *parts, struct header_walk *walk)

@@ -26,8 +26,8 @@ struct parts {
     struct wolfaren_header headers[STORED_HEADERS]; /* the first extension headers; further elements have any values */
 };
 
-/* Dissects the packet at the start of the `len` bytes, and counts it in the statistics unless they are NULL. */
-void parse_packet(struct parts *parts, const uint8_t *bytes, size_t len, struct wolfaren_statistics *statistics);
+/* Dissects the packet at the start of the `len` bytes. */
+void parse_packet(struct parts *parts, const uint8_t *bytes, size_t len);
 
 /* A walk through the extension headers of a packet, also those that aren't stored. Fill it with zeros to start. */
 struct header_walk {

@@ -106,9 +106,9 @@ class Counts(unittest.TestCase):
             found.frames
 
     def test_many_chains(self):
-        chains = [[43 if number >> bit & 1 else 60 for bit in range(13)] for number in range(5000)]
+        chains = [[43 if number >> bit & 1 else 60 for bit in range(17)] for number in range(65536 + 904)]
         found = counted(ipv6_chain(numbers) for numbers in chains)
-        self.assertEqual((len(found.chains), found.chains["other"]), (4097, 904))
+        self.assertEqual((len(found.chains), found.chains["other"]), (65537, 904))
         self.assertEqual((found + found).chains["other"], 1808)
         self.assertEqual(ipcap("sum", "--json", text=found.to_json()), found.to_json() + "\n")
 

@@ -85,15 +85,12 @@ class Packets:
             raise TypeError("offsets and lengths are one-dimensional arrays of integers, none of them missing")
         return column
 
-    def place(self, index: int) -> tuple[Any, int]:
-        """Returns where a packet begins, and its length."""
-        span = self.spans[index]
-        return self.bytes + span.offset, span.len
-
-    def pass_to(self, call: Any, *arguments: Any, array: Any = None, start: int = 0) -> None:
-        """Passes the packets to a call of the library, after these arguments. If there is an array to fill, passes as many
-        packets from `start` on as it has room for, and the array after them."""
-        outside, end = ffi.new("size_t *"), self.count if array is None else start + len(array)
+    def pass_to(self, call: Any, *arguments: Any, array: Any = None, start: int = 0, most: int | None = None) -> None:
+        """Passes the packets from `start` on to a call of the library, after these arguments: at most so many. If there is an array
+        to fill, passes as many as it has room for, and the array after them."""
+        outside, end = ffi.new("size_t *"), self.count
+        if array is not None or most is not None:
+            end = min(end, start + (len(array) if most is None else most))
         for at in range(start, end, _TOGETHER):
             count = min(_TOGETHER, end - at)
             room = () if array is None else (array + (at - start), count)

@@ -14,7 +14,7 @@ from typing import TYPE_CHECKING, Any, Generic, TypeVar
 from ._dissection import End, FaultKind, Layer
 from ._library import Buffer, captures, ffi, lib, name_of, path_for_c, raise_kept
 from ._locks import new_lock
-from ._many import Packets, dtype_of
+from ._many import Packets
 from ._optional import import_for
 
 if TYPE_CHECKING:
@@ -25,8 +25,8 @@ if TYPE_CHECKING:
 MOST = 2**64 - 1
 """The largest count. Counts stop there."""
 
-# What tables have room for, as in ipcap: names, and headers of a chain. What doesn't fit is counted as `other`.
-_NAMES = 4096
+# What tables have room for, as in ipcap: chains, protocols, and headers of a chain. What doesn't fit is counted as `other`.
+_CHAINS, _PROTOCOL_NAMES = 65536, 4096
 MOST_HEADERS = 64
 
 # The version of the JSON: major and minor number.
@@ -65,13 +65,6 @@ def chain_name(version: int, numbers: Iterable[int], payload_number: int, end: i
     return f"IPv{version} {headers}{' ' if headers else ''}-> {payload_number}{_ENDS.get(end, '')}"
 
 
-def _chain_of(parts: Any, headers: Any) -> str:
-    """Returns the name of a packet's chain. `headers` has room for `MOST_HEADERS`."""
-    if parts.headers > MOST_HEADERS:
-        return "other"
-    return chain_name(parts.version, (it.number for it in headers[0:parts.headers]), parts.payload_number, parts.end)
-
-
 def _chain_order(chain: tuple[str, int]) -> tuple[Any, ...]:
     """Returns what chains are sorted by: `other` last, then by descending count, and then as ipcap does."""
     name, count = chain
@@ -79,37 +72,28 @@ def _chain_order(chain: tuple[str, int]) -> tuple[Any, ...]:
     return name == "other", -count, numbers[:1], len(numbers), numbers[-1:], name.split(" -> ")[-1].split(), numbers
 
 
-# How many packets are dissected at a time to name their chains.
-_TOGETHER = 1 << 14
+# How many packets are counted in one table of the library, which has room for as many chains.
+_TOGETHER = 1 << 16
+
+# How a chain ends, by the third byte of its key.
+_END_OF_KEY = {0: End.PAYLOAD, 1: End.FAULT, 2: End.TRUNCATED_HEADER}
+
+_new_memory = ffi.new_allocator(should_clear_after_alloc=False)
 
 
-def _chains_of(packets: Packets) -> dict[str, int]:
-    """Returns how many of the packets have each chain, in the order in which the chains occur."""
-    numpy, kind = packets.numpy, ffi.typeof("struct wolfaren_dissection")
-    every = numpy.empty(min(packets.count, _TOGETHER), dtype_of(numpy, kind))
-    chains: dict[str, int] = {}
-    for start in range(0, packets.count, _TOGETHER):
-        parts = every[:packets.count - start]
-        packets.pass_to(lib.wolfaren_dissect_packets, array=ffi.from_buffer("struct wolfaren_dissection[]", parts), start=start)
-        for _, name, count in sorted(_chains_in(packets, start, parts)):
-            chains[name] = chains.get(name, 0) + count
-    return chains
+class _ChainCounts:
+    """Counts of at most so many chains, by the library."""
 
+    def __init__(self, most: int) -> None:
+        size = lib.wolfaren_chains_size(most)
+        self._memory = _new_memory("uint64_t[]", -(-size // 8))  # each element is aligned as the library needs it
+        self.counts = lib.wolfaren_chains_init(self._memory, size, ffi.from_buffer("uint64_t[2]", os.urandom(16)))
 
-def _chains_in(packets: Packets, start: int, parts: Any) -> Iterator[tuple[int, str, int]]:
-    """Yields the chains of dissected packets, each with the index of the first one that has it and their number, or with
-    that of one packet. `start` is the index of the first packet."""
-    numpy = packets.numpy
-    keys = parts["version"] << 10 | parts["payload_number"] << 2 | parts["end"]  # each has 8 bits at most, `end` has 2
-    keys[parts["headers"] > 0] = 0
-    counts = numpy.bincount(keys)
-    for key in numpy.flatnonzero(counts).tolist():
-        if version := key >> 10:
-            yield int((keys == key).argmax()), chain_name(version, (), key >> 2 & 255, key & 3), int(counts[key])
-    headers, one = ffi.new("struct wolfaren_header[]", MOST_HEADERS), ffi.new("struct wolfaren_dissection *")
-    for i in numpy.flatnonzero(parts["headers"]).tolist():
-        lib.wolfaren_dissect(*packets.place(start + i), headers, MOST_HEADERS, one)
-        yield i, _chain_of(one, headers), 1
+    def named(self) -> dict[str, int]:
+        """Returns the counts by the names of the chains, in the order in which these were first counted."""
+        keys = ((ffi.buffer(it.key)[:it.len], it.count) for it in self.counts.entries[0:self.counts.count])
+        named = {chain_name(key[0], key[3:], key[1], _END_OF_KEY[key[2]]): count for key, count in keys}
+        return named | {"other": self.counts.other} if self.counts.other else named
 
 
 # The numbers by which frames say what they carry, in the order of ipcap's table, and how many digits these have.
@@ -174,13 +158,14 @@ class Statistics:
     truncated_headers = _Field[Mapping[str, int]]("Truncated headers by their name, such as `routing`.")
     faults = _Field[Mapping[str, int]]("Faults by kind and header, such as `too-short routing`.")
 
-    __slots__ = ("_counts", "_mismatched", "_chains", "_protocols", "_lock")
+    __slots__ = ("_counts", "_mismatched", "_chains", "_one", "_protocols", "_lock")
     __hash__ = None  # type: ignore[assignment]
 
     def __init__(self) -> None:
         self._counts = ffi.new("struct wolfaren_statistics *")
         self._mismatched = 0
         self._chains: dict[str, int] = {}
+        self._one: _ChainCounts | None = None  # of a packet that is added
         self._protocols: dict[str, int] = {}
         self._lock = new_lock()
         lib.wolfaren_init_statistics(self._counts)
@@ -231,23 +216,29 @@ class Statistics:
     def add(self, packet: Buffer) -> None:
         """Counts the packet at the start of the bytes, which may be any bytes."""
         view = ffi.from_buffer("uint8_t[]", packet)
-        headers, parts = ffi.new("struct wolfaren_header[]", MOST_HEADERS), ffi.new("struct wolfaren_dissection *")
         with self._lock:
-            lib.wolfaren_count_dissection(self._counts, view, len(view), headers, MOST_HEADERS, parts)
-            if parts.version:
-                _add_to(self._chains, _chain_of(parts, headers), 1)
+            one = self._one = self._one or _ChainCounts(1)
+            lib.wolfaren_chains_clear(one.counts)
+            lib.wolfaren_count_packet_and_chain(self._counts, one.counts, ffi.NULL, 0, view, len(view))
+            self._add_chains(one.named())
 
     def add_many(self, buffer: Buffer, offsets: Any, lengths: Any) -> None:
         """Counts many packets in a buffer, each as `add` does.
 
-        The packets are given, and errors are raised, as by `dissect_many`. After an error nothing is counted. Packets without
-        extension headers are counted fastest: the name of any other chain is made in Python.
+        The packets are given, and errors are raised, as by `dissect_many`. After an error nothing is counted.
         """
         packets = Packets("Statistics.add_many", buffer, offsets, lengths)
-        counted = Statistics()
-        packets.pass_to(lib.wolfaren_count_packets, counted._counts)
-        counted._chains.update(_chains_of(packets))
+        counted, chains = Statistics(), _ChainCounts(min(packets.count, _TOGETHER))
+        for start in range(0, packets.count, _TOGETHER):
+            lib.wolfaren_chains_clear(chains.counts)
+            packets.pass_to(lib.wolfaren_count_packets_and_chains, counted._counts, chains.counts, start=start, most=_TOGETHER)
+            for name, count in chains.named().items():  # as many as there are: what has room is decided below
+                counted._chains[name] = counted._chains.get(name, 0) + count
         self += counted
+
+    def _add_chains(self, chains: Mapping[str, int]) -> None:
+        for name, count in chains.items():
+            _add_to(self._chains, name, count, _CHAINS)
 
     def add_other_frame(self, protocol: str = "other") -> None:
         """Counts a frame without an IP packet, by what it carries, such as `EtherType 0x0806`.
@@ -258,7 +249,7 @@ class Statistics:
             raise ValueError(f'"{protocol}" is not a protocol')
         with self._lock:
             lib.wolfaren_count_other_frame(self._counts)
-            _add_to(self._protocols, protocol, 1)
+            _add_to(self._protocols, protocol, 1, _PROTOCOL_NAMES)
 
     def add_truncated_frame(self) -> None:
         """Counts a frame that the snap length truncated, in addition to its packet."""
@@ -286,10 +277,9 @@ class Statistics:
             if not lib.wolfaren_merge_statistics(self._counts, added._counts):
                 raise ValueError("the statistics have different versions")
             self._mismatched = min(self._mismatched + added._mismatched, MOST)
-            for name, count in added._chains.items():
-                _add_to(self._chains, name, count)
+            self._add_chains(added._chains)
             for name, count in added._protocols.items():
-                _add_to(self._protocols, name, count)
+                _add_to(self._protocols, name, count, _PROTOCOL_NAMES)
         return self
 
     def __add__(self, other: Statistics) -> Statistics:
@@ -376,14 +366,14 @@ class Statistics:
         for name in _SCALARS:
             setattr(read._counts, name, _count(members.pop(name, None), name))
         read._mismatched = _count(members.pop("mismatched", 0 if minor < 4 else None), "mismatched")
-        for name, count in _table(members.pop("chains", None), "chains", 1 + _NAMES).items():
+        for name, count in _table(members.pop("chains", None), "chains", 1 + _CHAINS).items():
             if not _CHAIN.fullmatch(name):
                 raise ValueError(f'"{name}" is not a chain')
             read._chains[name] = count
         protocols = members.pop("other_protocols", None)
         if protocols is None and minor == 0:  # the first version had no such table
             protocols = {"other": read.other_frames} if read.other_frames else {}
-        for name, count in _table(protocols, "other_protocols", 1 + _NAMES).items():
+        for name, count in _table(protocols, "other_protocols", 1 + _PROTOCOL_NAMES).items():
             if not _is_protocol(name):
                 raise ValueError(f'"{name}" is not a protocol')
             read._protocols[name] = count
@@ -453,9 +443,9 @@ def _is_protocol(name: str) -> bool:
     return kind in _PROTOCOLS and re.fullmatch("0x[0-9a-f]{%d}" % _PROTOCOLS[kind], number) is not None
 
 
-def _add_to(table: dict[str, int], name: str, count: int) -> None:
-    """Adds to a count of a table, or to `other` if the table has no room for the name."""
-    if name not in table and len(table) - ("other" in table) >= _NAMES:
+def _add_to(table: dict[str, int], name: str, count: int, most: int) -> None:
+    """Adds to a count of a table, or to `other` if the table has as many names as it may have."""
+    if name not in table and len(table) - ("other" in table) >= most:
         name = "other"
     table[name] = min(table.get(name, 0) + count, MOST)
 

@@ -1,7 +1,8 @@
 //! Chains of packets, each counted in a table of two entries. The keys are worked out by hand from RFC 791, RFC 4302 and RFC
 //! 8200.
-use ip_chain_counts::count_chain;
+use ip_chain_counts::{count_chain, count_packet_and_chain};
 use ip_key_counts::{CountedKey, KeyCounts};
+use ip_statistics::Statistics;
 use std::process::Abort;
 use std::test::Fail;
 
@@ -50,6 +51,24 @@ fn chains_are_listed_in_their_order(rt: HostRuntime) -> Result<(), Fail> {
     // Without a base header there is no chain.
     count_chain(&mut table, &[], &UDP[..19]);
     assert_eq!(rt; table.other, 1);
+    Ok(())
+}
+
+#[test]
+fn packets_are_counted_with_their_chains(rt: HostRuntime) -> Result<(), Fail> {
+    let mut entries = [CountedKey::unused(); 2];
+    let mut newest = [0; 2];
+    let mut table = KeyCounts::new(&mut entries, &mut newest, [1, 2]);
+    let mut statistics = Statistics::new();
+    count_packet_and_chain(&mut statistics, &mut table, &[], OPTIONS);
+    count_packet_and_chain(&mut statistics, &mut table, &[0x41, 0], UDP);
+    count_packet_and_chain(&mut statistics, &mut table, &[], &UDP[..19]);
+    assert_entry(&rt, &table, 0, &[6, 17, 0, 0, 44], 1)?;
+    assert_entry(&rt, &table, 1, &[0x41, 0, 4, 17, 0], 1)?;
+    assert_eq!(rt; table.other, 0);
+    assert_eq!(rt; statistics.packets, 3);
+    assert_eq!(rt; statistics.without_header, 1);
+    assert_eq!(rt; statistics.headers[44], 1);
     Ok(())
 }
 

@@ -113,10 +113,11 @@ bool copy_numbered(struct numbered *numbered, const struct capture *capture, con
     *is_numbered = true;
     if (type == SIMPLE_PACKET) return make_block(numbered, capture, packet_of(packet, 0), is_little) > 0;
     const size_t comment_len = make_block(numbered, capture, packet_in(packet, is_little), is_little);
+    if (comment_len == 0) return false;
     *is_numbered = packet->block_len + comment_len + OPTIONS_END <= MOST_BLOCK;
     if (!*is_numbered) numbered->len = packet->block_len;
     if (!*is_numbered) memcpy(numbered->block, packet->block, packet->block_len);
-    if (comment_len == 0 || type != OBSOLETE_PACKET) return comment_len > 0;
+    if (type != OBSOLETE_PACKET) return true;
     /* an obsolete packet block has the same fields, but for its type and its interface */
     memcpy(numbered->block, packet->block, sizeof type);
     memcpy(numbered->block + INTERFACE_AT, packet->block + INTERFACE_AT, sizeof packet->interface);

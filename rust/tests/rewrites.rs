@@ -1,7 +1,7 @@
 //! Tests the calls that rewrite a packet with packets made here, by RFC 8200, section 4, and RFC 791, section 3.1.
 use wolfaren::rewrite::{
-    Authentication, RewriteError, Rewritten, Which, clear_reserved_bits, has_reserved_bits, in_order,
-    is_in_order, recommended_index, remove_header, with_header, with_payload,
+    Authentication, RewriteError, Rewritten, Which, clear_reserved_bits, has_reserved_bits,
+    in_order, is_in_order, recommended_index, remove_header, with_header, with_payload,
 };
 use wolfaren::{IpNumber, ip_number};
 

@@ -2,10 +2,10 @@
 use Rattle.std.specs.Prelude.{Option, Bool, bit_or, if◌then◌else◌}
 use Rattle.std.specs.Option.{option_map, option_and_then}
 use Rattle.std.specs.Str.{bytes_eq}
-use Rattle.std.proofs.Common.{Some, None, is_some, codes, IsTrue, true, false}
+use Rattle.std.proofs.Common.{Some, None, is_some, codes, true, false}
 use Rattle.std.proofs.lemmas.Bool.{cases_Bool}
 use Rattle.std.proofs.lemmas.List.{append-nil, append_cancel_right}
-use Rattle.ip_spec.proofs.Common.{◌≡◌, ℕ, ◌<◌, ◌-◌, arith, List, [], ◌∷◌, ◌++◌, length, take, drop, refl, sym, ap, ◌∙◌, subst, append_assoc, ◌⊎◌, inl, inr}
+use Rattle.ip_spec.proofs.Common.{◌≡◌, ℕ, ◌<◌, arith, List, [], ◌∷◌, ◌++◌, length, take, refl, sym, ap, ◌∙◌, subst, append_assoc, ◌⊎◌, inl, inr}
 use Rattle.ip_filter.specs.declared.parse_error.Expected.{Expected}
 use Rattle.ip_filter.specs.declared.parse_error.Expected.TheVariants as expects
 use Rattle.ip_filter.specs.declared.words.Word.{Word as FirstWord}
@@ -14,7 +14,7 @@ use Rattle.ip_filter.specs.declared.term.Comparison.TheVariants as by
 use Rattle.ip_filter.specs.declared.term.ComparedBits.{ComparedBits}
 use Rattle.ip_filter.specs.Words.{Word, words}
 use Rattle.ip_filter.specs.Numbers.{comparison_of}
-use Rattle.ip_filter.specs.AccessWords.{bits_of, ends_joined_bits, first_at, next_at, joined_bits, bits_at, compared_bits, number_compared_at, compared_at, compared_bits_at, AreBits, AreComparedBits}
+use Rattle.ip_filter.specs.AccessWords.{bits_of, ends_joined_bits, first_at, next_at, joined_bits, bits_at, compared_bits, number_compared_at, compared_at, compared_bits_at, AreComparedBits}
 use Rattle.ip_filter.specs.Grammar.{Finds}
 use Rattle.ip_filter.specs.Reading.{IsSuffix, IsPlace, IsFirstWord, ReadsArgument, RefusesArgument, ReadsArguments, RefusesArguments, LastIs, WantsArgument, IsAccess, EndMask, WantBits, WantJoinedBits, ReadsAt, RefusesAt, BeginsAnd, ReadsJoined}
 use Rattle.ip_filter.proofs.WordLemmas.{same_word}

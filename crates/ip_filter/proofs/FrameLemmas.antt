@@ -1,6 +1,6 @@
 -- Tests that ask frames, and tests that ask packets alone.
 use Rattle.std.proofs.Common.{suc}
-use Rattle.ip_spec.proofs.Common.{◌≡◌, ℕ, List, [], ◌∷◌, refl, sym, ap, ◌∙◌, Bool, true, false, ◌==◌, ◌||◌, if◌then◌else◌, Option, Some, list_any}
+use Rattle.ip_spec.proofs.Common.{◌≡◌, ℕ, List, [], ◌∷◌, refl, sym, ap, ◌∙◌, Bool, true, false, ◌==◌, ◌||◌, if◌then◌else◌, Some, list_any}
 use Rattle.ip_dissect.specs.Dissection.{dissected}
 use Rattle.ip_filter.specs.Tests.{meets}
 use Rattle.ip_filter.specs.Frames.{asks_frame, meets_in}

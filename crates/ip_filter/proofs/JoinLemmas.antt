@@ -1,6 +1,6 @@
 -- Tests of flags are joined, or come first.
 use Rattle.std.proofs.Common.{zero, suc, add-one, slice_set, slice_index_or, bit_or}
-use Rattle.ip_spec.proofs.Common.{◌≡◌, ℕ, ◌+◌, ◌-◌, ◌<◌, ◌≤◌, List, [], ◌∷◌, ◌++◌, length, take, drop, map, refl, sym, ap, ◌∙◌, subst, arith, common_steps, eqb_tells, inl, inr, cases_lt, Bool, true, false, ◌==◌, ◌&&◌, ◌||◌, if◌then◌else◌, Option, None, Some, length-append, length-take-le, length-drop, length-map, take-append_seam, take-append-add, take_all, take-take, take_at}
+use Rattle.ip_spec.proofs.Common.{◌≡◌, ℕ, ◌+◌, ◌-◌, ◌<◌, ◌≤◌, List, [], ◌∷◌, ◌++◌, length, take, drop, map, refl, sym, ap, ◌∙◌, subst, arith, common_steps, eqb_tells, inl, inr, cases_lt, Bool, true, false, ◌==◌, ◌&&◌, ◌||◌, if◌then◌else◌, None, Some, length-append, length-take-le, length-drop, length-map, take-append_seam, take-append-add, take_all, take-take, take_at}
 use Rattle.std.proofs.lemmas.List.{drop_at, drop-take}
 use borrow.Rule.Slice.PartMut.{mid_of, put_mid, post_of}
 use Rattle.ip_dissect.specs.Dissection.{dissected}

@@ -104,7 +104,7 @@ impl Test {
             kind::HEADERS => self.compares(Quantity::Headers, facts),
             kind::CHAIN_BYTES => self.compares(Quantity::ChainBytes, facts),
             kind::PAYLOAD => self.compares(Quantity::Payload, facts),
-            kind::LENGTH => self.compares(Quantity::Length, facts),
+            kind::LENGTH | kind::WIRE_LENGTH => self.compares(Quantity::Length, facts),
             kind::HOP_LIMIT => self.compares(Quantity::HopLimit, facts),
             kind::DSCP => self.compares(Quantity::Dscp, facts),
             kind::ECN => self.compares(Quantity::Ecn, facts),
@@ -128,7 +128,6 @@ impl Test {
             kind::VERSION_LEADS_TO => self.version_leads_to(&facts.packet),
             kind::NO_LENGTH => facts.lacks_length(),
             kind::BASE_ACCESS => self.reads(facts.bytes_of_version(self.version)),
-            kind::WIRE_LENGTH => self.compares(Quantity::Length, facts),
             _ => self.is_met_in_payload(facts),
         }
     }

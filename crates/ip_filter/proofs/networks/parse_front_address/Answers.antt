@@ -1,4 +1,4 @@
-use Rattle.ip_spec.proofs.Common.{rules, arith, common_steps, nat_tests}
+use Rattle.ip_spec.proofs.Common.{arith, common_steps, nat_tests}
 use Rattle.ip_filter.proofs.NetworkTextLemmas.{no_ipv4, ipv4_front_text, no_front}
 use Rattle.ip_filter.proofs.networks.parse_front_address.Goals as goal
 

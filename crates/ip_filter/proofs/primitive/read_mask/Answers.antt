@@ -1,4 +1,4 @@
-use Rattle.ip_spec.proofs.Common.{◌≡◌, ◌∙◌, sym, ap}
+use Rattle.ip_spec.proofs.Common.{◌∙◌, sym, ap}
 use Rattle.ip_filter.specs.declared.network.Network.TheVariants as network
 use Rattle.ip_filter.specs.Qualifiers.{network_said, qualified}
 use Rattle.ip_filter.proofs.PrimitiveLemmas.{mask_read, mask_missing, other_mask}

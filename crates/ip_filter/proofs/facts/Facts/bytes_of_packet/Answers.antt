@@ -1,4 +1,4 @@
-use Rattle.ip_spec.proofs.Common.{◌-◌, length, take, ap, ◌∙◌, arith}
+use Rattle.ip_spec.proofs.Common.{ap, arith}
 use Rattle.ip_dissect.proofs.PacketLemmas.{summary_fits}
 use Rattle.ip_filter.proofs.BytesLemmas.{packet_begins}
 use Rattle.ip_filter.proofs.facts.Facts.bytes_of_packet.Goals as goal

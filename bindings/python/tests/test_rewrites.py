@@ -83,7 +83,7 @@ class Rewrites(unittest.TestCase):
         packet = bytearray(ipv6_chain([51]))
         self.assertEqual(clear_reserved_bits(packet).packet, bytes(packet))
         packet[42] = 1
-        self.assert_refused(Refusal.AUTHENTICATED, packet, call=cleared)
+        self.assert_refused(Refusal.AUTHENTICATED, packet, call=clear_reserved_bits)
         self.assertEqual(clear_reserved_bits(packet, may_be_invalid=True), (ipv6_chain([51]), True))
 
     def test_reserved_bits(self):
@@ -107,7 +107,7 @@ class Rewrites(unittest.TestCase):
             if numbers[0] == 44:
                 self.assertEqual(clear_reserved_bits(packet), (ipv6_chain(numbers), True))
             else:
-                self.assert_refused(Refusal.AUTHENTICATED, packet, call=cleared)
+                self.assert_refused(Refusal.AUTHENTICATED, packet, call=clear_reserved_bits)
 
     def test_order(self):
         for numbers, wanted in [([0, 60, 44, 43, 60], [0, 60, 43, 44, 60]), ([44, 43], [43, 44]), ([60, 44], [44, 60]), ([], []),

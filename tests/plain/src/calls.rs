@@ -11,8 +11,8 @@
 use etherparse::bpf::{Instruction, Program};
 use etherparse::defragment::{Defragmenter, Outcome, OwnedDefragmenter, Settings};
 use etherparse::rewrite::{
-    cleared, in_order, with_header, with_payload, without, Authentication, RewriteError, Rewritten,
-    Which,
+    clear_reserved_bits, in_order, remove_header, with_header, with_payload, Authentication,
+    RewriteError, Rewritten, Which,
 };
 use etherparse::statistics::{CaptureStatistics, Statistics};
 use etherparse::IpNumber;
@@ -114,11 +114,11 @@ fn rewritten(line: &str, out: &mut [u8]) -> Result<Rewritten, RewriteError> {
     let index = words[3].parse().expect("an index");
     let (other, packet) = (bytes_of(words[4]), bytes_of(words[5]));
     match words[0] {
-        "without_number" => without(&packet, Which::Number(number), authentication, out),
-        "without_index" => without(&packet, Which::Index(index), authentication, out),
+        "remove_headers" => remove_header(&packet, Which::Number(number), authentication, out),
+        "remove_header" => remove_header(&packet, Which::Index(index), authentication, out),
         "with_header" => with_header(&packet, number, &other, index, authentication, out),
         "with_payload" => with_payload(&packet, number, &other, authentication, out),
-        "cleared" => cleared(&packet, authentication, out),
+        "clear_reserved_bits" => clear_reserved_bits(&packet, authentication, out),
         _ => in_order(&packet, authentication, out),
     }
 }

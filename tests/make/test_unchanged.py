@@ -30,7 +30,7 @@ def make(room, target):
     """Makes a target. Returns the crates that rt was asked to prove, and how many seconds of processors that took."""
     environment = {name: it for name, it in os.environ.items() if name not in ("MAKEFLAGS", "MAKELEVEL", "MFLAGS")}
     environment |= {"PATH": f"{room}/bin:{os.environ['PATH']}", "ASKED": write(f"{room}/asked", ""), "BUILT": f"{ROOT}/build", "CFLAGS": "-O1",
-                    "MAINTAINER": "Nobody <nobody@example.org>"}
+                    "MAINTAINER": "Nobody <nobody@example.org>", "SOURCE_DATE_EPOCH": "1700000000"}
     before = resource.getrusage(resource.RUSAGE_CHILDREN)
     run("make", target, cwd=f"{room}/tree", env=environment)
     after = resource.getrusage(resource.RUSAGE_CHILDREN)

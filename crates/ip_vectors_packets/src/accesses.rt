@@ -341,7 +341,7 @@ fn tests_of_any_contents(rt: HostRuntime) -> Result<(), Fail> {
             },
             true,
         ),
-        (Test { kind: 33, ..met }, false),
+        (Test { kind: 38, ..met }, false),
     ];
     for (test, wanted) in &rows {
         let mut filter = Filter {
